@@ -1,15 +1,14 @@
 -- Certificates that are accepted.
 use Rattle.std.proofs.Common.{◌≡◌, ℕ, zero, suc, ◌-◌, ◌≤◌, List, [], ◌∷◌, Some, None, refl, subst, arith}
 use Rattle.std.specs.Prelude.{slice_get, All, IsTrue, pos}
-use Rattle.fz_num.specs.Fractions.{over, AtMost}
 use Rattle.fuzzy_meaning.specs.declared.{block.Block.Block, block.Output.Output, block.Rule.Rule}
 use Rattle.fuzzy_meaning.specs.{Meaning.concludes, Conditions.is, Conditions.negation}
 use Rattle.fuzzy_meaning.specs.Blocks.{IsValid, output_at}
 use Rattle.fuzzy_meaning.specs.Examples.{dec, heater, latch, ExamplesAreValid}
 use Rattle.error_bound.specs.declared.boxes.Interval.{Interval}
 use Rattle.error_bound.specs.declared.boxes.Leaf as the
-use Rattle.error_bound.specs.Boxes.{rule_span, rule_byte_span, IsBox}
-use Rattle.error_bound.specs.Leaves.{IsStrong, IsStill, strong, silent}
+use Rattle.error_bound.specs.Boxes.{IsBox}
+use Rattle.error_bound.specs.Leaves.{Holds, IsStrong, IsStill, strong, silent}
 use Rattle.error_bound.specs.{Bounds.IsBound, Bounds.bound, CellErrors.term_errors, Laws.TermErrorsAre}
 use Rattle.box_tree.specs.declared.{cert.LeafForm.LeafForm, cert.LeafForm.TheVariants.Pairs}
 use Rattle.box_tree.specs.declared.cert.Node.TheVariants.{Split}
@@ -25,19 +24,24 @@ pair r k = record { rule = r; k = k }
 abbrev pairs_form : ℕ → ℕ → LeafForm
 pairs_form r k = Pairs (record { items = (r, k) ∷ [] })
 
+abbrev span_of : ℕ → ℕ → List Interval
+span_of f t = record { from = f; to = t } ∷ []
+
+abbrev part : ℕ → ℕ → ℕ → ℕ → Part
+part f t r k = record { box = span_of f t; form = pairs_form r k }
+
 abbrev cold_box : List Interval
-cold_box = record { from = 0; to = 127 } ∷ []
+cold_box = span_of 0 127
 
 abbrev hot_box : List Interval
-hot_box = record { from = 128; to = 255 } ∷ []
+hot_box = span_of 128 255
 
 abbrev heater_parts : List Part
-heater_parts = record { box = cold_box; form = pairs_form 1 127 }
-    ∷ record { box = hot_box; form = pairs_form 2 127 } ∷ []
+heater_parts = part 0 127 1 127 ∷ part 128 255 2 127 ∷ []
 
 heater_tree : IsTree (whole heater) heater_cert.nodes heater_parts []
 heater_tree = split (whole heater) 1 128 (leaf_node 1 127 ∷ leaf_node 2 127 ∷ []) (leaf_node 2 127 ∷ []) []
-    (record { box = cold_box; form = pairs_form 1 127 } ∷ []) (record { box = hot_box; form = pairs_form 2 127 } ∷ [])
+    (part 0 127 1 127 ∷ []) (part 128 255 2 127 ∷ [])
     (omega arith) (omega arith, omega arith) (leaf cold_box (pairs_form 1 127) (leaf_node 2 127 ∷ []))
     (leaf hot_box (pairs_form 2 127) [])
 
@@ -56,14 +60,8 @@ power = record {
       Some (dec (pos 0));
 }
 
-cold_low : AtMost (over 127 255) (rule_span heater cold_box cold_rule).low
-cold_low = (record { cross = omega arith })
-
-cold_byte_low : 1 ≤ (rule_byte_span heater cold_box cold_rule).low
-cold_byte_low = (omega arith)
-
 cold_strong : IsStrong heater cold_box 1 cold_rule 127
-cold_strong = record { term = 1; concludes_it = refl; low = cold_low; byte_low = cold_byte_low }
+cold_strong = record { term = 1; concludes_it = refl; low = record { cross = omega arith }; byte_low = omega arith }
 
 box_valid : (f t : ℕ) → f ≤ t → t ≤ 255 → IsBox (record { from = f; to = t } ∷ [])
 box_valid f t h k = record { some = at f t h k }
@@ -80,14 +78,8 @@ cold_bound = refl
 cold_wide_bound : 15702 ≡ bound heater (term_errors heater cold_box) 1 power 256 (pair 1 127)
 cold_wide_bound = refl
 
-hot_low : AtMost (over 127 255) (rule_span heater hot_box hot_rule).low
-hot_low = (record { cross = omega arith })
-
-hot_byte_low : 1 ≤ (rule_byte_span heater hot_box hot_rule).low
-hot_byte_low = (omega arith)
-
 hot_strong : IsStrong heater hot_box 1 hot_rule 127
-hot_strong = record { term = 2; concludes_it = refl; low = hot_low; byte_low = hot_byte_low }
+hot_strong = record { term = 2; concludes_it = refl; low = record { cross = omega arith }; byte_low = omega arith }
 
 hot_bound : 19609 ≡ bound heater (term_errors heater hot_box) 1 power 1 (pair 2 127)
 hot_bound = refl
@@ -99,35 +91,26 @@ bound_of : TermErrorsAre → (b : Block) (box : List Interval) (o : ℕ) (x : Ou
     → IsValid b → IsBox box → n ≡ bound b (term_errors b box) o x h l → IsBound b box o x h l n
 bound_of errors b box o x h l n v ib e = record { errors = term_errors b box; are_errors = errors b box v ib; is = e }
 
+-- where a pair holds over an interval it is the Bound of the part with that pair
+HasBound-pair : TermErrorsAre → (b : Block) → IsValid b → (x : Output) (h f t r k n : ℕ) → f ≤ t → t ≤ 255
+    → Holds b (span_of f t) 1 (pair r k) → n ≡ bound b (term_errors b (span_of f t)) 1 x h (pair r k)
+    → HasBound b 1 x h (part f t r k) n
+HasBound-pair errors b valid x h f t r k n to top holds e = record {
+  claim = Pair (pair r k);
+  claim_is = refl;
+  allowed = tt;
+  bound_is = (holds, bound_of errors b (span_of f t) 1 x h (pair r k) n valid (box_valid f t to top) e);
+}
+
 cold_part : TermErrorsAre → IsValid heater → (h n : ℕ)
-    → n ≡ bound heater (term_errors heater cold_box) 1 power h (pair 1 127)
-    → HasBound heater 1 power h (record { box = cold_box; form = pairs_form 1 127 }) n
-cold_part errors valid h n e =
-    record {
-      claim = Pair (pair 1 127);
-      claim_is = refl;
-      allowed = tt;
-      bound_is = (
-        strong cold_rule (omega arith) (omega arith) (omega arith) refl cold_strong,
-        bound_of errors heater cold_box 1 power h (pair 1 127) n valid
-            (box_valid 0 127 (omega arith) (omega arith)) e,
-      );
-    }
+    → n ≡ bound heater (term_errors heater cold_box) 1 power h (pair 1 127) → HasBound heater 1 power h (part 0 127 1 127) n
+cold_part errors valid h n e = HasBound-pair errors heater valid power h 0 127 1 127 n (omega arith) (omega arith)
+    (strong cold_rule (omega arith) (omega arith) (omega arith) refl cold_strong) e
 
 hot_part : TermErrorsAre → IsValid heater → (h n : ℕ)
-    → n ≡ bound heater (term_errors heater hot_box) 1 power h (pair 2 127)
-    → HasBound heater 1 power h (record { box = hot_box; form = pairs_form 2 127 }) n
-hot_part errors valid h n e =
-    record {
-      claim = Pair (pair 2 127);
-      claim_is = refl;
-      allowed = tt;
-      bound_is = (
-        strong hot_rule (omega arith) (omega arith) (omega arith) refl hot_strong,
-        bound_of errors heater hot_box 1 power h (pair 2 127) n valid
-            (box_valid 128 255 (omega arith) (omega arith)) e,
-      );
-    }
+    → n ≡ bound heater (term_errors heater hot_box) 1 power h (pair 2 127) → HasBound heater 1 power h (part 128 255 2 127) n
+hot_part errors valid h n e = HasBound-pair errors heater valid power h 128 255 2 127 n (omega arith) (omega arith)
+    (strong hot_rule (omega arith) (omega arith) (omega arith) refl hot_strong) e
 
 heater_greatest : TermErrorsAre → IsValid heater → (h n : ℕ)
     → n ≡ bound heater (term_errors heater cold_box) 1 power h (pair 1 127)
@@ -135,8 +118,8 @@ heater_greatest : TermErrorsAre → IsValid heater → (h n : ℕ)
     → IsGreatestBound heater 1 power h heater_parts n
 heater_greatest errors valid h n e f =
     let P : Part → Type 0 = λ p. (m : ℕ) × HasBound heater 1 power h p m × (m ≤ n) in
-    let cp : Part = record { box = cold_box; form = pairs_form 1 127 } in
-    let hp : Part = record { box = hot_box; form = pairs_form 2 127 } in
+    let cp = part 0 127 1 127 in
+    let hp = part 128 255 2 127 in
     record {
       each = All-cons P cp (hp ∷ []) (n, cold_part errors valid h n e, omega arith)
           (All-cons P hp [] (n, hot_part errors valid h n f, omega arith) (All-none P));
@@ -213,54 +196,24 @@ on_rule = record { cond = negation (is 1 1); weight = None; concl = (1, 2) ∷ [
 abbrev off_rule : Rule
 off_rule = record { cond = is 1 2; weight = None; concl = (1, 1) ∷ [] }
 
-abbrev span_of : ℕ → ℕ → List Interval
-span_of f t = record { from = f; to = t } ∷ []
-
 on_strong : IsStrong latch (span_of 0 63) 1 on_rule 255
-on_strong = record { term = 2; concludes_it = refl; low = on_low; byte_low = on_byte_low }
-  where
-    on_low : AtMost (over 255 255) (rule_span latch (span_of 0 63) on_rule).low
-    on_low = (record { cross = omega arith })
-
-    on_byte_low : 1 ≤ (rule_byte_span latch (span_of 0 63) on_rule).low
-    on_byte_low = (omega arith)
+on_strong = record { term = 2; concludes_it = refl; low = record { cross = omega arith }; byte_low = omega arith }
 
 off_strong : IsStrong latch (span_of 192 255) 1 off_rule 255
-off_strong = record { term = 1; concludes_it = refl; low = off_low; byte_low = off_byte_low }
-  where
-    off_low : AtMost (over 255 255) (rule_span latch (span_of 192 255) off_rule).low
-    off_low = (record { cross = omega arith })
-
-    off_byte_low : 1 ≤ (rule_byte_span latch (span_of 192 255) off_rule).low
-    off_byte_low = (omega arith)
+off_strong = record { term = 1; concludes_it = refl; low = record { cross = omega arith }; byte_low = omega arith }
 
 -- between the two, neither fires
 silent_between : All (λ r. (t : ℕ) → IsTrue (concludes r 1 t) → IsStill latch (span_of 64 191) r) latch.rules
 silent_between =
     let P : Rule → Type 0 = λ r. (t : ℕ) → IsTrue (concludes r 1 t) → IsStill latch (span_of 64 191) r in
-    All-cons P on_rule (off_rule ∷ []) (λ t _. record { high = on_high; byte_high = on_byte_high })
-    (All-cons P off_rule [] (λ t _. record { high = off_high; byte_high = off_byte_high }) (All-none P))
-  where
-    on_high : (rule_span latch (span_of 64 191) on_rule).high.num ≡ 0
-    on_high = refl
-
-    on_byte_high : (rule_byte_span latch (span_of 64 191) on_rule).high ≡ 0
-    on_byte_high = refl
-
-    off_high : (rule_span latch (span_of 64 191) off_rule).high.num ≡ 0
-    off_high = refl
-
-    off_byte_high : (rule_byte_span latch (span_of 64 191) off_rule).high ≡ 0
-    off_byte_high = refl
+    All-cons P on_rule (off_rule ∷ []) (λ t _. record { high = refl; byte_high = refl })
+    (All-cons P off_rule [] (λ t _. record { high = refl; byte_high = refl }) (All-none P))
 
 on_bound : 3922 ≡ bound latch (term_errors latch (span_of 0 63)) 1 keeper 1 (pair 1 255)
 on_bound = refl
 
 off_bound : 3922 ≡ bound latch (term_errors latch (span_of 192 255)) 1 keeper 1 (pair 2 255)
 off_bound = refl
-
-abbrev part : ℕ → ℕ → ℕ → ℕ → Part
-part f t r k = record { box = span_of f t; form = pairs_form r k }
 
 latch_tree : IsTree (whole latch) latch_cert.nodes (part 0 63 1 255 ∷ part 64 191 0 0 ∷ part 192 255 2 255 ∷ []) []
 latch_tree = split (span_of 0 255) 1 64 (leaf_node 1 255 ∷ Split 1 192 ∷ leaf_node 0 0 ∷ leaf_node 2 255 ∷ [])
@@ -277,38 +230,13 @@ latch_greatest : TermErrorsAre → IsValid latch
 latch_greatest errors v =
     let P : Part → Type 0 = λ q. (m : ℕ) × HasBound latch 1 keeper 1 q m × (m ≤ 3922) in
     let first : HasBound latch 1 keeper 1 (part 0 63 1 255) 3922 =
-    record {
-      claim = Pair (pair 1 255);
-      claim_is = refl;
-      allowed = tt;
-      bound_is = (
-        strong on_rule (omega arith) (omega arith) (omega arith) refl on_strong,
-        bound_of errors latch (span_of 0 63) 1 keeper 1 (pair 1 255) 3922 v
-            (box_valid 0 63 (omega arith) (omega arith)) on_bound,
-      );
-    } in
+    HasBound-pair errors latch v keeper 1 0 63 1 255 3922 (omega arith) (omega arith)
+    (strong on_rule (omega arith) (omega arith) (omega arith) refl on_strong) on_bound in
     let second : HasBound latch 1 keeper 1 (part 64 191 0 0) 0 =
-    record {
-      claim = Pair (pair 0 0);
-      claim_is = refl;
-      allowed = tt;
-      bound_is = (
-        silent refl refl silent_between,
-        bound_of errors latch (span_of 64 191) 1 keeper 1 (pair 0 0) 0 v
-            (box_valid 64 191 (omega arith) (omega arith)) refl,
-      );
-    } in
+    HasBound-pair errors latch v keeper 1 64 191 0 0 0 (omega arith) (omega arith) (silent refl refl silent_between) refl in
     let third : HasBound latch 1 keeper 1 (part 192 255 2 255) 3922 =
-    record {
-      claim = Pair (pair 2 255);
-      claim_is = refl;
-      allowed = tt;
-      bound_is = (
-        strong off_rule (omega arith) (omega arith) (omega arith) refl off_strong,
-        bound_of errors latch (span_of 192 255) 1 keeper 1 (pair 2 255) 3922 v
-            (box_valid 192 255 (omega arith) (omega arith)) off_bound,
-      );
-    } in
+    HasBound-pair errors latch v keeper 1 192 255 2 255 3922 (omega arith) (omega arith)
+    (strong off_rule (omega arith) (omega arith) (omega arith) refl off_strong) off_bound in
     record {
       each = All-cons P (part 0 63 1 255) (part 64 191 0 0 ∷ part 192 255 2 255 ∷ []) (3922, first, omega arith)
           (All-cons P (part 64 191 0 0) (part 192 255 2 255 ∷ []) (0, second, omega arith)

@@ -1,16 +1,123 @@
--- Each list of bytes of a box lies in exactly one leaf of a tree over it.
-use Rattle.std.proofs.Common.{◌≡◌, ℕ, zero, suc, ◌+◌, ◌-◌, ◌<◌, ◌≤◌, List, [], ◌∷◌, ◌++◌, length, Bool, true, false}
-use Rattle.std.proofs.Common.{◌&&◌, Some, refl, sym, ap, ap₂, ◌∙◌, arith}
-use Rattle.std.specs.Prelude.{nat_le, if◌then◌else◌, slice_get, All}
-use Rattle.std.proofs.lemmas.Bool.Decides.{nat_tests}
-use Rattle.std.proofs.lemmas.List.Elements.{All-append}
-use Rattle.error_bound.specs.{declared.boxes.Interval.Interval, Boxes.IsBoxOf, Boxes.LieIn}
-use Rattle.fuzzy_meaning.specs.declared.block.Block.{Block}
-use Rattle.box_tree.specs.declared.{cert.Node.Node, cert.Node.TheVariants.Split, cert.Node.TheVariants.Leaf}
-use Rattle.cert_check.specs.Trees.{lies, left_of, right_of, IsCut, Part, IsTree, leaf, split, leaves_with, whole}
-use Rattle.cert_check.specs.Laws.{OneLeafHasTheBytes}
-use Rattle.cert_check.proofs.CutLemmas.{IsBox-left, IsBox-right, IsBox-whole}
-use Rattle.cert_check.proofs.Determined.{left_count, right_count, map_count}
+-- Cuts and halves of a box: each list of bytes of it lies in exactly one leaf of a tree over it.
+use Rattle.std.proofs.Common.{◌≡◌, ℕ, zero, suc, ◌+◌, ◌-◌, ◌<◌, ◌≤◌, List, [], ◌∷◌, ◌++◌, length, map, take, Some}
+use Rattle.std.proofs.Common.{None, refl, ap, subst, arith, Bool, true, false, ◌&&◌, sym, ap₂, ◌∙◌}
+use Rattle.std.proofs.{lemmas.List.Elements.All-append, lemmas.Bool.Decides.nat_tests}
+use Rattle.std.specs.Prelude.{slice_get, set, nat_le, if◌then◌else◌, All}
+use Rattle.fuzzy_meaning.specs.{declared.block.Block.Block, declared.block.Input.Input}
+use Rattle.error_bound.specs.{declared.boxes.Interval.Interval, Boxes.IsBox, Boxes.IsBoxOf, Boxes.LieIn}
+use Rattle.cert_check.specs.Trees.{left_of, right_of, IsCut, whole, lies, Part, IsTree, leaf, split, leaves_with}
+use Rattle.cert_check.specs.BoxLaws.{CutsHaveHalves, LeavesAreAround, IsFormOf, IsNodeOf}
+use Rattle.cert_check.specs.{Laws.OneLeafHasTheBytes, Acceptance.HasBound}
+use Rattle.box_tree.specs.declared.cert.Node.TheVariants.{Split, Leaf}
+use Rattle.box_tree.specs.{declared.cert.CertKind.CertKind, declared.cert.Node.Node}
+use Rattle.cert_check.proofs.FaultLemmas.{left_count, right_count, map_count}
+
+-- a cut is inside the interval at its place
+pub cut_at : (k c : ℕ) (box : List Interval) (v : Interval) → slice_get box k ≡ Some v → v.from < c → c ≤ v.to
+    → IsCut k c box
+cut_at k c [] v e f t = absurd (let z : ⊥ = cc in z)
+cut_at zero c (w ∷ vs) v e f t =
+    let s : w ≡ v = cc in
+    let a : w.from ≡ v.from = ap (λ i. i.from) s in
+    let b : w.to ≡ v.to = ap (λ i. i.to) s in
+    (omega arith, omega arith)
+cut_at (suc k) c (w ∷ vs) v e f t = cut_at k c vs v e f t
+
+pub cut_inside : (k c : ℕ) (box : List Interval) (v : Interval) → slice_get box k ≡ Some v → IsCut k c box
+    → (v.from < c) × (c ≤ v.to)
+cut_inside k c [] v e h = absurd h
+cut_inside zero c (w ∷ vs) v e h =
+    let s : w ≡ v = cc in
+    let a : w.from ≡ v.from = ap (λ i. i.from) s in
+    let b : w.to ≡ v.to = ap (λ i. i.to) s in
+    let h0 = h.0 in
+    let h1 = h.1 in
+    (omega arith, omega arith)
+cut_inside (suc k) c (w ∷ vs) v e h = cut_inside k c vs v e h
+
+pub cut_nowhere : (k c : ℕ) (box : List Interval) → slice_get box k ≡ None → IsCut k c box → ⊥
+cut_nowhere k c [] e h = h
+cut_nowhere zero c (w ∷ vs) e h = absurd (let z : ⊥ = cc in z)
+cut_nowhere (suc k) c (w ∷ vs) e h = cut_nowhere k c vs e h
+
+-- the halves are the box with another interval
+pub set-left : (k c : ℕ) (box : List Interval) (v : Interval) → slice_get box k ≡ Some v
+    → set box k (record { from = v.from; to = c - 1 }) ≡ left_of k c box
+set-left k c [] v e = absurd (let z : ⊥ = cc in z)
+set-left zero c (w ∷ vs) v e =
+    let s : v ≡ w = cc in
+    ap (λ (i : Interval). record { from = i.from; to = c - 1 } ∷ vs) s
+set-left (suc k) c (w ∷ vs) v e = ap (λ xs. w ∷ xs) (set-left k c vs v e)
+
+pub set-right : (k c : ℕ) (box : List Interval) (v : Interval) → slice_get box k ≡ Some v
+    → set box k (record { from = c; to = v.to }) ≡ right_of k c box
+set-right k c [] v e = absurd (let z : ⊥ = cc in z)
+set-right zero c (w ∷ vs) v e =
+    let s : v ≡ w = cc in
+    ap (λ (i : Interval). record { from = c; to = i.to } ∷ vs) s
+set-right (suc k) c (w ∷ vs) v e = ap (λ xs. w ∷ xs) (set-right k c vs v e)
+
+-- each interval of a half has at least one byte
+IsBox-tail : (w : Interval) (vs : List Interval) → IsBox (w ∷ vs) → IsBox vs
+IsBox-tail w vs h = record { some = λ k v e. h.some (suc k) v e }
+
+IsBox-cons : (w : Interval) (vs : List Interval) → w.from ≤ w.to → w.to ≤ 255 → IsBox vs → IsBox (w ∷ vs)
+IsBox-cons w vs f t h = record { some = at }
+  where
+    at : (k : ℕ) (v : Interval) → slice_get (w ∷ vs) k ≡ Some v → (v.from ≤ v.to) × (v.to ≤ 255)
+    at zero v e =
+        let s : w ≡ v = cc in
+        let a : w.from ≡ v.from = ap (λ i. i.from) s in
+        let b : w.to ≡ v.to = ap (λ i. i.to) s in
+        (omega arith, omega arith)
+    at (suc k) v e = h.some k v e
+
+IsBox-after : (w : Interval) (vs ws : List Interval) → IsBox (w ∷ vs) → IsBox ws → IsBox (w ∷ ws)
+IsBox-after w vs ws b h = let o = b.some 0 w refl in IsBox-cons w ws o.0 o.1 h
+
+pub IsBox-halves : (k c : ℕ) (box : List Interval) → IsBox box → IsCut k c box
+    → IsBox (left_of k c box) × IsBox (right_of k c box)
+IsBox-halves k c [] b h = (b, b)
+IsBox-halves zero c (w ∷ vs) b h =
+    let rest = IsBox-tail w vs b in
+    let o = b.some 0 w refl in (
+      IsBox-cons (record { from = w.from; to = c - 1 }) vs (omega (arith, h.0)) (omega (arith, h.0, h.1, o.1)) rest,
+      IsBox-cons (record { from = c; to = w.to }) vs h.1 o.1 rest,
+    )
+IsBox-halves (suc k) c (w ∷ vs) b h =
+    let r = IsBox-halves k c vs (IsBox-tail w vs b) h in
+    (IsBox-after w vs (left_of k c vs) b r.0, IsBox-after w vs (right_of k c vs) b r.1)
+
+whole_intervals : (is : List Input) (k : ℕ) (v : Interval)
+    → slice_get (map (λ (_ : Input). record { from = 0; to = 255 }) is) k ≡ Some v → (v.from ≤ v.to) × (v.to ≤ 255)
+whole_intervals [] k v e = absurd (let z : ⊥ = cc in z)
+whole_intervals (i ∷ is) zero v e =
+    let full : Interval = record { from = 0; to = 255 } in
+    let s : full ≡ v = cc in
+    let f : 0 ≡ v.from = ap (λ i. i.from) s in
+    let t : 255 ≡ v.to = ap (λ i. i.to) s in
+    (omega arith, omega arith)
+whole_intervals (i ∷ is) (suc k) v e = whole_intervals is k v e
+
+pub IsBox-whole : (is : List Input) → IsBox (map (λ (_ : Input). record { from = 0; to = 255 }) is)
+IsBox-whole is = record { some = whole_intervals is }
+
+-- all bytes of one input more
+abbrev all_bytes : List Input → List Interval
+all_bytes is = map (λ (_ : Input). record { from = 0; to = 255 }) is
+
+suc_more : (is : List Input) (k : ℕ) → k < length is
+    → take (suc k) (all_bytes is) ≡ take k (all_bytes is) ++ record { from = 0; to = 255 } ∷ []
+suc_more [] k h = absurd (omega arith)
+suc_more (i ∷ is) zero h = refl
+suc_more (i ∷ is) (suc k) h = ap (λ xs. record { from = 0; to = 255 } ∷ xs) (suc_more is k (omega arith))
+
+pub whole_more : (b : Block) (k : ℕ) → k < length b.inputs
+    → take (k + 1) (whole b) ≡ take k (whole b) ++ record { from = 0; to = 255 } ∷ []
+whole_more b k h = let e : suc k ≡ k + 1 = omega arith in subst
+    (λ n. take n (whole b) ≡ take k (whole b) ++ record { from = 0; to = 255 } ∷ []) e (suc_more b.inputs k h)
+
+-- ---- each list of bytes of a box lies in exactly one leaf of a tree over it
 
 abbrev num : Bool → ℕ
 num b = if b then 1 else 0
@@ -122,9 +229,9 @@ boxes_are b _ _ _ _ (leaf box form rest) is = one_of (λ p. IsBoxOf b p.box) (re
 boxes_are b _ _ _ _ (split box i c nodes mid rest left right from cut l r) is =
     All-append (λ p. IsBoxOf b p.box) left right
     (boxes_are b (left_of (i - 1) c box) nodes left mid l
-    (record { count = left_count (i - 1) c box ∙ is.count; intervals = IsBox-left (i - 1) c box is.intervals cut }))
+    (record { count = left_count (i - 1) c box ∙ is.count; intervals = (IsBox-halves (i - 1) c box is.intervals cut).0 }))
     (boxes_are b (right_of (i - 1) c box) mid right rest r
-    (record { count = right_count (i - 1) c box ∙ is.count; intervals = IsBox-right (i - 1) c box is.intervals cut }))
+    (record { count = right_count (i - 1) c box ∙ is.count; intervals = (IsBox-halves (i - 1) c box is.intervals cut).1 }))
 
 -- they are among the nodes
 All-tail : {X : Type 0} (P : X → Type 0) (x : X) (xs : List X) → All P (x ∷ xs) → All P xs
@@ -144,3 +251,61 @@ leaves_are P _ _ _ _ (split box i c nodes mid rest left right from cut l r) all 
 pub forms_are : (P : Node → Type 0) (box : List Interval) (nodes : List Node) (parts : List Part) (rest : List Node)
     → IsTree box nodes parts rest → All P nodes → All (λ p. P (Leaf p.form)) parts
 forms_are P box nodes parts rest tree all = (leaves_are P box nodes parts rest tree all).0
+
+-- ---- the halves of a box, and the leaf around a list of bytes
+
+pub cuts_halved : CutsHaveHalves
+cuts_halved box k c v e above below =
+    let cut = cut_at k c box v e above below in
+    record {
+      cut = cut;
+      left_is = set-left k c box v e;
+      right_is = set-right k c box v e;
+      left_box = λ is. (IsBox-halves k c box is cut).0;
+      right_box = λ is. (IsBox-halves k c box is cut).1;
+    }
+
+lies_whole : (is : List Input) (bytes : List ℕ) → length bytes ≡ length is → All (λ n. n ≤ 255) bytes
+    → lies bytes (map (λ (_ : Input). record { from = 0; to = 255 }) is) ≡ true
+lies_whole [] [] count small = refl
+lies_whole [] (n ∷ ns) count small = absurd (omega (arith, count))
+lies_whole (i ∷ is) [] count small = absurd (omega (arith, count))
+lies_whole (i ∷ is) (n ∷ ns) count small =
+    let first : n ≤ 255 = small 0 n (omega arith) in
+    let from : nat_le 0 n ≡ true = grind (arith, nat_tests) in
+    let to : nat_le n 255 ≡ true = grind (arith, nat_tests) in
+    let rest = lies_whole is ns (omega (arith, count)) (λ k d l. small (suc k) d (omega arith)) in
+    rw (from, to) rest
+
+pub leaf_around : LeavesAreAround
+leaf_around b h cert errors o x e bytes a from ex ee count small =
+    let l = lies_whole b.inputs bytes count small in
+    let one = one_leaf (whole b) cert.nodes [] a.parts bytes a.tree l in
+    let P : Part → Type 0 = λ p. IsBoxOf b p.box
+    × (((k : CertKind) → All (IsNodeOf k) cert.nodes → IsFormOf k p.form)
+    × ((n : ℕ) × HasBound b o x h p n × (n ≤ e))) in
+    let boxes = boxes_are b (whole b) cert.nodes a.parts [] a.tree (whole_is b) in
+    let each = (a.greatest o x e from ex ee).each in
+    let p = leaf_with bytes a.parts P (omega (arith, one)) (λ k d l. (
+      boxes k d l,
+      (
+        λ kind all.
+            forms_are (IsNodeOf kind) (whole b) cert.nodes a.parts [] a.tree all k d l,
+        each k d l,
+      ),
+    )) in
+    let bound = p.2.1.1.1 in
+    let around = LieIn-lies bytes p.0.box p.1 in
+    record {
+      box = p.0.box;
+      form = p.0.form;
+      claim = bound.claim;
+      bound = p.2.1.1.0;
+      count = sym around.count ∙ count;
+      is_box = p.2.0.intervals;
+      around = around;
+      of_kind = p.2.1.0;
+      claim_is = bound.claim_is;
+      bound_is = bound.bound_is;
+      within = p.2.1.1.2;
+    }

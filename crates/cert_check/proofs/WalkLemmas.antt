@@ -1,28 +1,29 @@
--- How far a walk over the nodes has come: the boxes that are open, and what is known of the tree from what follows.
-use Rattle.std.proofs.Common.{◌≡◌, ⊎_elim, inl, inr, ℕ, zero, suc, ◌+◌, ◌-◌, ◌*◌, ◌<◌, ◌≤◌, List, [], ◌∷◌, ◌++◌, length}
-use Rattle.std.proofs.Common.{length-append, get_or, map, reverse, replicate, Some, refl, sym, ap, ◌∙◌, subst, arith}
-use Rattle.std.specs.Prelude.{slice_index, All, max}
-use Rattle.std.specs.List.{Any}
-use Rattle.std.proofs.lemmas.Bool.{cases_lt}
-use Rattle.std.proofs.lemmas.List.{append_assoc, append-nil, reverse-append, length-map, length-reverse}
-use Rattle.std.proofs.lemmas.List.Elements.{All-append}
+-- How far a walk over the nodes has come, from its first moment on, a node more, and at its last.
+use Rattle.std.proofs.Common.{◌≡◌, ⊎_elim, inl, inr, ℕ, zero, suc, ◌+◌, ◌-◌, ◌*◌, ◌<◌, ◌≤◌, List, [], ◌∷◌, ◌++◌}
+use Rattle.std.proofs.Common.{length, length-append, get_or, map, reverse, replicate, Some, refl, sym, ap, ◌∙◌, subst}
+use Rattle.std.proofs.lemmas.List.{append_assoc, append-nil, reverse-append, length-map, length-reverse, with_items_is}
 use Rattle.std.proofs.lemmas.Option.{get_or_from_slice_get, slice_get_within}
-use Rattle.fuzzy_meaning.specs.declared.{block.Block.Block, block.Input.Input, block.Output.Output}
+use Rattle.std.proofs.Common.{arith, None, vec_capacity, false, Option}
+use Rattle.std.proofs.{lemmas.List.Elements.All-append, Math.Seq.get_or-append_seam, lemmas.Bool.cases_lt}
+use Rattle.std.specs.Prelude.{slice_index, All, max, Result, Ok, Err, OnOk, IfErr, MatchOption}
+use Rattle.std.specs.{Vec.with_items, Option.is_some, Global.Vec, List.Any}
+use Rattle.fuzzy_meaning.specs.{declared.block.Output.Output, declared.block.Block.Block, declared.block.Input.Input}
 use Rattle.error_bound.specs.{declared.boxes.Interval.Interval, declared.boxes.ByteBox.ByteBox, Boxes.IsBoxOf}
-use Rattle.box_tree.specs.declared.{cert.LeafForm.LeafForm, cert.Node.Node}
+use Rattle.box_tree.specs.Certificates.{IsLeaf, IsNode, IsCut as IsNodeCut}
 use Rattle.box_tree.specs.declared.cert.Node.TheVariants.{Split, Leaf}
+use Rattle.box_tree.specs.{declared.cert.LeafForm.LeafForm, declared.cert.CertKind.CertKind, declared.cert.Node.Node}
 use Rattle.box_tree.specs.{Trees.open_from, Trees.leaf_count, Laws.OpenBoxesGoOn}
-use Rattle.cert_check.specs.declared.checker.CheckFault.{CheckFault}
-use Rattle.cert_check.specs.declared.checker.CheckFault.TheVariants as fault
-use Rattle.cert_check.specs.Trees.{Part, IsTree, leaf, split, part_of, left_of, right_of, IsCut, whole}
-use Rattle.cert_check.specs.Acceptance.{HasBound, IsGreatestBound, IsAccepted}
 use Rattle.cert_check.specs.Faults.{AllHold, HasPartFault, AreClaimed, HasCheckFault, Reaches, line_at, root, in_left}
-use Rattle.cert_check.specs.Faults.{in_right, bad_cut, bad_leaf, tree}
 use Rattle.cert_check.specs.Walks.{stack_of, Raises, cuts_of, AreCutOut, AreTrees, AreReached, IsGreatestSoFar}
-use Rattle.cert_check.specs.Walks.{HasWalked}
-use Rattle.cert_check.proofs.{ClaimLemmas.bounds_hold, CutLemmas.IsBox-left, CutLemmas.IsBox-right}
-use Rattle.cert_check.proofs.{Determined.left_count, Determined.right_count, TreeLemmas.one_of, TreeLemmas.whole_is}
+use Rattle.cert_check.specs.Trees.{Part, IsTree, leaf, split, part_of, left_of, right_of, IsCut, whole}
+use Rattle.cert_check.specs.Faults.{in_right, bad_cut, bad_leaf, tree, IsFirstOver, outputs, claimed}
+use Rattle.cert_check.specs.Walks.{HasWalked, cert_over, IsBehind, HasTaken, AreFirst}
+use Rattle.cert_check.specs.Acceptance.{HasBound, IsGreatestBound, IsAccepted}
+use Rattle.cert_check.specs.{declared.checker.CheckFault.CheckFault, declared.walk.Walk.Walk}
+use Rattle.cert_check.proofs.TreeLemmas.{IsBox-halves, one_of, whole_is}
+use Rattle.cert_check.proofs.{FaultLemmas.left_count, FaultLemmas.right_count, LeafLemmas.bounds_hold}
 use Rattle.fz_list.proofs.Algebra.{All-cons}
+use Rattle.cert_check.specs.declared.checker.CheckFault.TheVariants as fault
 
 trees_split : (box : List Interval) (boxes : List (List Interval)) (i c : ℕ) (nodes : List Node) (parts : List Part)
     (rest : List Node) → 1 ≤ i → IsCut (i - 1) c box
@@ -169,9 +170,9 @@ pub walked_split : (b : Block) (h : ℕ) (nodes : List Node) (box : List Interva
 walked_split b h nodes box boxes errors i c goes_on some cut w =
     let this : IsBoxOf b box = All-head (IsBoxOf b) box boxes w.are_boxes in
     let left : IsBoxOf b (left_of (i - 1) c box) = record
-    { count = left_count (i - 1) c box ∙ this.count; intervals = IsBox-left (i - 1) c box this.intervals cut } in
+    { count = left_count (i - 1) c box ∙ this.count; intervals = (IsBox-halves (i - 1) c box this.intervals cut).0 } in
     let right : IsBoxOf b (right_of (i - 1) c box) = record
-    { count = right_count (i - 1) c box ∙ this.count; intervals = IsBox-right (i - 1) c box this.intervals cut } in
+    { count = right_count (i - 1) c box ∙ this.count; intervals = (IsBox-halves (i - 1) c box this.intervals cut).1 } in
     let c0 = w.cut_out.0 in
     let l = cuts-left (i - 1) c box cut in
     let r = cuts-right (i - 1) c box cut in
@@ -236,8 +237,8 @@ accepted_all : (b : Block) (h : ℕ) (nodes : List Node) (boxes : List (List Int
     → boxes ≡ []
     → length claims ≡ length b.outputs → AreClaimed errors claims → HasWalked b h nodes boxes errors
     → IsAccepted b h (record { claims = claims; nodes = nodes }) errors
-accepted_all b h nodes (box ∷ boxes) claims errors none count claimed w = absurd (let z : ⊥ = cc in z)
-accepted_all b h nodes [] claims errors none count claimed w =
+accepted_all b h nodes (box ∷ boxes) claims errors none count within w = absurd (let z : ⊥ = cc in z)
+accepted_all b h nodes [] claims errors none count within w =
     let front : AreTrees (whole b ∷ []) nodes w.parts [] =
     subst (λ ns. AreTrees (whole b ∷ []) ns w.parts []) (append-nil nodes)
     (subst (λ ps. AreTrees (whole b ∷ []) (nodes ++ []) ps []) (append-nil w.parts) (w.trees [] [] (refl, refl))) in
@@ -253,7 +254,7 @@ accepted_all b h nodes [] claims errors none count claimed w =
           greatest_all b o x h w.parts e (tree_some (whole b) nodes [] w.parts tree)
           (subst (λ j. IsGreatestSoFar b j x h w.parts e) ko
           (subst (λ m. IsGreatestSoFar b (o - 1 + 1) x h w.parts m) s (w.greatest (o - 1) x ex)));
-      claimed = claimed;
+      claimed = within;
     }
 
 no_boxes : (boxes : List (List Interval)) → length boxes ≡ 0 → boxes ≡ []
@@ -264,9 +265,9 @@ pub walked_all : (b : Block) (h : ℕ) (nodes : List Node) (boxes : List (List I
     → open_from 1 nodes ≡ Some 0 → length claims ≡ length b.outputs → AreClaimed errors claims
     → HasWalked b h nodes boxes errors
     → IsAccepted b h (record { claims = claims; nodes = nodes }) errors
-walked_all b h nodes boxes claims errors is_tree count claimed w =
+walked_all b h nodes boxes claims errors is_tree count within w =
     let opens : Some (length boxes) ≡ Some 0 = sym w.open_count ∙ is_tree in
-    accepted_all b h nodes boxes claims errors (no_boxes boxes (let e : length boxes ≡ 0 = cc in e)) count claimed w
+    accepted_all b h nodes boxes claims errors (no_boxes boxes (let e : length boxes ≡ 0 = cc in e)) count within w
 
 -- the next open box begins with the node that comes
 walked_to : (b : Block) (h : ℕ) (nodes : List Node) (box : List Interval) (boxes : List (List Interval))
@@ -340,3 +341,233 @@ some_open b h n nodes node errors goes_on opens w =
 
 pub stack-length : (boxes : List ByteBox) → length (stack_of boxes) ≡ length boxes
 stack-length boxes = length-map (reverse boxes) (λ (x : ByteBox). x.0.items) ∙ length-reverse boxes
+
+-- ---- a walk that takes one more node
+
+-- the node that was added is that of a certificate
+last_good : (width : ℕ) (nodes : List Node) (node : Node) → AreFirst width (nodes ++ node ∷ [])
+    → (kind : CertKind) × IsNode kind width node
+last_good width nodes node first =
+    subst (λ n. (kind : CertKind) × IsNode kind width n) (get_or-append_seam nodes node [] node)
+    (first.good (length nodes) node (let l = length-append nodes (node ∷ []) in omega (arith, l)))
+
+line_more : (nodes : List Node) (node : Node) (line : ℕ) → line ≡ length nodes + 3
+    → line + 1 ≡ length (nodes ++ node ∷ []) + 3
+line_more nodes node line at = let l = length-append nodes (node ∷ []) in omega (arith, l, at)
+
+module _ (w : Walk) (bytes : ByteBox) (left : Vec ByteBox) (popped : w.boxes.items ≡ left.items ++ bytes ∷ []) where
+  at_box : (nodes : List Node) → IsBehind nodes w
+      → HasWalked w.block.now w.parts nodes (bytes.0.items ∷ stack_of left.items) w.errors.items
+  at_box nodes behind =
+      subst (λ s. HasWalked w.block.now w.parts nodes s w.errors.items)
+      (stack-pop w.boxes.items left.items bytes popped) behind.walked
+
+  pub next_box : (nodes : List Node) → IsBehind nodes w → IsBoxOf w.block.now bytes.0.items
+  next_box nodes behind = (at_box nodes behind).are_boxes 0 bytes.0.items (omega arith)
+
+  module _ (i c : ℕ) (node : Node) (is : node ≡ Split i c) where
+    input_is_some : (nodes : List Node) → AreFirst (length w.claims.now) (nodes ++ node ∷ []) → 1 ≤ i
+    input_is_some nodes first =
+        let good = last_good (length w.claims.now) nodes node first in
+        let cut : IsNodeCut i c = subst (IsNode good.0 (length w.claims.now)) is good.1 in
+        cut.some
+
+    pub split_behind : {A : Type 0} (boxes : Vec ByteBox) (r : Result A CheckFault) → OpenBoxesGoOn
+        → OnOk r (IsCut (i - 1) c bytes.0.items)
+        → OnOk r (stack_of boxes.items ≡ left_of (i - 1) c bytes.0.items ∷ right_of (i - 1) c bytes.0.items
+        ∷ stack_of left.items)
+        → 2041 ≤ vec_capacity boxes
+        → OnOk r ((nodes : List Node) → IsBehind nodes w → AreFirst (length w.claims.now) (nodes ++ node ∷ [])
+        → IsBehind (nodes ++ node ∷ []) (record w { boxes = boxes; line = w.line + 1 }))
+    split_behind boxes (Err f) goes_on cut stack room = tt
+    split_behind boxes (Ok u) goes_on cut stack room = λ nodes behind first. record {
+      claims_count = behind.claims_count;
+      walked = subst (λ s. HasWalked w.block.now w.parts (nodes ++ node ∷ []) s w.errors.items) (sym stack)
+          (subst (λ n. HasWalked w.block.now w.parts (nodes ++ n ∷ [])
+          (left_of (i - 1) c bytes.0.items ∷ right_of (i - 1) c bytes.0.items ∷ stack_of left.items) w.errors.items)
+          (sym is)
+          (walked_split w.block.now w.parts nodes bytes.0.items (stack_of left.items) w.errors.items i c goes_on
+          (input_is_some nodes first) cut (at_box nodes behind)));
+      line = line_more nodes node w.line behind.line;
+      room = room;
+    }
+
+    pub split_fault : {A : Type 0} (r : Result A CheckFault)
+        → IfErr r (λ f. (f ≡ fault.BadCut w.line) × (IsCut (i - 1) c bytes.0.items → ⊥))
+        → IfErr r (λ f. (nodes rest : List Node) → IsBehind nodes w
+        → AreFirst (length w.claims.now) (nodes ++ node ∷ [])
+        → HasCheckFault w.block.now w.parts (cert_over w (nodes ++ node ∷ rest)) f)
+    split_fault (Ok u) h = tt
+    split_fault (Err f) h = λ nodes rest behind first.
+        subst (λ g. HasCheckFault w.block.now w.parts (cert_over w (nodes ++ node ∷ rest)) g) (sym h.0)
+        (subst (λ n. HasCheckFault w.block.now w.parts (cert_over w (nodes ++ n ∷ rest)) (fault.BadCut w.line)) (sym is)
+        (cut_fault w.block.now w.parts w.claims.now nodes bytes.0.items (stack_of left.items) w.errors.items w.line rest
+        behind.claims_count behind.line (at_box nodes behind) i c h.1))
+
+  module _ (form : LeafForm) (node : Node) (is : node ≡ Leaf form) where
+    pub form_is_good : (nodes : List Node) → IsBehind nodes w → AreFirst (length w.claims.now) (nodes ++ node ∷ [])
+        → (kind : CertKind) × IsLeaf kind (length w.block.now.outputs) form
+    form_is_good nodes behind first =
+        let good = last_good (length w.claims.now) nodes node first in (
+          good.0,
+          subst (λ n. IsLeaf good.0 n form) behind.claims_count
+              (subst (IsNode good.0 (length w.claims.now)) is good.1),
+        )
+
+    pub leaf_behind : {A : Type 0} (old errors : List ℕ) (r : Result A CheckFault) → OpenBoxesGoOn
+        → old ≡ w.errors.items
+        → OnOk r (Raises w.block.now w.parts (part_of bytes.0.items form) old errors)
+        → vec_capacity left ≡ vec_capacity w.boxes
+        → OnOk r ((nodes : List Node) → IsBehind nodes w → AreFirst (length w.claims.now) (nodes ++ node ∷ [])
+        → IsBehind (nodes ++ node ∷ [])
+        (record w { boxes = left; errors = with_items w.errors errors; line = w.line + 1 }))
+    leaf_behind old errors (Err f) goes_on held raises room = tt
+    leaf_behind old errors (Ok u) goes_on held raises room = λ nodes behind first.
+        let raised : Raises w.block.now w.parts (part_of bytes.0.items form) w.errors.items errors =
+        subst (λ es. Raises w.block.now w.parts (part_of bytes.0.items form) es errors) held raises in
+        record {
+          claims_count = behind.claims_count;
+          walked = subst (λ es. HasWalked w.block.now w.parts (nodes ++ node ∷ []) (stack_of left.items) es)
+              (sym (with_items_is w.errors errors (raised.raised.count ∙ sym w.errors.ok.0)))
+              (subst (λ n. HasWalked w.block.now w.parts (nodes ++ n ∷ []) (stack_of left.items) errors) (sym is)
+              (walked_leaf w.block.now w.parts nodes bytes.0.items (stack_of left.items) w.errors.items errors form
+              goes_on raised (at_box nodes behind)));
+          line = line_more nodes node w.line behind.line;
+          room = let r = behind.room in omega (arith, r, room);
+        }
+
+    pub fault_met : {A : Type 0} (r : Result A CheckFault)
+        → IfErr r (HasPartFault w.block.now w.parts (part_of bytes.0.items form) w.line)
+        → IfErr r (λ f. (nodes rest : List Node) → IsBehind nodes w
+        → AreFirst (length w.claims.now) (nodes ++ node ∷ [])
+        → HasCheckFault w.block.now w.parts (cert_over w (nodes ++ node ∷ rest)) f)
+    fault_met (Ok u) h = tt
+    fault_met (Err f) h = λ nodes rest behind first.
+        subst (λ n. HasCheckFault w.block.now w.parts (cert_over w (nodes ++ n ∷ rest)) f) (sym is)
+        (leaf_fault w.block.now w.parts w.claims.now nodes bytes.0.items (stack_of left.items) w.errors.items w.line
+        rest behind.claims_count behind.line (at_box nodes behind) form f h)
+
+-- where a node may follow, the stack is not empty
+pub none_popped : (w : Walk) (nodes : List Node) (node : Node) → OpenBoxesGoOn → w.boxes.items ≡ [] → IsBehind nodes w
+    → AreFirst (length w.claims.now) (nodes ++ node ∷ []) → ⊥
+none_popped w nodes node goes_on none behind first =
+    some_open w.block.now w.parts first.opens.0 nodes node w.errors.items goes_on first.opens.1
+    (subst (λ bs. HasWalked w.block.now w.parts nodes (stack_of bs) w.errors.items) none behind.walked)
+
+-- ---- with a fault or none
+
+pub as_behind : (w : Walk) (nodes : List Node) → w.fault ≡ None → HasTaken nodes w → IsBehind nodes w
+as_behind w nodes none taken =
+    subst (λ f. MatchOption f (IsBehind nodes w)
+    (λ fault. (rest : List Node) → HasCheckFault w.block.now w.parts (cert_over w (nodes ++ rest)) fault)) none
+    taken.so_far
+
+pub as_fault : (w : Walk) (nodes rest : List Node) (f : CheckFault) → w.fault ≡ Some f → HasTaken nodes w
+    → HasCheckFault w.block.now w.parts (cert_over w (nodes ++ rest)) f
+as_fault w nodes rest f some taken =
+    subst (λ g. MatchOption g (IsBehind nodes w)
+    (λ fault. (rest : List Node) → HasCheckFault w.block.now w.parts (cert_over w (nodes ++ rest)) fault)) some
+    taken.so_far rest
+
+pub few_lines_taken : (w : Walk) (nodes : List Node) (node : Node) → IsBehind nodes w
+    → AreFirst (length w.claims.now) (nodes ++ node ∷ []) → w.line ≤ 10235
+few_lines_taken w nodes node behind first =
+    let l = few_lines w.block.now w.parts nodes (node ∷ []) (stack_of w.boxes.items) w.errors.items first.few_leaves
+    behind.walked in
+    let at = behind.line in
+    omega (arith, l, at)
+
+-- a fault that was met stays the first
+pub passed_by : (w : Walk) (nodes : List Node) (node : Node) (f : CheckFault) → w.fault ≡ Some f → HasTaken nodes w
+    → HasTaken (nodes ++ node ∷ []) w
+passed_by w nodes node f some taken = record {
+  valid = taken.valid;
+  claims = taken.claims;
+  table = taken.table;
+  parts_from = taken.parts_from;
+  parts_to = taken.parts_to;
+  so_far = subst (λ g. MatchOption g (IsBehind (nodes ++ node ∷ []) w)
+      (λ fault. (rest : List Node)
+      → HasCheckFault w.block.now w.parts (cert_over w ((nodes ++ node ∷ []) ++ rest)) fault)) (sym some)
+      (λ rest. subst (λ ns. HasCheckFault w.block.now w.parts (cert_over w ns) f)
+      (sym (append_assoc nodes (node ∷ []) rest)) (as_fault w nodes (node ∷ rest) f some taken));
+}
+
+-- ---- a walk's first moment and its last
+
+pub none_from_is_some : {A : Type 0} (o : Option A) → false ≡ is_some o → o ≡ None
+none_from_is_some None e = refl
+none_from_is_some (Some x) e = absurd (let z : ⊥ = cc in z)
+
+-- what a walk has met so far that has met no fault
+pub so_far-behind : (w : Walk) (nodes : List Node) → w.fault ≡ None → IsBehind nodes w
+    → MatchOption w.fault (IsBehind nodes w)
+    (λ fault. (rest : List Node) → HasCheckFault w.block.now w.parts (cert_over w (nodes ++ rest)) fault)
+so_far-behind w nodes none behind =
+    subst (λ g. MatchOption g (IsBehind nodes w)
+    (λ fault. (rest : List Node) → HasCheckFault w.block.now w.parts (cert_over w (nodes ++ rest)) fault)) (sym none)
+    behind
+
+-- or one
+pub so_far-fault : (w : Walk) (nodes : List Node) (f : CheckFault) → w.fault ≡ Some f
+    → ((rest : List Node) → HasCheckFault w.block.now w.parts (cert_over w (nodes ++ rest)) f)
+    → MatchOption w.fault (IsBehind nodes w)
+    (λ fault. (rest : List Node) → HasCheckFault w.block.now w.parts (cert_over w (nodes ++ rest)) fault)
+so_far-fault w nodes f some faulty =
+    subst (λ g. MatchOption g (IsBehind nodes w)
+    (λ fault. (rest : List Node) → HasCheckFault w.block.now w.parts (cert_over w (nodes ++ rest)) fault)) (sym some)
+    faulty
+
+pub behind_none : (w : Walk) → length w.block.now.inputs ≤ 8 → length w.claims.now ≡ length w.block.now.outputs
+    → stack_of w.boxes.items ≡ whole w.block.now ∷ []
+    → w.errors.items ≡ replicate (length w.block.now.outputs) 0 → w.line ≡ 3 → 2041 ≤ vec_capacity w.boxes
+    → IsBehind [] w
+behind_none w few count stack zeros line room = record {
+  claims_count = count;
+  walked = subst (λ s. HasWalked w.block.now w.parts [] s w.errors.items) (sym stack)
+      (subst (λ es. HasWalked w.block.now w.parts [] (whole w.block.now ∷ []) es) (sym zeros)
+      (walked_none w.block.now w.parts few));
+  line = line;
+  room = room;
+}
+
+pub count_fault : (w : Walk) (n : ℕ) → n ≡ length w.block.now.outputs → (length w.claims.now ≡ n → ⊥)
+    → (rest : List Node)
+    → HasCheckFault w.block.now w.parts (cert_over w rest) (fault.Outputs (length w.claims.now) n)
+count_fault w n same differ rest =
+    subst (λ m. HasCheckFault w.block.now w.parts (cert_over w rest) (fault.Outputs (length w.claims.now) m)) (sym same)
+    (outputs (λ e. differ (e ∙ sym same)))
+
+pub last_fault : (w : Walk) (nodes : List Node) (f : CheckFault) → w.fault ≡ Some f → HasTaken nodes w
+    → HasCheckFault w.block.now w.parts (cert_over w nodes) f
+last_fault w nodes f some taken =
+    subst (λ ns. HasCheckFault w.block.now w.parts (cert_over w ns) f) (append-nil nodes)
+    (as_fault w nodes [] f some taken)
+
+pub accepted_behind : (w : Walk) (nodes : List Node) (es : List ℕ) → es ≡ w.errors.items → open_from 1 nodes ≡ Some 0
+    → AreClaimed es w.claims.now → IsBehind nodes w
+    → IsAccepted w.block.now w.parts (cert_over w nodes) w.errors.items
+accepted_behind w nodes es same is_tree are_claimed behind =
+    walked_all w.block.now w.parts nodes (stack_of w.boxes.items) w.claims.now w.errors.items is_tree
+    behind.claims_count
+    (subst (λ xs. AreClaimed xs w.claims.now) same are_claimed) behind.walked
+
+pub claim_fault : (w : Walk) (nodes : List Node) (es : List ℕ) (k claim error : ℕ) → es ≡ w.errors.items
+    → open_from 1 nodes ≡ Some 0 → IsFirstOver es w.claims.now k
+    → claim ≡ get_or w.claims.now k 0 → error ≡ get_or w.errors.items k error → IsBehind nodes w
+    → HasCheckFault w.block.now w.parts (cert_over w nodes) (fault.Claimed (k + 1) claim error)
+claim_fault w nodes es k claim error found closed over claim_is error_is behind =
+    let b = w.block.now in
+    let errors = w.errors.items in
+    let claims = w.claims.now in
+    let o : IsFirstOver errors claims k = subst (λ xs. IsFirstOver xs claims k) found over in
+    let c : o.claim ≡ claim = sym (get_or_from_slice_get claims k o.claim 0 o.claim_is) ∙ sym claim_is in
+    let r : o.error ≡ error = sym (get_or_from_slice_get errors k o.error error o.error_is) ∙ sym error_is in
+    let accepted = walked_all b w.parts nodes (stack_of w.boxes.items) errors errors closed behind.walked.count
+    (λ j e d p q. same_le (sym p ∙ q)) behind.walked in
+    let f = claimed errors k o behind.claims_count accepted in
+    subst (λ m. HasCheckFault b w.parts (cert_over w nodes) (fault.Claimed (k + 1) m error)) c
+    (subst (λ m. HasCheckFault b w.parts (cert_over w nodes) (fault.Claimed (k + 1) o.claim m)) r f)
+  where
+    same_le : {e d : ℕ} → Some e ≡ Some d → e ≤ d
+    same_le {e} {d} h = let s : e ≡ d = cc in omega arith

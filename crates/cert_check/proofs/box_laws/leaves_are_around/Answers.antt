@@ -1,4 +1,4 @@
-use Rattle.cert_check.proofs.BoxLemmas.{leaf_around}
+use Rattle.cert_check.proofs.TreeLemmas.{leaf_around}
 use Rattle.cert_check.proofs.box_laws.leaves_are_around.Goals as goal
 
 pub returns : goal.returns

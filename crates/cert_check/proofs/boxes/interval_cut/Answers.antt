@@ -1,10 +1,10 @@
 use Rattle.std.proofs.Common.{◌≤◌, length, sym, arith, ◌≡◌, Some, subst, refl}
-use Rattle.std.specs.Prelude.{slice_get, IfNone}
 use Rattle.std.proofs.lemmas.Option.{slice_get_past, slice_get_read}
+use Rattle.std.specs.Prelude.{slice_get, IfNone}
 use Rattle.cert_check.specs.Trees.{IsCut}
-use Rattle.cert_check.proofs.CutLemmas.{cut_at, cut_inside, cut_nowhere}
 use Rattle.cert_check.proofs.boxes.interval_cut.Goals.{else-interval-cut-via-then-interval-cut+else-cut-interval}
 use Rattle.cert_check.proofs.boxes.interval_cut.Goals.{else-interval-cut-via-else-interval-cut}
+use Rattle.cert_check.proofs.TreeLemmas.{cut_at, cut_inside, cut_nowhere}
 use Rattle.cert_check.proofs.boxes.interval_cut.Goals as goal
 
 pub returns-in_err-interval-clause-none : goal.returns-in_err-interval-clause-none

@@ -1,7 +1,7 @@
 use Rattle.std.proofs.Common.{◌≡◌, ◌-◌, ◌∷◌, List, ap, ap₂, arith, ◌∙◌}
 use Rattle.std.specs.Prelude.{set}
 use Rattle.error_bound.specs.declared.boxes.Interval.{Interval}
-use Rattle.cert_check.proofs.CutLemmas.{cut_inside, set-left, set-right}
+use Rattle.cert_check.proofs.TreeLemmas.{cut_inside, set-left, set-right}
 use Rattle.cert_check.proofs.WalkLemmas.{few_below, stack-length}
 use Rattle.cert_check.specs.{Trees.left_of, Trees.right_of, Walks.stack_of}
 use Rattle.cert_check.proofs.boxes.push_halves.Goals as goal

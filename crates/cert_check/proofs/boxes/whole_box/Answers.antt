@@ -1,6 +1,6 @@
 use Rattle.std.proofs.Common.{List, ◌++◌, ◌∷◌, [], ap, sym, arith, ◌∙◌, ◌<◌, length, subst}
 use Rattle.error_bound.specs.declared.boxes.Interval.{Interval}
-use Rattle.cert_check.proofs.CutLemmas.{whole_more}
+use Rattle.cert_check.proofs.TreeLemmas.{whole_more}
 use Rattle.cert_check.proofs.boxes.whole_box.Goals as goal
 
 pub loop-input-preserved : goal.loop-input-preserved

@@ -1,4 +1,4 @@
-use Rattle.cert_check.proofs.Determined.{determined}
+use Rattle.cert_check.proofs.FaultLemmas.{determined}
 use Rattle.cert_check.proofs.laws.errors_are_determined.Goals as goal
 
 pub returns : goal.returns

@@ -1,4 +1,4 @@
-use Rattle.cert_check.proofs.FirstFaults as lemmas
+use Rattle.cert_check.proofs.FaultLemmas as lemmas
 use Rattle.cert_check.proofs.laws.text_answers_are_one.Goals as goal
 
 pub returns : goal.returns

@@ -1,4 +1,4 @@
-use Rattle.cert_check.proofs.StillAccepted.{tight_accepted}
+use Rattle.cert_check.proofs.AcceptedLemmas.{tight_accepted}
 use Rattle.cert_check.proofs.laws.tight_is_accepted.Goals as goal
 
 pub returns : goal.returns

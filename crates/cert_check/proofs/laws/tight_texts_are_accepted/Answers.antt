@@ -1,4 +1,4 @@
-use Rattle.cert_check.proofs.StillAccepted.{tight_texts}
+use Rattle.cert_check.proofs.AcceptedLemmas.{tight_texts}
 use Rattle.cert_check.proofs.laws.tight_texts_are_accepted.Goals as goal
 
 pub returns : goal.returns

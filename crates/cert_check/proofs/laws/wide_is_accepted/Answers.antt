@@ -1,4 +1,4 @@
-use Rattle.cert_check.proofs.StillAccepted.{wide_accepted}
+use Rattle.cert_check.proofs.AcceptedLemmas.{wide_accepted}
 use Rattle.cert_check.proofs.laws.wide_is_accepted.Goals as goal
 
 pub returns : goal.returns

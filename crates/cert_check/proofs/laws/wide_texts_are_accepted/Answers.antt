@@ -1,4 +1,4 @@
-use Rattle.cert_check.proofs.StillAccepted.{wide_texts}
+use Rattle.cert_check.proofs.AcceptedLemmas.{wide_texts}
 use Rattle.cert_check.proofs.laws.wide_texts_are_accepted.Goals as goal
 
 pub returns : goal.returns

@@ -1,7 +1,7 @@
 use Rattle.std.proofs.Common.{[], ◌∙◌}
 use Rattle.cert_check.specs.TextFaults.{of_text}
-use Rattle.cert_check.proofs.TextWalks.{HasTaken-some, AreFirst-some, IsWalkOverText-more, IsAcceptedText-read}
-use Rattle.cert_check.proofs.TextWalks.{HasTextFault-read}
+use Rattle.cert_check.proofs.DriverLemmas.{HasTaken-some, AreFirst-some, IsWalkOverText-more, IsAcceptedText-read}
+use Rattle.cert_check.proofs.DriverLemmas.{HasTextFault-read}
 use Rattle.cert_check.proofs.text.errors_of.Goals as goal
 
 pub loop-node-init : goal.loop-node-init

@@ -1,5 +1,5 @@
 use Rattle.box_tree.specs.Reading.{unread_len}
-use Rattle.cert_check.proofs.TextWalks.{IsWalkOverText}
+use Rattle.cert_check.proofs.DriverLemmas.{IsWalkOverText}
 use Rattle.cert_check.proofs.text.errors_of.Given as goal
 
 abbrev pub invariant-loop-node : goal.invariant-loop-node

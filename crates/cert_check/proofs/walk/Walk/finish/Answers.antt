@@ -1,6 +1,5 @@
 use Rattle.std.proofs.Common.{refl}
-use Rattle.cert_check.proofs.TakeLemmas.{as_behind}
-use Rattle.cert_check.proofs.CheckLemmas.{last_fault, accepted_behind, claim_fault}
+use Rattle.cert_check.proofs.WalkLemmas.{as_behind, last_fault, accepted_behind, claim_fault}
 use Rattle.cert_check.proofs.walk.Walk.finish.Goals as goal
 
 pub returns-in-Some-clause-fault : goal.returns-in-Some-clause-fault

@@ -1,7 +1,7 @@
 use Rattle.std.proofs.Common.{◌∷◌, [], List, ap, ap₂, ◌∙◌, refl, arith, replicate}
-use Rattle.error_bound.specs.declared.{boxes.Interval.Interval, boxes.ByteBox.ByteBox}
+use Rattle.error_bound.specs.{declared.boxes.Interval.Interval, declared.boxes.ByteBox.ByteBox}
 use Rattle.cert_check.specs.{declared.walk.Walk.Walk, Walks.stack_of}
-use Rattle.cert_check.proofs.CheckLemmas.{so_far-behind, so_far-fault, behind_none, count_fault}
+use Rattle.cert_check.proofs.WalkLemmas.{so_far-behind, so_far-fault, behind_none, count_fault}
 use Rattle.cert_check.proofs.walk.Walk.new.Goals.{then-claims-outputs, else-claims-outputs}
 use Rattle.cert_check.proofs.walk.Walk.new.Goals as goal
 

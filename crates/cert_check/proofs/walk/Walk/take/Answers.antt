@@ -1,5 +1,5 @@
 use Rattle.std.proofs.Common.{arith}
-use Rattle.cert_check.proofs.{CheckLemmas.none_from_is_some, TakeLemmas.as_behind, TakeLemmas.few_lines_taken}
+use Rattle.cert_check.proofs.WalkLemmas.{none_from_is_some, as_behind, few_lines_taken}
 use Rattle.cert_check.proofs.walk.Walk.take.Goals as goal
 
 pub overflow_add-self : goal.overflow_add-self

@@ -1,7 +1,6 @@
-use Rattle.std.proofs.Common.{sym, ◌∙◌}
-use Rattle.std.proofs.lemmas.List.{nil_from_length}
-use Rattle.cert_check.proofs.TakeLemmas.{next_box, split_behind, split_fault, form_is_good, leaf_behind, fault_met}
-use Rattle.cert_check.proofs.TakeLemmas.{none_popped}
+use Rattle.std.proofs.{lemmas.List.nil_from_length, Common.sym, Common.◌∙◌}
+use Rattle.cert_check.proofs.WalkLemmas.{next_box, split_behind, split_fault, form_is_good, leaf_behind, fault_met}
+use Rattle.cert_check.proofs.WalkLemmas.{none_popped}
 use Rattle.cert_check.proofs.walk.Walk.visit.Goals as goal
 
 pub returns-in_default-clause-behind : goal.returns-in_default-clause-behind
