@@ -1,15 +1,21 @@
--- Boxes, their halves and their cells.
+-- Boxes, their halves and their cells, and how a tree grows by the nodes of a box.
 use Rattle.std.proofs.Common.{◌≡◌, ⊎_elim, ℕ, zero, suc, ◌+◌, ◌-◌, ◌*◌, ◌/◌, ◌<◌, ◌≤◌, List, [], ◌∷◌, length, map}
-use Rattle.std.proofs.Common.{get_or}
-use Rattle.std.proofs.Common.{Some, refl, sym, ap, ap₂, ◌∙◌, subst, arith, length-set}
-use Rattle.std.specs.Prelude.{slice_get, All}
-use Rattle.std.proofs.lemmas.Bool.{cases_lt}
-use Rattle.fuzzy_meaning.specs.declared.{block.Block.Block, block.Input.Input}
+use Rattle.std.proofs.Common.{get_or, Some, refl, sym, ap, ap₂, ◌∙◌, subst, arith, length-set, inl, inr, max, ◌++◌}
+use Rattle.std.proofs.{lemmas.List.Elements.All-append, lemmas.Option.slice_get_within, lemmas.Bool.cases_lt}
+use Rattle.std.proofs.Common.{append_assoc}
+use Rattle.std.specs.{Prelude.slice_get, Prelude.All, Prelude.◌⊎◌, Prelude.slice_index, Global.Vec, List.Any}
+use Rattle.fuzzy_meaning.specs.{declared.block.Output.Output, declared.block.Block.Block, declared.block.Input.Input}
 use Rattle.error_bound.specs.{declared.boxes.Interval.Interval, Boxes.IsBox, Boxes.IsBoxOf}
-use Rattle.cell_bounds.specs.{Cells.cell_of, CellBounds.cell_count}
-use Rattle.cert_check.specs.Trees.{whole, left_of, right_of}
-use Rattle.cert_check.specs.{Walks.cuts_of, BoxLaws.HasHalves, BoxLaws.CutsHaveHalves}
-use Rattle.error_certifier.specs.Halving.{IsWidest, IsHalvedAt, middle_of}
+use Rattle.cell_bounds.specs.{CellBounds.cell_count, Cells.cell_of}
+use Rattle.cert_check.specs.Trees.{whole, left_of, right_of, Part, IsTree, leaf, split, part_of, IsCut}
+use Rattle.cert_check.specs.{BoxLaws.HasHalves, BoxLaws.CutsHaveHalves, Walks.cuts_of, Walks.AreRaised}
+use Rattle.cert_check.specs.Acceptance.{HasBound}
+use Rattle.error_certifier.specs.Halving.{IsWidest, IsHalvedAt, middle_of, IsToCut, Halves, leaf as halved_leaf}
+use Rattle.error_certifier.specs.{declared.leaves.FoundLeaf.FoundLeaf, Trees.IsFoundLeaf, Trees.RisesTo, Trees.Grows}
+use Rattle.error_certifier.specs.{Halving.split as halved_split, declared.halving.Tree.Tree}
+use Rattle.fz_list.proofs.Algebra.{All-cons}
+use Rattle.box_tree.specs.declared.cert.Node.TheVariants.{Split, Leaf}
+use Rattle.box_tree.specs.{declared.cert.CertKind.CertKind, declared.cert.Node.Node, Certificates.IsNode}
 
 pub same_items : {X : Type 0} (xs ys : List X) → length xs ≡ length ys
     → ((k : ℕ) → k < length xs → slice_get xs k ≡ slice_get ys k) → xs ≡ ys
@@ -149,25 +155,16 @@ pub record IsWidestOf (box : List Interval) (n k : ℕ) : Type 0 where
 
 -- ---- how often a box can be cut
 
-left_fewer : (box : List Interval) (k c : ℕ) (v : Interval) → slice_get box k ≡ Some v → v.from < c → c ≤ v.to
-    → cuts_of (left_of k c box) < cuts_of box
-left_fewer [] k c v e f t = absurd (let z : ⊥ = cc in z)
-left_fewer (w ∷ ws) zero c v e f t =
+parts_fewer : (box : List Interval) (k c : ℕ) (v : Interval) → slice_get box k ≡ Some v → v.from < c → c ≤ v.to
+    → (cuts_of (left_of k c box) < cuts_of box) × (cuts_of (right_of k c box) < cuts_of box)
+parts_fewer [] k c v e f t = absurd (let z : ⊥ = cc in z)
+parts_fewer (w ∷ ws) zero c v e f t =
     let same : w ≡ v = cc in
     let from : w.from ≡ v.from = ap (λ (u : Interval). u.from) same in
     let to : w.to ≡ v.to = ap (λ (u : Interval). u.to) same in
-    omega arith
-left_fewer (w ∷ ws) (suc k) c v e f t = let rest = left_fewer ws k c v e f t in omega arith
-
-right_fewer : (box : List Interval) (k c : ℕ) (v : Interval) → slice_get box k ≡ Some v → v.from < c → c ≤ v.to
-    → cuts_of (right_of k c box) < cuts_of box
-right_fewer [] k c v e f t = absurd (let z : ⊥ = cc in z)
-right_fewer (w ∷ ws) zero c v e f t =
-    let same : w ≡ v = cc in
-    let from : w.from ≡ v.from = ap (λ (u : Interval). u.from) same in
-    let to : w.to ≡ v.to = ap (λ (u : Interval). u.to) same in
-    omega arith
-right_fewer (w ∷ ws) (suc k) c v e f t = let rest = right_fewer ws k c v e f t in omega arith
+    (omega arith, omega arith)
+parts_fewer (w ∷ ws) (suc k) c v e f t = let rest = parts_fewer ws k c v e f t in
+    (omega (arith, rest.0), omega (arith, rest.1))
 
 pub halves_fewer : (box : List Interval) (k c : ℕ) → IsHalvedAt box k c
     → (cuts_of (left_of k c box) < cuts_of box) × (cuts_of (right_of k c box) < cuts_of box)
@@ -175,11 +172,7 @@ halves_fewer box k c at =
     let v = at.interval in
     let m = middle_inside v.from v.to at.more in
     let e = at.middle in
-    let m0 = m.0 in
-    let m1 = m.1 in (
-      left_fewer box k c v at.widest.is_at (omega arith) (omega arith),
-      right_fewer box k c v at.widest.is_at (omega arith) (omega arith),
-    )
+    parts_fewer box k c v at.widest.is_at (omega (arith, m.0, e)) (omega (arith, m.1, e))
 
 -- ---- a box of single bytes
 
@@ -200,3 +193,157 @@ cell_is box k v is w e = single box (λ j u eu.
         let here : u ≡ (record { from = u.from; to = u.from }) = ap
         (λ (n : ℕ). let x : Interval = record { from = u.from; to = n } in x) (sym first) in
         ap₂ (λ (x : Interval) (xs : List Interval). x ∷ xs) here rest
+
+-- ---- how a tree grows by the nodes of a box
+
+-- ---- of some in a list
+
+Any-left : {X : Type 0} (P : X → Type 0) (xs ys : List X) → Any P xs → Any P (xs ++ ys)
+Any-left P [] ys (k, x, l, e, p) = absurd (omega arith)
+Any-left P (z ∷ xs) ys (zero, x, l, e, p) = (zero, x, omega arith, e, p)
+Any-left P (z ∷ xs) ys (suc k, x, l, e, p) =
+    let r = Any-left P xs ys (k, x, omega arith, e, p) in
+    let l' = r.2 in
+    (suc r.0, r.1, omega arith, r.3, r.4)
+
+Any-right : {X : Type 0} (P : X → Type 0) (xs ys : List X) → Any P ys → Any P (xs ++ ys)
+Any-right P [] ys a = a
+Any-right P (z ∷ xs) ys a = let r = Any-right P xs ys a in let l = r.2 in (suc r.0, r.1, omega arith, r.3, r.4)
+
+Any-one : {X : Type 0} (P : X → Type 0) (x : X) → P x → Any P (x ∷ [])
+Any-one P x p = (zero, x, omega arith, refl, p)
+
+All-one : {X : Type 0} (P : X → Type 0) (x : X) → P x → All P (x ∷ [])
+All-one P x p zero d l = p
+All-one P x p (suc k) d l = absurd (omega arith)
+
+-- ---- errors
+
+rises_on : (b : Block) (h target o : ℕ) (x : Output) (ps qs : List Part) (old mid new : ℕ)
+    → RisesTo b h target o x ps old mid
+    → RisesTo b h target o x qs mid new
+    → RisesTo b h target o x (ps ++ qs) old new
+rises_on b h target o x ps qs old mid new p q =
+    let up = p.rises in
+    let on = q.rises in
+    record {
+      rises = omega arith;
+      within = λ l. q.within (p.within l);
+      each = All-append (λ r. (n : ℕ) × HasBound b o x h r n × (n ≤ new)) ps qs
+          (λ k d l. let a = p.each k d l in let at = a.2 in (a.0, a.1, omega arith)) q.each;
+      some = ⊎_elim
+          (λ (e : new ≡ mid). ⊎_elim
+          (λ (f : mid ≡ old). let z : (new ≡ old) ⊎ Any (λ r. HasBound b o x h r new) (ps ++ qs) = inl (e ∙ f) in z)
+          (λ (a : Any (λ r. HasBound b o x h r mid) ps). inr
+          (Any-left (λ r. HasBound b o x h r new) ps qs (subst (λ m. Any (λ r. HasBound b o x h r m) ps) (sym e) a)))
+          p.some)
+          (λ (a : Any (λ r. HasBound b o x h r new) qs). inr (Any-right (λ r. HasBound b o x h r new) ps qs a))
+          q.some;
+    }
+
+module _ (kind : CertKind) (b : Block) (h target : ℕ) (box : List Interval) (found : FoundLeaf)
+    (leaf_is : IsFoundLeaf kind b h target box found) where
+  raised_one : (k : ℕ) (x : Output) (old new : ℕ) → slice_get b.outputs k ≡ Some x
+      → new ≡ max old (slice_index found.bounds k)
+      → RisesTo b h target (k + 1) x (part_of box found.form ∷ []) old new
+  raised_one k x old new ex e =
+      let part = part_of box found.form in
+      let n = slice_index found.bounds k in
+      let has : HasBound b (k + 1) x h part n = leaf_is.bounds k x ex in
+      let to = leaf_is.within k (slice_get_within b.outputs k x ex) in
+      record {
+        rises = omega arith;
+        within = λ l. omega arith;
+        each = All-one (λ r. (m : ℕ) × HasBound b (k + 1) x h r m × (m ≤ new)) part (n, has, omega arith);
+        some = ⊎_elim
+            (λ (l : old < n).
+            let same : n ≡ new = omega arith in
+            let z : (new ≡ old) ⊎ Any (λ r. HasBound b (k + 1) x h r new) (part ∷ []) = inr
+            (Any-one (λ r. HasBound b (k + 1) x h r new) part (subst (λ m. HasBound b (k + 1) x h part m) same has)) in
+            z)
+            (λ (l : n ≤ old). inl (omega arith))
+            (cases_lt old n);
+      }
+
+  -- by a leaf
+  pub grows_leaf : (old new : Tree) → length old.errors.items ≡ length b.outputs
+      → new.nodes.items ≡ old.nodes.items ++ Leaf found.form ∷ []
+      → AreRaised found.bounds old.errors.items new.errors.items → new.leaves ≡ old.leaves + 1
+      → old.leaves < 4096
+      → Grows kind b h target box old new
+  grows_leaf old new count nodes raised more few = record {
+    added = Leaf found.form ∷ [];
+    parts = part_of box found.form ∷ [];
+    nodes = nodes;
+    halves = subst (λ m. Halves kind b h target box old.leaves (Leaf found.form ∷ []) m) (sym more)
+        (halved_leaf box old.leaves found.form leaf_is.settled few);
+    tree = λ rest. leaf box found.form rest;
+    good = All-one (IsNode kind (length b.outputs)) (Leaf found.form) leaf_is.good;
+    count = raised.count;
+    errors = λ k x e.
+        let inside : k < length old.errors.items =
+        (let w = slice_get_within b.outputs k x e in omega (arith, w, count)) in
+        raised_one k x (slice_index old.errors.items k) (slice_index new.errors.items k) e (raised.each k inside);
+  }
+
+-- ---- by a cut and its halves
+
+regroup : (old : List Node) (x : Node) (ls rs : List Node) → ((old ++ x ∷ []) ++ ls) ++ rs ≡ old ++ (x ∷ (ls ++ rs))
+regroup old x ls rs = simp append_assoc
+
+split_nodes : (old pushed mid new ls rs : List Node) (x : Node) → pushed ≡ old ++ x ∷ [] → mid ≡ pushed ++ ls
+    → new ≡ mid ++ rs
+    → new ≡ old ++ (x ∷ (ls ++ rs))
+split_nodes old pushed mid new ls rs x p m n =
+    n ∙ ap (λ (xs : List Node). xs ++ rs) (m ∙ ap (λ (xs : List Node). xs ++ ls) p) ∙ regroup old x ls rs
+
+split_tree : (box : List Interval) (k c : ℕ) (ls rs rest : List Node) (ps qs : List Part) → IsCut k c box
+    → IsTree (left_of k c box) (ls ++ (rs ++ rest)) ps (rs ++ rest) → IsTree (right_of k c box) (rs ++ rest) qs rest
+    → IsTree box (Split (k + 1) c ∷ ((ls ++ rs) ++ rest)) (ps ++ qs) rest
+split_tree box k c ls rs rest ps qs cut l r =
+    let place : k ≡ k + 1 - 1 = omega arith in
+    let left : IsTree (left_of k c box) ((ls ++ rs) ++ rest) ps (rs ++ rest) = rw append_assoc l in
+    split box (k + 1) c ((ls ++ rs) ++ rest) (rs ++ rest) rest ps qs (omega arith)
+    (subst (λ j. IsCut j c box) place cut)
+    (subst (λ j. IsTree (left_of j c box) ((ls ++ rs) ++ rest) ps (rs ++ rest)) place left)
+    (subst (λ j. IsTree (right_of j c box) (rs ++ rest) qs rest) place r)
+
+split_node : (kind : CertKind) (b : Block) (box : List Interval) (k c : ℕ) → length b.inputs ≤ 8 → IsBoxOf b box
+    → (at : IsHalvedAt box k c)
+    → c ≤ 255 → IsNode kind (length b.outputs) (Split (k + 1) c)
+split_node kind b box k c few is at small =
+    let inside = slice_get_within box k at.interval at.widest.is_at in
+    let count = is.count in
+    record { some = omega arith; few = omega arith; byte = small }
+
+pub grows_split : CutsHaveHalves
+    → (kind : CertKind) (b : Block) (h target : ℕ) (box : List Interval) (k c : ℕ) (old pushed mid new : Tree)
+    → length b.inputs ≤ 8
+    → IsBoxOf b box
+    → IsToCut kind b h target box k c → c ≤ 255
+    → pushed.nodes.items ≡ old.nodes.items ++ Split (k + 1) c ∷ [] → pushed.errors ≡ old.errors
+    → pushed.leaves ≡ old.leaves
+    → Grows kind b h target (left_of k c box) pushed mid → Grows kind b h target (right_of k c box) mid new
+    → Grows kind b h target box old new
+grows_split cuts kind b h target box k c old pushed mid new few is cuttable small nodes errors leaves l r =
+    let at = cuttable.halved in
+    let cut = (halves_of cuts box k c at).cut in
+    record {
+      added = Split (k + 1) c ∷ (l.added ++ r.added);
+      parts = l.parts ++ r.parts;
+      nodes = split_nodes old.nodes.items pushed.nodes.items mid.nodes.items new.nodes.items l.added r.added
+          (Split (k + 1) c) nodes l.nodes r.nodes;
+      halves = halved_split box k c old.leaves mid.leaves new.leaves l.added r.added cuttable
+          (subst (λ n. Halves kind b h target (left_of k c box) n l.added mid.leaves) leaves l.halves) r.halves;
+      tree = λ rest. split_tree box k c l.added r.added rest l.parts r.parts cut (l.tree (r.added ++ rest))
+          (r.tree rest);
+      good = All-cons (IsNode kind (length b.outputs)) (Split (k + 1) c) (l.added ++ r.added)
+          (split_node kind b box k c few is at small)
+          (All-append (IsNode kind (length b.outputs)) l.added r.added l.good r.good);
+      count = r.count ∙ l.count ∙ ap (λ (v : Vec ℕ). length v.items) errors;
+      errors = λ j x e. rises_on b h target (j + 1) x l.parts r.parts (slice_index old.errors.items j)
+          (slice_index mid.errors.items j) (slice_index new.errors.items j)
+          (subst (λ (v : Vec ℕ). RisesTo b h target (j + 1) x l.parts (slice_index v.items j)
+          (slice_index mid.errors.items j)) errors (l.errors j x e))
+          (r.errors j x e);
+    }

@@ -1,35 +1,215 @@
--- One box is halved.
-use Rattle.std.proofs.Common.{◌≡◌, ◌≢◌, ⊎_elim, ℕ, ◌+◌, ◌<◌, ◌≤◌, List, [], ◌∷◌, ◌++◌, length, map, replicate}
-use Rattle.std.proofs.Common.{Result, Ok, Err}
-use Rattle.std.proofs.Common.{Some, refl, sym, ap, ◌∙◌, subst, arith}
-use Rattle.std.proofs.lemmas.List.{length-replicate}
-use Rattle.std.proofs.lemmas.Option.{slice_get_within}
-use Rattle.std.specs.Global.{Vec}
-use Rattle.std.specs.Prelude.{OnOk, IfErr, IfSome, slice_get, slice_index}
-use Rattle.std.proofs.lemmas.Bool.{cases_lt}
-use Rattle.fz_list.proofs.Algebra.{some_at}
+-- The best leaves of a box, how one is halved, and cells that are out of reach.
+use Rattle.std.proofs.Common.{◌≡◌, ⊎_elim, ℕ, zero, suc, ◌+◌, ◌-◌, ◌<◌, ◌≤◌, List, [], ◌∷◌, ◌++◌, length, get_or}
+use Rattle.std.proofs.Common.{Option, Some, refl, sym, ap, ◌∙◌, subst, arith, ◌≢◌, map, replicate, Result, Ok, Err}
+use Rattle.std.proofs.lemmas.Option.{slice_get_within, get_or_from_slice_get, slice_get-get_or}
+use Rattle.std.proofs.{lemmas.List.Elements.All-append, lemmas.List.length-replicate, lemmas.Bool.cases_lt}
+use Rattle.std.proofs.Common.{None}
+use Rattle.std.specs.Prelude.{slice_get, slice_index, slice_set, All, IfSome, OnOk, IfErr}
+use Rattle.std.specs.{Option.option_map, Global.Vec}
 use Rattle.arrayvec.specs.ArrayVec.{ArrayVec}
-use Rattle.fuzzy_meaning.specs.declared.{block.Block.Block, block.Output.Output}
+use Rattle.fz_list.proofs.Algebra.{AreFilled, All-slice_get, some_at, slice_get-set_other, slice_get-set_same}
+use Rattle.fuzzy_meaning.specs.{declared.block.Output.Output, declared.block.Block.Block}
 use Rattle.fuzzy_meaning.specs.Blocks.{IsValid, output_at}
-use Rattle.error_bound.specs.{declared.boxes.Interval.Interval, Boxes.IsBoxOf}
-use Rattle.box_tree.specs.declared.cert.CertKind.{CertKind}
+use Rattle.error_bound.specs.{BestLeaves.IsBestBound, BestLeaves.of_leaf, BestLeaves.BestLeavesHold, Bounds.IsBound}
+use Rattle.error_bound.specs.{Tight.IsTightBound, Tight.IsTightCount, Tight.of_bound, declared.boxes.Interval.Interval}
+use Rattle.error_bound.specs.{Best.IsBest, Best.silent, Best.strong, Boxes.IsBoxOf, Boxes.IsBox, Boxes.LieIn}
 use Rattle.box_tree.specs.declared.cert.CertKind.TheVariants.{Named, Tight}
+use Rattle.box_tree.specs.declared.cert.Node.TheVariants.{Split, Leaf}
+use Rattle.box_tree.specs.{declared.cert.LeafForm.TheVariants.Pairs, declared.cert.CertKind.CertKind}
+use Rattle.box_tree.specs.{declared.cert.LeafForm.LeafForm, declared.cert.Node.Node, declared.cert.Cert.Cert}
+use Rattle.box_tree.specs.Certificates.{IsPair}
+use Rattle.cell_bounds.specs.CellBounds.{IsCellsBound, IsFirstCellAbove, cell_count, IsCellCount}
+use Rattle.cell_bounds.specs.{Claims.CountsAreLeast, Claims.IsCountAt, Claims.IsCompared, declared.claims.Claim.Claim}
+use Rattle.cell_bounds.specs.{declared.claims.Claim.TheVariants.Pair, Walks.AreAtMost, Cells.cell_of}
+use Rattle.cert_check.specs.BoxLaws.{CutsHaveHalves, LeavesAreAround, IsFormOf, IsNodeOf}
+use Rattle.cert_check.specs.{Trees.part_of, Trees.whole, Trees.left_of, Trees.right_of, Walks.cuts_of, Walks.AreRaised}
+use Rattle.cert_check.specs.Acceptance.{HasBound, claim_at}
+use Rattle.error_certifier.specs.Halving.{IsWithinTarget, IsFirstAbove, IsAbove, IsWidest, IsHalvedAt, middle_of}
+use Rattle.error_certifier.specs.Trees.{IsBestPair, AreBestPairs, AreTightBounds, IsFoundLeaf, IsTreeFor, IsSplit}
+use Rattle.error_certifier.specs.Laws.{IsComparable, IsLeastError, IsOutOfReach, SaysOutOfReach, CellsAreOutOfReach}
+use Rattle.error_certifier.specs.declared.certifier.NotReached.TheVariants.{Cell, LeafLimit, Memory}
+use Rattle.error_certifier.specs.Halving.{IsToCut, Stops, cell, limit, in_left, in_right, IsStuck}
+use Rattle.error_certifier.specs.{declared.certifier.NotReached.NotReached, declared.leaves.FoundLeaf.FoundLeaf}
+use Rattle.error_certifier.specs.{declared.halving.Tree.Tree, Trees.Grows}
+use Rattle.error_certifier.proofs.BoxLemmas.{whole_box, left_box, right_box, halves_fewer, middle_inside, cell_is}
+use Rattle.error_certifier.proofs.BoxLemmas.{one_cell, grows_leaf, grows_split, bytes_count, cell_small}
+use Rattle.error_bound.specs.declared.boxes.Leaf as the
 use Rattle.box_tree.specs.declared.cert.LeafForm.TheVariants as form
 use Rattle.cell_bounds.specs.declared.claims.Claim.TheVariants as claim
-use Rattle.cell_bounds.specs.{Cells.cell_of, Walks.AreAtMost}
-use Rattle.cell_bounds.specs.CellBounds.{IsCellsBound, IsFirstCellAbove, cell_count}
-use Rattle.box_tree.specs.declared.{cert.Node.Node, cert.Node.TheVariants.Split, cert.Node.TheVariants.Leaf}
-use Rattle.cert_check.specs.{BoxLaws.CutsHaveHalves, Walks.cuts_of, Walks.AreRaised}
-use Rattle.cert_check.specs.Trees.{whole, left_of, right_of}
-use Rattle.error_certifier.specs.declared.{certifier.NotReached.NotReached, halving.Tree.Tree}
-use Rattle.error_certifier.specs.declared.certifier.NotReached.TheVariants.{Cell, LeafLimit, Memory}
-use Rattle.error_certifier.specs.declared.leaves.FoundLeaf.{FoundLeaf}
-use Rattle.error_certifier.specs.Halving.{IsFirstAbove, IsAbove, IsWidest, IsHalvedAt, middle_of, IsToCut, Stops}
-use Rattle.error_certifier.specs.Halving.{cell, limit, in_left, in_right}
-use Rattle.error_certifier.specs.Trees.{IsTreeFor, AreTightBounds, IsFoundLeaf, IsSplit, Grows}
-use Rattle.error_certifier.proofs.BoxLemmas.{whole_box, left_box, right_box, halves_fewer, middle_inside, cell_is}
-use Rattle.error_certifier.proofs.BoxLemmas.{one_cell}
-use Rattle.error_certifier.proofs.{GrowLemmas.grows_leaf, GrowLemmas.grows_split, LeafLemmas.at_place}
+
+-- a best leaf is a pair of a certificate
+pub pair_of_best : (b : Block) (box : List Interval) (o : ℕ) (leaf : the.Leaf) → IsValid b → leaf.k ≤ 255
+    → IsBest b box o (Some leaf) → IsPair (leaf.rule, leaf.k)
+pair_of_best b box o _ valid small (silent h) =
+    record { rule = omega arith; part = omega arith; both = (λ _. refl, λ _. refl) }
+pair_of_best b box o _ valid small (strong n k quiet c first) =
+    let within = slice_get_within b.rules (n - 1) c.rule c.rule_is in
+    let few = valid.few_rules in
+    let from = c.from in
+    let some = c.some in
+    record { rule = omega arith; part = small; both = (λ z. absurd (omega arith), λ z. absurd (omega arith)) }
+
+pub IfSome-at : {X : Type 0} (P : X → Type 0) {q : Option X} {x : X} → q ≡ Some x → IfSome q P → P x
+IfSome-at P e h = subst (λ r. IfSome r P) e h
+
+-- what holds of the output of a number holds of the one at its place
+pub at_place : (b : Block) (k : ℕ) (x : Output) (P : Output → Type 0) → slice_get b.outputs k ≡ Some x
+    → IfSome (output_at b (k + 1)) P → P x
+at_place b k x P e h =
+    let place : k + 1 - 1 ≡ k = omega arith in
+    let at : output_at b (k + 1) ≡ Some x = subst (λ j. slice_get b.outputs j ≡ Some x) (sym place) e in
+    rw at at h
+
+-- ---- an item behind others
+
+slice_get-before : {X : Type 0} (xs : List X) (y : X) (k : ℕ) (x : X) → slice_get xs k ≡ Some x
+    → slice_get (xs ++ y ∷ []) k ≡ Some x
+slice_get-before [] y k x e = absurd (let z : ⊥ = cc in z)
+slice_get-before (w ∷ ws) y zero x e = e
+slice_get-before (w ∷ ws) y (suc k) x e = slice_get-before ws y k x e
+
+slice_get-last : {X : Type 0} (xs : List X) (y : X) → slice_get (xs ++ y ∷ []) (length xs) ≡ Some y
+slice_get-last [] y = refl
+slice_get-last (w ∷ ws) y = slice_get-last ws y
+
+module _ (b : Block) (h target : ℕ) (box : List Interval) (old new : List (ℕ × ℕ)) (bounds : List ℕ) (p : ℕ × ℕ)
+    (n o : ℕ) (pairs : new ≡ old ++ p ∷ []) (places : length bounds ≡ 4) (few : o < 4) where
+  abbrev raised : List ℕ
+  raised = slice_set bounds o n
+
+  pair_before : (k : ℕ) (x : Output) → k < o → IsBestPair b h target box k x old bounds
+      → IsBestPair b h target box k x new raised
+  pair_before k x l best = record {
+    pair = best.pair;
+    bound = best.bound;
+    pair_is = subst (λ (xs : List (ℕ × ℕ)). slice_get xs k ≡ Some best.pair) (sym pairs)
+        (slice_get-before old p k best.pair best.pair_is);
+    bound_is = slice_get-set_other bounds o k n l ∙ best.bound_is;
+    within = best.within;
+  }
+
+  pair_last : (x : Output) → length old ≡ o
+      → IsWithinTarget b h target box (o + 1) x (record { rule = p.0; k = p.1 }) n
+      → IsBestPair b h target box o x new raised
+  pair_last x ep within = record {
+    pair = p;
+    bound = n;
+    pair_is = subst (λ (xs : List (ℕ × ℕ)). slice_get xs o ≡ Some p) (sym pairs)
+        (subst (λ j. slice_get (old ++ p ∷ []) j ≡ Some p) ep (slice_get-last old p));
+    bound_is = slice_get-set_same bounds o n (omega arith);
+    within = within;
+  }
+
+  pub pairs_more : length old ≡ o
+      → ((k : ℕ) (x : Output) → k < o → slice_get b.outputs k ≡ Some x → IsBestPair b h target box k x old bounds)
+      → ((x : Output) → slice_get b.outputs o ≡ Some x
+      → IsWithinTarget b h target box (o + 1) x (record { rule = p.0; k = p.1 }) n)
+      → (k : ℕ) (x : Output) → k < o + 1 → slice_get b.outputs k ≡ Some x → IsBestPair b h target box k x new raised
+  pairs_more ep before here k x l e = ⊎_elim
+      (λ (g : k < o). pair_before k x g (before k x g e))
+      (λ (g : o ≤ k).
+      let same : o ≡ k = omega arith in
+      subst (λ j. IsBestPair b h target box j x new raised) same
+      (pair_last x ep (here x (subst (λ j. slice_get b.outputs j ≡ Some x) (sym same) e))))
+      (cases_lt k o)
+
+-- the outputs before are within the target, and the next is above it
+pub above_behind : (b : Block) (h target : ℕ) (box : List Interval) (pairs : List (ℕ × ℕ)) (bounds : List ℕ) (o n : ℕ)
+    → o < length b.outputs
+    → ((k : ℕ) (x : Output) → k < o → slice_get b.outputs k ≡ Some x → IsBestPair b h target box k x pairs bounds)
+    → target < n → ((x : Output) → slice_get b.outputs o ≡ Some x → IsBestBound b box (o + 1) x h n)
+    → IsFirstAbove Named b h target box o n
+above_behind b h target box pairs bounds o n inside before above here =
+    let x = some_at b.outputs o inside in
+    record {
+      output = x.0;
+      output_is = x.1;
+      bound = here x.0 x.1;
+      above = above;
+      before = λ k y l e.
+          let best = before k y l e in (
+            best.bound,
+            of_leaf (record { rule = best.pair.0; k = best.pair.1 }) best.bound best.within.best
+                best.within.bound,
+            best.within.within,
+          );
+    }
+
+pub pair_good : (pairs : List (ℕ × ℕ)) (p : ℕ × ℕ) → All IsPair pairs → IsPair p → All IsPair (pairs ++ p ∷ [])
+pair_good pairs p all one = All-append IsPair pairs (p ∷ []) all (λ k d l. first k d l)
+  where
+    first : (k : ℕ) (d : ℕ × ℕ) → k < length (p ∷ []) → IsPair (get_or (p ∷ []) k d)
+    first zero d l = one
+    first (suc k) d l = absurd (omega arith)
+
+-- ---- tight Bounds
+
+-- the tight Bound of the output at a place, within the target
+abbrev pub IsTightAt : Block → ℕ → ℕ → List Interval → ℕ → Output → ℕ → Type 0
+IsTightAt b h target box k x n = IsTightBound b box (k + 1) x h n × (n ≤ target)
+
+module _ (b : Block) (h target : ℕ) (box : List Interval) (bounds : List ℕ) (o : ℕ)
+    (before : AreFilled (IsTightAt b h target box) b.outputs bounds o) where
+  pub tight_above : (n : ℕ) → o < length b.outputs → target < n
+      → IfSome (output_at b (o + 1)) (λ x. IsTightCount b box (o + 1) x h n)
+      → IsFirstAbove Tight b h target box o n
+  tight_above n inside above here =
+      let x = some_at b.outputs o inside in
+      record {
+        output = x.0;
+        output_is = x.1;
+        bound = at_place b o x.0 (λ y. IsTightCount b box (o + 1) y h n) x.1 here;
+        above = above;
+        before = λ k y l e. let m = before k y l e in (m.0, of_bound m.2.0, m.2.1);
+      }
+
+  pub tight_all : length b.outputs ≤ o → AreTightBounds b h target box bounds
+  tight_all all k x e =
+      let inside = slice_get_within b.outputs k x e in
+      let m = before k x (omega (arith, inside)) e in
+      subst (λ n. IsTightAt b h target box k x n) (sym (get_or_from_slice_get bounds k m.0 0 m.1)) m.2
+
+-- ---- a leaf that names them
+module _ (hold : BestLeavesHold) (b : Block) (h target : ℕ) (box : List Interval) (pairs : ArrayVec (ℕ × ℕ))
+    (bounds : List ℕ) (best : AreBestPairs b h target box pairs.items bounds) where
+  pub named_found : IsFoundLeaf Named b h target box
+      (record { form = Pairs pairs; bounds = bounds })
+  named_found = record {
+    settled = record {
+      count = best.count;
+      each = λ k x e. let p = best.each k x e in (p.pair, p.bound, p.pair_is, p.within);
+    };
+    good = (best.count, best.good);
+    bounds = has_bound;
+    within = λ k l.
+        let x = some_at b.outputs k l in
+        let p = best.each k x.0 x.1 in
+        let at = p.within.within in
+        let same = get_or_from_slice_get bounds k p.bound 0 p.bound_is in
+        omega (arith, at, same);
+  }
+    where
+      has_bound : (k : ℕ) (x : Output) → slice_get b.outputs k ≡ Some x
+          → HasBound b (k + 1) x h (part_of box (Pairs pairs)) (slice_index bounds k)
+      has_bound k x e =
+          let p = best.each k x e in
+          let leaf : the.Leaf = record { rule = p.pair.0; k = p.pair.1 } in
+          let small = (All-slice_get IsPair pairs.items k p.pair best.good p.pair_is).part in
+          let place : k ≡ k + 1 - 1 = omega arith in
+          let same = get_or_from_slice_get bounds k p.bound 0 p.bound_is in
+          let at : slice_get pairs.items (k + 1 - 1) ≡ Some p.pair =
+          subst (λ j. slice_get pairs.items j ≡ Some p.pair) place p.pair_is in
+          record {
+            claim = Pair leaf;
+            claim_is = ap (option_map (λ (q : ℕ × ℕ). Pair (record { rule = q.0; k = q.1 }))) at;
+            allowed = tt;
+            bound_is = (
+              (hold b box (k + 1) leaf small p.within.best).0,
+              subst (λ n. IsBound b box (k + 1) x h leaf n) (sym same) p.within.bound,
+            );
+          }
+
+-- ---- one box is halved
 
 on_ok : {T E P Q : Type 0} (r : Result T E) → OnOk r P → (P → Q) → OnOk r Q
 on_ok (Ok x) p f = f p
@@ -45,12 +225,6 @@ if_err P Q (Ok x) p f = tt
 if_err P Q (Err e) p f = f e p
 
 -- ---- places
-
--- of the first output above the target
-pub IsFirstAbove-place : {b : Block} {h target : ℕ} {box : List Interval} {k n : ℕ} → IsValid b
-    → IsFirstAbove Named b h target box k n → k < 4
-IsFirstAbove-place {b} {h} {target} {box} {k} valid first =
-    omega (arith, slice_get_within b.outputs k first.output first.output_is, valid.few_outputs)
 
 -- of the widest interval
 pub IsWidest-place : {b : Block} {box : List Interval} {k : ℕ} {v : Interval} → IsValid b → IsBoxOf b box
@@ -120,19 +294,6 @@ pub named_stuck : {b : Block} {h target : ℕ} {box : List Interval} {k : ℕ} {
 named_stuck {b} {h} {target} {box} {k} {v} {output} {above} is widest single n bytes low first =
     cell box n bytes (output + 1) above
     (cell_is box k v is.intervals widest single ∙ ap cell_of (sym low), output, refl, first)
-
-pub named_split : {b : Block} {h target : ℕ} {box : List Interval} {k : ℕ} {v : Interval} {output above : ℕ}
-    → IsBoxOf b box → IsWidest box k v → (v.from ≡ v.to → ⊥) → IsFirstAbove Named b h target box output above
-    → IsSplit Named b h target box
-named_split {b} {h} {target} {box} {k} {v} {output} {above} is widest apart first = record {
-  above = (output, above, first);
-  large = tt;
-  wide = λ j u other.
-      let order = (is.intervals.some k v widest.is_at).0 in
-      let most = other.most k v widest.is_at in
-      let last = (is.intervals.some j u other.is_at).0 in
-      omega (arith, apart);
-}
 
 pub cells_stuck : (b : Block) (h target : ℕ) (box : List Interval) → IsAbove Tight b h target box
     → cell_count box ≤ 64 → (bytes : ArrayVec ℕ) (o n : ℕ)
@@ -238,3 +399,89 @@ tree_for a b tree n e zeros count leaves = record {
   errors = ap length zeros ∙ length-replicate n 0 ∙ count ∙ ap (λ (y : Block). length y.outputs) (sym e);
   leaves = omega arith;
 }
+
+-- ---- a cell above the target is above it for every certificate that it is compared with
+
+at_most : (n m e : ℕ) → n ≤ m → m ≤ e → n ≤ e
+at_most n m e h k = omega arith
+
+-- what a line of pairs says is compared
+pair_compared : (q : Option (ℕ × ℕ)) (c : Claim)
+    → option_map (λ p. claim.Pair (record { rule = p.0; k = p.1 })) q ≡ Some c → IsCompared Named c
+pair_compared None c e = absurd (let z : ⊥ = cc in z)
+pair_compared (Some p) c e =
+    let same : claim.Pair (record { rule = p.0; k = p.1 }) ≡ c = cc in
+    subst (IsCompared Named) same tt
+
+named_compared : (f : LeafForm) (k : ℕ) (c : Claim) → IsFormOf Named f → claim_at f k ≡ Some c → IsCompared Named c
+named_compared (form.Pairs pairs) k c named at = pair_compared (slice_get pairs.items k) c at
+named_compared form.Tight k c named at = absurd named
+named_compared form.Cells k c named at = absurd named
+
+-- the bytes of a box are bytes
+lies_small : (box : List Interval) (bytes : List ℕ) → IsBox box → LieIn box bytes → All (λ n. n ≤ 255) bytes
+lies_small box bytes is lie k d l =
+    let count = lie.count in
+    let v = some_at box k (omega (arith, l, count)) in
+    let n = get_or bytes k d in
+    let order = is.some k v.0 v.1 in
+    let within = lie.within k v.0 n v.1 (slice_get-get_or bytes k d l) in
+    let top = order.1 in
+    let to = within.1 in
+    omega arith
+
+module _ (around : LeavesAreAround) (least : CountsAreLeast) (cuts : CutsHaveHalves) (b : Block) (h target : ℕ)
+    (valid : IsValid b) (parts : 1 ≤ h) where
+  compared : (k : CertKind) (cert : Cert) (f : LeafForm) (j : ℕ) (c : Claim) → IsComparable k cert
+      → ((i : CertKind) → All (IsNodeOf i) cert.nodes → IsFormOf i f) → claim_at f j ≡ Some c → IsCompared k c
+  compared Named cert f j c comparable of_kind at = named_compared f j c (of_kind Named comparable) at
+  compared Tight cert f j c comparable of_kind at = tt
+
+  -- no leaf around a cell has a smaller Bound than its count
+  least_error : (k : CertKind) (bytes : List ℕ) (o : ℕ) (x : Output) (n : ℕ) → length bytes ≡ length b.inputs
+      → All (λ m. m ≤ 255) bytes → 1 ≤ o → output_at b o ≡ Some x → IsCountAt k b bytes o x h n
+      → IsLeastError k b h o n
+  least_error k bytes o x n count small from out at cert errors e comparable accepted error_is =
+      let l = around b h cert errors o x e bytes accepted from out error_is count small in
+      let claims = compared k cert l.form (o - 1) l.claim comparable l.of_kind l.claim_is in
+      let lower = least k b bytes l.box o x h l.claim n l.bound valid out parts l.count l.is_box l.around claims at
+      l.bound_is in
+      at_most n l.bound e lower l.within
+
+  stuck_least : (k : CertKind) (box : List Interval) (bytes : List ℕ) (o n : ℕ) → IsBoxOf b box
+      → IsStuck k b h target box bytes o n → IsOutOfReach k b h target o n
+  stuck_least Named box bytes o n is (single, k, number, a) =
+      let at : IsBoxOf b (cell_of bytes) = subst (IsBoxOf b) single is in
+      let place : k ≡ k + 1 - 1 = omega arith in
+      let x = a.output in
+      let out : output_at b (k + 1) ≡ Some x = subst (λ j. slice_get b.outputs j ≡ Some x) place a.output_is in
+      let count : IsCountAt Named b bytes (k + 1) x h n =
+      subst (λ (y : List Interval). IsBestBound b y (k + 1) x h n) single a.bound in
+      subst (λ j. IsOutOfReach Named b h target j n) (sym number)
+      (record {
+        above = a.above;
+        least = least_error Named bytes (k + 1) x n (bytes_count b bytes at) (cell_small bytes at.intervals)
+            (omega arith) out count;
+      })
+  stuck_least Tight box bytes o n is (above, few, a) =
+      let from = a.from in
+      let to = a.to in
+      let x = some_at b.outputs (o - 1) (omega arith) in
+      record {
+        above = a.above;
+        least = least_error Tight bytes o x.0 n (a.inside.count ∙ is.count) (lies_small box bytes is.intervals a.inside)
+            a.from x.1 (IfSome-at (λ y. IsCellCount b (cell_of bytes) o y h n) x.1 a.count);
+      }
+
+  out_of_reach : (k : CertKind) (box : List Interval) (n : ℕ) (stop : NotReached) → IsBoxOf b box
+      → Stops k b h target box n stop → SaysOutOfReach k b h target stop
+  out_of_reach k _ _ _ is (cell box n bytes o above stuck) = stuck_least k box bytes.items o above is stuck
+  out_of_reach k _ _ _ is (limit box n form w many) = tt
+  out_of_reach k _ _ _ is (in_left box i c n stop cut inner) =
+      out_of_reach k (left_of i c box) n stop (left_box cuts b box i c cut.halved is) inner
+  out_of_reach k _ _ _ is (in_right box i c n m left stop cut l inner) =
+      out_of_reach k (right_of i c box) m stop (right_box cuts b box i c cut.halved is) inner
+
+pub cells_out_of_reach : LeavesAreAround → CountsAreLeast → CutsHaveHalves → CellsAreOutOfReach
+cells_out_of_reach around least cuts k b h target stop valid parts stops =
+    out_of_reach around least cuts b h target valid parts k (whole b) 0 stop (whole_box b) stops

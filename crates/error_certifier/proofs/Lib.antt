@@ -1,7 +1,4 @@
 pub mod BoxLemmas
-pub mod LeafLemmas
-pub mod GrowLemmas
 pub mod HalveLemmas
 pub mod CertLemmas
 pub mod OneAnswer
-pub mod OutOfReach

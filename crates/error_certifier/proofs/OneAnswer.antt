@@ -1,33 +1,31 @@
 -- Halving has one answer.
-use Rattle.std.proofs.Common.{◌≡◌, ⊎_elim, inl, inr, ℕ, zero, suc, ◌+◌, ◌-◌, ◌<◌, ◌≤◌, max, List, [], ◌∷◌, ◌++◌, length}
-use Rattle.std.proofs.Common.{map, Some, Result, Ok, Err, refl, sym, ap, ap₂, ◌∙◌, subst, arith}
-use Rattle.std.specs.Prelude.{◌⊎◌, slice_get}
+use Rattle.std.proofs.Common.{◌≡◌, ⊎_elim, inl, inr, ℕ, zero, suc, ◌+◌, ◌-◌, ◌<◌, ◌≤◌, max, List, [], ◌∷◌, ◌++◌}
+use Rattle.std.proofs.Common.{length, map, Some, Result, Ok, Err, refl, sym, ap, ap₂, ◌∙◌, subst, arith}
 use Rattle.std.proofs.lemmas.Bool.{cases_lt}
+use Rattle.std.specs.Prelude.{◌⊎◌, slice_get}
 use Rattle.arrayvec.specs.ArrayVec.{ArrayVec}
 use Rattle.fz_list.proofs.Algebra.{some_at}
-use Rattle.fuzzy_meaning.specs.declared.{block.Block.Block, block.Output.Output}
+use Rattle.fuzzy_meaning.specs.{declared.block.Output.Output, declared.block.Block.Block}
 use Rattle.fuzzy_meaning.specs.Blocks.{IsValid, output_at}
-use Rattle.error_bound.specs.declared.boxes.Interval.{Interval}
-use Rattle.error_bound.specs.declared.boxes.Leaf as the
-use Rattle.error_bound.specs.{Boxes.IsBoxOf, BestLeaves.of_leaf, BestLeaves.BestLeavesAreOne, Tight.of_bound}
-use Rattle.box_tree.specs.declared.{cert.CertKind.CertKind, cert.LeafForm.LeafForm}
+use Rattle.error_bound.specs.{BestLeaves.of_leaf, BestLeaves.BestLeavesAreOne, declared.boxes.Interval.Interval}
+use Rattle.error_bound.specs.{Tight.of_bound, Boxes.IsBoxOf}
 use Rattle.box_tree.specs.declared.cert.CertKind.TheVariants.{Named, Tight}
-use Rattle.box_tree.specs.declared.cert.LeafForm.TheVariants as form
-use Rattle.box_tree.specs.declared.{cert.Node.Node, cert.Cert.Cert}
 use Rattle.box_tree.specs.declared.cert.Node.TheVariants.{Split, Leaf}
-use Rattle.cell_bounds.specs.{Cells.cell_of, Claims.IsBoxCount, Claims.BoxCountsAreOne}
+use Rattle.box_tree.specs.{declared.cert.CertKind.CertKind, declared.cert.LeafForm.LeafForm, declared.cert.Node.Node}
+use Rattle.box_tree.specs.declared.cert.Cert.{Cert}
 use Rattle.cell_bounds.specs.CellBounds.{IsBefore, IsCellCount, IsCellWithin, IsFirstCellAbove, CellCountsAreOne}
-use Rattle.cell_bounds.specs.CellBounds.{of_none, of_bound as of_cell_bound}
-use Rattle.cert_check.specs.Trees.{whole, left_of, right_of, IsTree}
-use Rattle.cert_check.specs.{Acceptance.IsAccepted, Laws.ErrorsAreDetermined, BoxLaws.CutsHaveHalves}
-use Rattle.error_certifier.specs.declared.{certifier.NotReached.NotReached, certifier.NotReached.TheVariants.Cell}
+use Rattle.cell_bounds.specs.{CellBounds.of_none, CellBounds.of_bound as of_cell_bound, Cells.cell_of}
+use Rattle.cell_bounds.specs.Claims.{IsBoxCount, BoxCountsAreOne}
+use Rattle.cert_check.specs.{Trees.whole, Trees.left_of, Trees.right_of, Trees.IsTree, Laws.ErrorsAreDetermined}
+use Rattle.cert_check.specs.{BoxLaws.CutsHaveHalves, Acceptance.IsAccepted}
 use Rattle.error_certifier.specs.Halving.{IsFirstAbove, IsAbove, AreWithinTarget, IsTightWithin, AreCellsWithin}
 use Rattle.error_certifier.specs.Halving.{IsSettled, IsStuck, IsToCut, Halves, leaf, split, Stops, cell, limit}
-use Rattle.error_certifier.specs.Halving.{in_left, in_right}
-use Rattle.error_certifier.specs.Laws.{AnswersAreOne}
+use Rattle.error_certifier.specs.{declared.certifier.NotReached.TheVariants.Cell, Halving.in_left, Halving.in_right}
+use Rattle.error_certifier.specs.{declared.certifier.NotReached.NotReached, Laws.AnswersAreOne}
 use Rattle.error_certifier.proofs.BoxLemmas.{same_items, left_box, right_box, whole_box, one_halving, cell_bytes}
-use Rattle.error_certifier.proofs.BoxLemmas.{cell_not_halved}
-use Rattle.error_certifier.proofs.LeafLemmas.{IfSome-at}
+use Rattle.error_certifier.proofs.{BoxLemmas.cell_not_halved, HalveLemmas.IfSome-at}
+use Rattle.error_bound.specs.declared.boxes.Leaf as the
+use Rattle.box_tree.specs.declared.cert.LeafForm.TheVariants as form
 
 abbrev lows : List Interval → List ℕ
 lows box = map (λ (v : Interval). v.from) box

@@ -1,4 +1,4 @@
-use Rattle.error_certifier.proofs.OutOfReach.{cells_out_of_reach}
+use Rattle.error_certifier.proofs.HalveLemmas.{cells_out_of_reach}
 use Rattle.error_certifier.proofs.laws.cells_are_out_of_reach.Goals as goal
 
 pub returns : goal.returns

@@ -1,9 +1,8 @@
-use Rattle.std.proofs.Common.{ℕ, List, arith, subst, sym}
-use Rattle.std.specs.Prelude.{All}
+use Rattle.std.proofs.{Common.ℕ, Common.List, Common.arith, Common.subst, Common.sym, lemmas.Option.slice_get_within}
 use Rattle.std.proofs.lemmas.List.{length-set}
-use Rattle.std.proofs.lemmas.Option.{slice_get_within}
+use Rattle.std.specs.Prelude.{All}
 use Rattle.box_tree.specs.Certificates.{IsPair}
-use Rattle.error_certifier.proofs.LeafLemmas.{pairs_more, above_behind, pair_good, named_found}
+use Rattle.error_certifier.proofs.HalveLemmas.{pairs_more, above_behind, pair_good, named_found}
 use Rattle.error_certifier.proofs.leaves.best_leaf.Goals as goal
 
 pub returns-in-Err-clause-above : goal.returns-in-Err-clause-above

@@ -1,7 +1,7 @@
 use Rattle.std.proofs.Common.{◌≤◌, ◌+◌, arith}
 use Rattle.fuzzy_meaning.specs.declared.block.Output.{Output}
 use Rattle.error_bound.specs.{BestLeaves.of_leaf, BestLeaves.of_none, Bounds.IsBound}
-use Rattle.error_certifier.proofs.LeafLemmas.{pair_of_best, at_place}
+use Rattle.error_certifier.proofs.HalveLemmas.{pair_of_best, at_place}
 use Rattle.error_certifier.proofs.leaves.best_within.Goals as goal
 
 pub returns-in_default-clause-bound : goal.returns-in_default-clause-bound

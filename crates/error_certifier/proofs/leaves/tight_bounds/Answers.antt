@@ -1,9 +1,8 @@
-use Rattle.std.proofs.Common.{◌+◌, arith}
-use Rattle.std.proofs.lemmas.List.{length-set}
+use Rattle.std.proofs.{lemmas.List.length-set, Common.◌+◌, Common.arith}
 use Rattle.fz_list.proofs.Algebra.{AreFilled-more}
 use Rattle.fuzzy_meaning.specs.declared.block.Output.{Output}
 use Rattle.error_bound.specs.Tight.{IsTightBound}
-use Rattle.error_certifier.proofs.LeafLemmas.{IsTightAt, at_place, tight_above, tight_all}
+use Rattle.error_certifier.proofs.HalveLemmas.{IsTightAt, at_place, tight_above, tight_all}
 use Rattle.error_certifier.proofs.leaves.tight_bounds.Goals as goal
 
 pub returns-in-Err-clause-above : goal.returns-in-Err-clause-above

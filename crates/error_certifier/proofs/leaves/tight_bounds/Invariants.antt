@@ -1,6 +1,6 @@
 use Rattle.std.proofs.Common.{◌≡◌, length}
 use Rattle.fz_list.proofs.Algebra.{AreFilled}
-use Rattle.error_certifier.proofs.LeafLemmas.{IsTightAt}
+use Rattle.error_certifier.proofs.HalveLemmas.{IsTightAt}
 use Rattle.error_certifier.proofs.leaves.tight_bounds.Given as goal
 
 abbrev pub invariant-loop-o : goal.invariant-loop-o
