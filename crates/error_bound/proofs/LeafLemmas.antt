@@ -26,8 +26,7 @@ use Rattle.error_bound.specs.{Ratios.value_of, Ratios.IsRatio, declared.ends.End
 use Rattle.fz_num.specs.{Fractions.Fraction, Fractions.over, Fractions.AtMost, Fractions.IsBelow, Decimals.distance}
 use Rattle.error_bound.proofs.RuleLemmas.{silent_same, none_same, strong_same, part_same, rule_low_proper}
 use Rattle.error_bound.proofs.Nested.{bound_strong, bound_silent, leaves_hold_inside, bounds_fall, bounds_unique}
-use Rattle.error_bound.proofs.{ListLemmas.slice_get-read, RuleLemmas.bytes_ordered, Nested.moved, Nested.ratio-mono}
-use Rattle.error_bound.proofs.Literals.{term_errors-are}
+use Rattle.error_bound.proofs.{RuleLemmas.bytes_ordered, Nested.moved, Nested.ratio-mono, Literals.term_errors-are}
 use Rattle.fz_num.proofs.Algebra.{AtMost-trans}
 use Rattle.error_bound.specs.declared.boxes.Leaf as the
 

@@ -32,10 +32,7 @@ module _ {A : Type 0} {Le : A → A → Type 0} {minus : A → A} {j : Joins A} 
   narrower = evaluate-alike (IsNarrower Le)
       (record {
         none = λ or. record { low = m.none or; high = m.none or };
-        join = λ or s r q p h k. record {
-          low = m.join or _ _ _ _ h.low k.low;
-          high = m.join or _ _ _ _ h.high k.high;
-        };
+        join = λ or s r q p h k. record { low = m.join or _ _ _ _ h.low k.low; high = m.join or _ _ _ _ h.high k.high };
       })
       (λ s r h. record { low = m.opposite _ _ h.high; high = m.opposite _ _ h.low })
 
@@ -44,10 +41,7 @@ module _ {A : Type 0} {Le : A → A → Type 0} {minus : A → A} {j : Joins A} 
   between = evaluate-alike (IsBetween Le)
       (record {
         none = λ or. record { low = m.none or; high = m.none or };
-        join = λ or s r a b h k. record {
-          low = m.join or _ _ _ _ h.low k.low;
-          high = m.join or _ _ _ _ h.high k.high;
-        };
+        join = λ or s r a b h k. record { low = m.join or _ _ _ _ h.low k.low; high = m.join or _ _ _ _ h.high k.high };
       })
       (λ s a h. record { low = m.opposite _ _ h.high; high = m.opposite _ _ h.low })
 

@@ -1,10 +1,10 @@
-use Rattle.std.proofs.Common.{◌-◌, inl, inr, subst, rules}
+use Rattle.std.proofs.Common.{inl, inr, subst, rules}
 use Rattle.fuzzy_meaning.specs.Blocks.{IsValidCondition}
 use Rattle.error_bound.specs.Reaches.{IsEndOfCondition}
-use Rattle.error_bound.proofs.{ListLemmas.part_asks, ListLemmas.parts_ask}
-use Rattle.error_bound.proofs.FlatteningLemmas.{end_from, end_from_none}
-use Rattle.error_bound.proofs.ends.+ends.Goals as goal
 use Rattle.error_bound.proofs.ends.+ends.Goals.{end_among-in-Some, end_among-in-None}
+use Rattle.error_bound.proofs.FlatteningLemmas.{end_from, end_from_none}
+use Rattle.error_bound.proofs.ListLemmas.{part_asks, parts_ask}
+use Rattle.error_bound.proofs.ends.+ends.Goals as goal
 
 pub end_among-end_of_literal-end-requires-clause-literal : goal.end_among-end_of_literal-end-requires-clause-literal
 end_among-end_of_literal-end-requires-clause-literal t c =

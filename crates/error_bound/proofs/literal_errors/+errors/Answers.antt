@@ -1,6 +1,6 @@
-use Rattle.std.proofs.Common.{◌≡◌, ℕ, Bool, true, false, ◌-◌, max, inl, inr, refl, sym, ap, ◌∙◌, subst, rules}
-use Rattle.fuzzy_meaning.specs.{declared.block.Block.Block, Blocks.IsValidCondition, Trees.tree}
+use Rattle.std.proofs.Common.{◌≡◌, ℕ, Bool, true, false, max, inl, inr, refl, sym, ap, ◌∙◌, subst, rules}
 use Rattle.fuzzy_meaning.specs.Conditions.{Condition, is, all, any, Conditions, end, also, conditions, under}
+use Rattle.fuzzy_meaning.specs.{declared.block.Block.Block, Blocks.IsValidCondition, Trees.tree}
 use Rattle.error_bound.specs.{CellErrors.term_errors, Spans.greatest_literal}
 use Rattle.error_bound.proofs.ListLemmas.{part_asks, parts_ask}
 use Rattle.error_bound.proofs.literal_errors.+errors.Goals as goal

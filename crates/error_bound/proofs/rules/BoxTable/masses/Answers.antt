@@ -101,29 +101,28 @@ loop-n-preserved c =
           c.loop-n.errors here (λ one. sym (none one).error) before.errors;
     }
 
-pub returns-clause-masses : goal.returns-clause-masses
-returns-clause-masses c =
-    let all = c.as_slice-rules.ensures in
-    let i = c.loop-n.invariant in
-    let none : c.loop-n.n ≡ 0 = omega (arith, c.loop-n-test.false) in
-    let whole : drop c.loop-n.n c.as_slice-rules.result.now ≡ c.args.block.now.rules =
-    ap (λ n. drop n c.as_slice-rules.result.now) none ∙ all in
-    record {
-      lows = rw whole at i.lows;
-      highs = rw whole at i.highs;
-      byte_lows = rw whole at i.byte_lows;
-      byte_highs = rw whole at i.byte_highs;
-      errors = rw whole at i.errors;
-    }
-
-pub returns-clause-ordered : goal.returns-clause-ordered
-returns-clause-ordered c = λ t few.
+pub returns : goal.returns
+returns c =
     let b = c.args.block.now in
     let box = c.args.self.now.bytes.0.items in
-    let rules = drop c.loop-n.n c.as_slice-rules.result.now in
     let i = c.loop-n.invariant in
+    let none : c.loop-n.n ≡ 0 = omega (arith, c.loop-n-test.false) in
+    let whole : drop c.loop-n.n c.as_slice-rules.result.now ≡ b.rules =
+    ap (λ n. drop n c.as_slice-rules.result.now) none ∙ c.as_slice-rules.ensures in
     let table = c.requires.table.box_is in
-    let low = i.lows.each t few in
-    let high = i.highs.each t few in
-    let le = ends_ordered b box c.requires.block table.count table.intervals c.args.out (t + 1) rules in
-    omega arith
+    record {
+      masses = record {
+        lows = rw whole at i.lows;
+        highs = rw whole at i.highs;
+        byte_lows = rw whole at i.byte_lows;
+        byte_highs = rw whole at i.byte_highs;
+        errors = rw whole at i.errors;
+      };
+      ordered = λ t few. omega (
+        arith,
+        i.lows.each t few,
+        i.highs.each t few,
+        ends_ordered b box c.requires.block
+            table.count table.intervals c.args.out (t + 1) (drop c.loop-n.n c.as_slice-rules.result.now),
+      );
+    }
