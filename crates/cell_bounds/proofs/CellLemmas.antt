@@ -21,13 +21,12 @@ use Rattle.error_bound.specs.MassRanges.{ranges, answer_at, rest_of, ranges_at, 
 use Rattle.error_bound.specs.{TightLaws.TightBoundsAreOne, TightLaws.TightBoundsAreSmall, Tight.of_bound as count_of}
 use Rattle.error_bound.specs.{Spans.Span, Spans.only, Spans.reversed, Spans.spans, Spans.byte_span, Leaves.Holds}
 use Rattle.error_bound.specs.{declared.boxes.Interval.Interval, Boxes.greatest_from, Boxes.IsBoxOf, Best.silent_leaf}
-use Rattle.cell_error.specs.Errors.{Covers, IsRange, IsCellError, CoveredMassesHaveErrors}
-use Rattle.cell_error.specs.{declared.ranges.MassRange.MassRange, declared.ranges.Answer.Answer}
+use Rattle.cell_error.specs.{Errors.Covers, Errors.IsRange, Errors.IsCellError, declared.ranges.MassRange.MassRange}
+use Rattle.cell_error.specs.declared.ranges.Answer.{Answer}
 use Rattle.cell_bounds.specs.Cells.{unsure, silent, ErrorsOnCellsAreOne, UnsureCellsHaveNone, IsErrorOnCell, IsUnsure}
 use Rattle.cell_bounds.specs.CellBounds.{HasCellBound, of_tight, of_error, IsCellBound}
 use Rattle.cell_bounds.specs.Cells.{IsCell, mass_sum, dot_sum, answer_by}
-use Rattle.cell_bounds.specs.CellMasses.{AreCellMasses, terms_of, AreFit}
-use Rattle.cell_bounds.specs.declared.masses.CellMasses.{CellMasses}
+use Rattle.cell_bounds.specs.{declared.masses.CellMasses.CellMasses, CellMasses.AreCellMasses, CellMasses.terms_of}
 use Rattle.fz_list.proofs.Algebra.{All-none, All-cons, some_at}
 use Rattle.fz_num.specs.{declared.dec.Dec.Dec, Decimals.distance}
 use Rattle.fuzzy_meaning.proofs.Algebra.{evaluate-alike}

@@ -1,9 +1,7 @@
-use Rattle.std.proofs.Common.{◌≡◌, ℕ, ◌+◌, ◌-◌, ◌<◌, ◌≤◌, List, length, take, get_or, Some, sym, subst, ap, ◌∙◌, arith}
-use Rattle.std.proofs.lemmas.Option.{slice_get-get_or}
+use Rattle.std.proofs.Common.{◌≡◌, ℕ, ◌+◌, ◌≤◌, List, length, take, sym, subst, ◌∙◌, arith}
 use Rattle.std.specs.Prelude.{All, slice_index}
 use Rattle.fz_num.specs.Decimals.{distance}
-use Rattle.fuzzy_meaning.specs.{Blocks.IsValid, Blocks.IsValidOutput, Blocks.output_at, declared.block.Output.Output}
-use Rattle.fuzzy_meaning.specs.declared.block.Block.{Block}
+use Rattle.fuzzy_meaning.specs.{declared.block.Output.Output, declared.block.Block.Block}
 use Rattle.cell_error.specs.{declared.ranges.MassRange.MassRange, Errors.IsRange}
 use Rattle.error_bound.specs.{declared.boxes.Interval.Interval, declared.tight.Masses.Masses}
 use Rattle.error_bound.specs.{MassRanges.ranges_at, MassRanges.ranges, Tight.low_of, Tight.high_of, Masses.AreMasses}
