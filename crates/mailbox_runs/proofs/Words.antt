@@ -18,8 +18,8 @@ pub use Rattle.mailbox_runs.specs.UninterruptedTurns.{MailboxRunsTurns, TurnsHav
 pub use Rattle.mailbox_runs.specs.UsedLaws.{PlainStepLaws, Stepping, TakingLaws, TurnLaws, Writing}
 pub use Rattle.run_law.specs.Forms.{Ran, Taking, before_rest, is_empty, one_if, put_take, taken, told}
 pub use Rattle.run_law.specs.Soundness.{AllGood, AllSimulate, Ascend, Before}
-pub use Rattle.run_law.specs.Uninterrupted.{frames_after, has_moment, is_inside, is_new, kind_by, resumed_of}
-pub use Rattle.run_law.specs.Uninterrupted.{state_by, stepped, uninterrupted}
+pub use Rattle.run_law.specs.Uninterrupted.{counted, frames_after, has_moment, is_inside, is_new, kind_by}
+pub use Rattle.run_law.specs.Uninterrupted.{resumed_of, state_by, stepped, uninterrupted}
 pub use Rattle.std.proofs.Common.{All, Bool, List, None, Ok, Option, Result, Some, [], ap, append-nil, append_assoc}
 pub use Rattle.std.proofs.Common.{ap₂, arith, drop, false, get_or, inl, inr, length, length-append, map, max, min}
 pub use Rattle.std.proofs.Common.{nat_le, nat_lt, not, refl, set, subst, suc, sym, take, true, zero, ℕ, ◌&&◌, ◌*◌}
@@ -56,4 +56,4 @@ pub use Rattle.std.proofs.{lemmas.List.Elements.All-cons, lemmas.List.map-append
 pub use Rattle.std.specs.{Prelude.if◌then◌else◌, Prelude.slice_index, Prelude.◌||◌}
 unfoldable pub use Rattle.eval_code.specs.{Bounds.steps_by}
 unfoldable pub use Rattle.mailbox_runs.specs.{Runs.turns_from}
-unfoldable pub use Rattle.run_law.specs.{Forms.run_from, Forms.takes, Uninterrupted.counted}
+unfoldable pub use Rattle.run_law.specs.Forms.{run_from, takes}
