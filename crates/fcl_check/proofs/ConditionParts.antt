@@ -1,15 +1,15 @@
 -- An AND or an OR with its parts: what it comes to, that they are smaller, and which names they have.
-use Rattle.std.proofs.Common.{◌≡◌, ℕ, zero, suc, ◌+◌, ◌<◌, ◌≤◌, Bool, true, false, List, [], ◌∷◌, ◌++◌, Option}
-use Rattle.std.proofs.Common.{get_or, length, map, take, refl, sym, ap, subst, ◌∙◌, arith}
-use Rattle.std.proofs.lemmas.{Bool.eqb-true, Bool.eqb-false, List.map-append, List.take_all, Grind.flat_map-append}
+use Rattle.fcl_check.proofs.Words.{[], ◌++◌, ◌+◌, ◌<◌, ◌∙◌, ◌∷◌, ◌≡◌, ◌≤◌, AllByRecursion, and_condition, and_of}
+use Rattle.fcl_check.proofs.Words.{and_pairs, ands_conditions, ands_pairs, ap, arith, Bool, Condition, false}
+use Rattle.fcl_check.proofs.Words.{flat_map, flat_map-append, get_or, length, List, map, map-append, Name}
+use Rattle.fcl_check.proofs.Words.{not_condition, not_pairs, nots_conditions, nots_pairs, Option, option_or}
+use Rattle.fcl_check.proofs.Words.{or_condition, or_of, or_pairs, Pair, refl, subst, suc, sym, take, take_all, TAnd}
+use Rattle.fcl_check.proofs.Words.{TNot, TOr, true, zero, ℕ}
+use Rattle.fuzzy_meaning.specs.Conditions.{Conditions, all, also, any, conditions}
+use Rattle.std.proofs.{lemmas.Bool.eqb-true, lemmas.Bool.eqb-false}
+use Rattle.fcl_syntax.specs.{declared.tree.Operand.Operand}
 use Rattle.std.proofs.Math.Dec.{eqb}
-use Rattle.std.specs.{List.AllByRecursion, List.flat_map, Option.option_or}
-use Rattle.fcl_syntax.specs.declared.tree.{Name.Name, Operand.Operand}
-use Rattle.fuzzy_meaning.specs.Conditions.{Condition, Conditions, all, also, any, conditions}
-use Rattle.fcl_syntax.specs.Grammar.{TNot, TAnd, TOr, and_of, or_of}
 use Rattle.fcl_syntax.specs.Conditions.{nots_of, ands_of, not_size, nots_size, and_size, ands_size, or_size}
-use Rattle.fcl_check.specs.Faults.{Pair, and_pairs, ands_pairs, not_pairs, nots_pairs, or_pairs}
-use Rattle.fcl_check.specs.Loaded.{not_condition, nots_conditions, and_condition, ands_conditions, or_condition}
 use Rattle.fcl_check.specs.{Places.first as first_at, Steps.pair_of}
 use Rattle.fcl_check.proofs.{Elements.parts_of, Places.read_further, Places.first-append}
 

@@ -1,23 +1,18 @@
 -- The degree of a trapezoid along the points that it is read from: on the zeros before its ones, on
 -- its ones, and on the zeros behind them.
-use Rattle.std.proofs.lemmas.{Bool.cases_Bool, Bool.Decides.Decides-int_eq, Bool.Decides.nat_tests, Int.ints}
-use Rattle.std.proofs.lemmas.{List.take_more, List.Sums.take_while-cons}
-use Rattle.std.proofs.Common.{◌≡◌, ℕ, true, false, cond, not, ◌&&◌, List, [], ◌∷◌, ◌++◌, Some, None, refl, arith, ◌⊎◌}
-use Rattle.std.proofs.Common.{inl, inr, ap, ◌*◌, ◌≤◌, ◌<◌, Option, ap₂, ◌∙◌, ◌+◌, Bool, get_or, length, take}
-use Rattle.std.proofs.Common.{option_map, sym}
-use Rattle.std.specs.Prelude.{ℤ, ◌≤ℤ◌, ◌<ℤ◌, int_lt, nat_le}
-use Rattle.std.specs.List.{AllByRecursion, filter, list_all, list_any, take_while}
-use Rattle.std.specs.{Option.option_or, Ordering.int_eq, Int.Signed.le_z}
-use Rattle.fuzzy_meaning.specs.declared.block.Trapezoid.{Trapezoid}
-use Rattle.fcl_syntax.specs.declared.tree.{Point.Point, Term.Term}
+use Rattle.fcl_check.proofs.Words.{[], ◌&&◌, ◌*◌, ◌++◌, ◌+◌, ◌<ℤ◌, ◌<◌, ◌∙◌, ◌∷◌, ◌≡◌, ◌≤ℤ◌, ◌≤◌, ◌⊎◌, abscissa_of}
+use Rattle.fcl_check.proofs.Words.{AllByRecursion, ap, AreCornersOf, arith, at_each, at_if, Bool, cases_Bool, cond}
+use Rattle.fcl_check.proofs.Words.{Corners, Dec, Decides-int_eq, drop_while, falling_in, false, filter, first, get_or}
+use Rattle.fcl_check.proofs.Words.{has_one, has_shape, has_zero, inl, inr, int_eq, int_lt, ints, last, length, List}
+use Rattle.fcl_check.proofs.Words.{list_all, list_any, nat_le, nat_tests, None, not, number_of, Option, option_map}
+use Rattle.fcl_check.proofs.Words.{option_or, Point, points_of, refl, Some, sym, take, take_more, take_while}
+use Rattle.fcl_check.proofs.Words.{take_while-cons, Term, Trapezoid, true, x_of, ℕ, ℤ}
+use Rattle.std.proofs.{Common.ap₂}
+use Rattle.std.specs.{Int.Signed.le_z}
+use Rattle.fcl_check.specs.{Sections.is_below}
 use Rattle.fz_num.specs.Fractions.{one, none, Fraction, over, lesser}
-use Rattle.fz_num.specs.declared.dec.Dec.{Dec}
 use Rattle.fuzzy_meaning.specs.Degrees.{rise, fall, degree}
 use Rattle.fcl_check.specs.Courses.{course, height, on_line, AreSame, width}
-use Rattle.fcl_check.specs.Places.{at_each, at_if, first, last, drop_while}
-use Rattle.fcl_check.specs.Sections.{falling_in, has_one, has_zero, is_below, points_of, x_of, has_shape}
-use Rattle.fcl_check.specs.{Loaded.number_of, Loaded.abscissa_of, declared.inputs.Corners.Corners}
-use Rattle.fcl_check.specs.Corners.{AreCornersOf}
 use Rattle.fcl_check.proofs.Elements.{last-push, first-push, take_while-all, drop_while-all, list_all-push}
 use Rattle.fcl_check.proofs.Elements.{take_while-push, drop_while-push, filter-pass, filter-fail, none-passes}
 use Rattle.fcl_check.proofs.Elements.{one-passes}

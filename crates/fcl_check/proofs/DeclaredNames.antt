@@ -1,28 +1,22 @@
 -- The names that a tree declares, of variables, terms and sections, as one more is read.
-use Rattle.std.proofs.Common.{◌≡◌, ℕ, suc, ◌+◌, ◌<◌, ◌≤◌, Bool, true, false, cond, ◌&&◌, ◌||◌, List, [], ◌∷◌, ◌++◌}
-use Rattle.std.proofs.Common.{length, map, take, get_or, Option, Some, None, is_some, option_map, refl, ap, ◌∙◌}
-use Rattle.std.proofs.Common.{arith, length-append, sym, IfSome}
-use Rattle.std.proofs.lemmas.List.{append-nil, flat_map_more, take_more, map-append}
-use Rattle.std.proofs.lemmas.{List.Elements.filter_map-append, List.Elements.filter-append, List.Folds.find-append}
+use Rattle.fcl_check.proofs.Words.{[], ◌&&◌, ◌++◌, ◌+◌, ◌<◌, ◌||◌, ◌∙◌, ◌∷◌, ◌≡◌, ◌≤◌, ap, append-nil, arith, at_each}
+use Rattle.fcl_check.proofs.Words.{at_if, at_letters, Bool, Bor, BTreeMap, cond, cons_option, count_of, Declaration}
+use Rattle.fcl_check.proofs.Words.{Declared, DefuzzyLine, Direction, false, filter, filter-append, filter_map}
+use Rattle.fcl_check.proofs.Words.{filter_map-append, find, first, FunctionBlock, FuzzyLine, get_or, HoldsSections}
+use Rattle.fcl_check.proofs.Words.{if◌then◌else◌, Input, is_direction, is_named, length, letters, line_at, List}
+use Rattle.fcl_check.proofs.Words.{list_any, LoadFault, map, map-append, Name, names_of, None, number_in, Option}
+use Rattle.fcl_check.proofs.Words.{option_map, option_or, or-false, or_zero, Output, output_line_at, Part, Range}
+use Rattle.fcl_check.proofs.Words.{refl, repeated, repeated_lines, repeated_section, same_declared, same_section}
+use Rattle.fcl_check.proofs.Words.{section_name, Singleton, singleton_of, Some, suc, sym, take, take_more, Term}
+use Rattle.fcl_check.proofs.Words.{term_of, true, Variable, variable_in, ℕ}
+use Rattle.std.proofs.{Common.is_some, Common.length-append, Common.IfSome, lemmas.List.flat_map_more}
+use Rattle.std.proofs.{lemmas.List.Folds.find-append, Math.Bool.or-true}
+use Rattle.std.specs.{BTreeMap.btree_map_len, Option.option_map_or}
+use Rattle.fcl_check.specs.{ByLetters.names_in, Faults.same_kind, Faults.same_line, Faults.same_output_line}
+use Rattle.fcl_check.specs.{declared.names.Counts.Counts, declared.names.Section.Section}
 use Rattle.std.proofs.lemmas.List.Folds.{list_any-append}
-use Rattle.std.proofs.Math.Bool.{or-false, or-true}
-use Rattle.std.specs.List.{cons_option, find, list_any, filter, filter_map}
-use Rattle.std.specs.Prelude.{if◌then◌else◌}
-use Rattle.std.specs.{BTreeMap.BTreeMap, BTreeMap.btree_map_len, Borrow.Bor, Option.option_map_or, Option.option_or}
-use Rattle.fcl_syntax.specs.declared.tree.{Declaration.Declaration, Direction.Direction, Direction.TheVariants.Input}
-use Rattle.fcl_syntax.specs.declared.tree.{Direction.TheVariants.Output, FunctionBlock.FunctionBlock, Name.Name}
-use Rattle.fcl_syntax.specs.declared.tree.{DefuzzyLine.DefuzzyLine, FuzzyLine.FuzzyLine, Range.Range}
-use Rattle.fcl_syntax.specs.declared.tree.{Singleton.Singleton, Term.Term, Part.Part}
 use Rattle.fcl_syntax.specs.declared.tree.DefuzzyLine.TheVariants as defuzzy
 use Rattle.fcl_syntax.specs.declared.tree.FuzzyLine.TheVariants as fuzzy
-use Rattle.fcl_check.specs.ByLetters.{at_letters, count_of, names_of, variable_in, names_in, HoldsSections}
-use Rattle.fcl_check.specs.Faults.{repeated, same_declared, same_kind, same_line, line_at, same_output_line}
-use Rattle.fcl_check.specs.Faults.{output_line_at, repeated_lines, repeated_section, same_section}
-use Rattle.fcl_check.specs.Places.{at_if, first, at_each}
-use Rattle.fcl_check.specs.Names.{Declared, is_direction, is_named, letters, number_in, singleton_of, section_name}
-use Rattle.fcl_check.specs.Names.{term_of}
-use Rattle.fcl_check.specs.{declared.fault.LoadFault.LoadFault, declared.names.Counts.Counts}
-use Rattle.fcl_check.specs.{declared.names.Variable.Variable, Loaded.or_zero, declared.names.Section.Section}
 use Rattle.fcl_check.specs.declared.fault.LoadFault.TheVariants as load
 use Rattle.fcl_check.proofs.Naming.{names_declared, found_any, no_value, number_any, number_push, is_some-map}
 use Rattle.fcl_check.proofs.Naming.{names_of_terms, names_of_singletons, is_range, is_other}

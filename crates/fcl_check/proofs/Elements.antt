@@ -1,11 +1,9 @@
 -- Lists: items and parts of them, one by one and pushed.
-use Rattle.std.proofs.lemmas.List.{map-append, take_more, append-nil}
-use Rattle.std.proofs.lemmas.{List.Elements.filter-append, List.Elements.filter_map-append, List.Sums.take_while-cons}
-use Rattle.std.proofs.Common.{List, [], ◌∷◌, ◌++◌, map, Option, Some, None, ◌≡◌, ℕ, ◌+◌, ◌<◌, length, take, get_or}
-use Rattle.std.proofs.Common.{refl, Bool, true, false, cond, not, ◌&&◌, ap}
-use Rattle.std.specs.List.{AllByRecursion, AllZip, cons_option, filter, filter_map, take_while, list_all}
-use Rattle.std.specs.Option.{option_or}
-use Rattle.fcl_check.specs.Places.{first, last, drop_while}
+use Rattle.fcl_check.proofs.Words.{[], ◌&&◌, ◌++◌, ◌+◌, ◌<◌, ◌∷◌, ◌≡◌, AllByRecursion, AllZip, ap, append-nil, Bool}
+use Rattle.fcl_check.proofs.Words.{cond, cons_option, drop_while, false, filter, filter-append, filter_map}
+use Rattle.fcl_check.proofs.Words.{filter_map-append, first, get_or, last, length, List, list_all, map, map-append}
+use Rattle.fcl_check.proofs.Words.{None, not, Option, option_or, refl, Some, take, take_more, take_while}
+use Rattle.fcl_check.proofs.Words.{take_while-cons, true, ℕ}
 
 -- ---- What holds of each item of a list.
 

@@ -1,43 +1,33 @@
 -- A tree without load faults: no kind has a place, neither in a section nor in a rule.
-use denote.Enum.Bare.{sameb}
-use Rattle.std.proofs.lemmas.{Bool.lt-leb, Bool.Decides.nat_tests, List.length-drop, List.length-map}
-use Rattle.std.proofs.lemmas.{List.Elements.All-from_recursion, Slice.Eq.bytes_eq-Decides, Option.same_Some}
-use Rattle.std.proofs.Common.{◌≡◌, ℕ, Bool, true, false, cond, not, ◌&&◌, List, [], ◌∷◌, ◌++◌, map, Option, Some}
-use Rattle.std.proofs.Common.{None, option_and_then, refl, option_map, suc, zero, ◌+◌, drop, length, sym, ap, ◌∙◌}
-use Rattle.std.proofs.Common.{arith, ◌≤◌, ◌||◌, if◌then◌else◌, ◌<◌, get_or, subst}
-use Rattle.std.specs.Prelude.{is_none, nat_le, slice_get, All, IsSome, ℤ}
-use Rattle.std.specs.List.{AllByRecursion, find, flat_map, filter, cons_option, list_any, filter_map}
-use Rattle.std.specs.{Option.option_or, Borrow.Bor}
-use Rattle.fcl_syntax.specs.declared.tree.{Conclusion.Conclusion, Defuzzify.Defuzzify, Direction.Direction}
-use Rattle.fcl_syntax.specs.declared.tree.{Direction.TheVariants.Input, Direction.TheVariants.Output}
-use Rattle.fcl_syntax.specs.declared.tree.{FunctionBlock.FunctionBlock, Fuzzify.Fuzzify, Name.Name, Part.Part}
-use Rattle.fcl_syntax.specs.declared.tree.{Rule.Rule, DefuzzyLine.DefuzzyLine, SignedNumber.SignedNumber, Point.Point}
-use Rattle.fcl_syntax.specs.declared.tree.{Range.Range, Term.Term, Tree.Tree, Singleton.Singleton}
+use Rattle.fcl_check.proofs.Words.{[], ◌&&◌, ◌++◌, ◌+◌, ◌<◌, ◌||◌, ◌∙◌, ◌∷◌, ◌≡◌, ◌≤◌, abscissa_of, All}
+use Rattle.fcl_check.proofs.Words.{All-from_recursion, AllByRecursion, ap, AreCornersOf, arith, as_defuzzify}
+use Rattle.fcl_check.proofs.Words.{as_fuzzify, at_each, at_if, at_some, bad_range, Bool, Bor, bytes_eq-Decides}
+use Rattle.fcl_check.proofs.Words.{Conclusion, conclusions_of, cond, cons_option, Corners, Dec, Declared, declared_as}
+use Rattle.fcl_check.proofs.Words.{declared_in, default_of, Defuzzify, defuzzy_range, DefuzzyLine, Direction}
+use Rattle.fcl_check.proofs.Words.{direction, drop, drop_while, Ends, fallback_number, falling_points, false, filter}
+use Rattle.fcl_check.proofs.Words.{filter_map, find, first, first_fault, flat_map, FunctionBlock, Fuzzify}
+use Rattle.fcl_check.proofs.Words.{fuzzy_range, get_or, given_or, has_one, has_shape, has_zero, HasSection, hull_of}
+use Rattle.fcl_check.proofs.Words.{incomplete, Input, input_range, is_declared_as, is_direction, is_named, is_none}
+use Rattle.fcl_check.proofs.Words.{is_over, is_some_direction, IsKnown, IsSome, IsWellFormedDefuzzify}
+use Rattle.fcl_check.proofs.Words.{IsWellFormedFuzzify, IsWellFormedRule, kinds, length, length-map, letters, List}
+use Rattle.fcl_check.proofs.Words.{list_any, LoadFault, map, method_line, missing_part, mistaken, mistaken_in}
+use Rattle.fcl_check.proofs.Words.{mistaken_section, Name, names_of, nat_le, nat_tests, None, not, number_in}
+use Rattle.fcl_check.proofs.Words.{number_line, numbers_outside, Option, option_and_then, option_map, option_or}
+use Rattle.fcl_check.proofs.Words.{or_zero, Output, output_hull, output_range, Pair, Part, Point, points_of}
+use Rattle.fcl_check.proofs.Words.{points_outside, Range, refl, repeated, same_declared, same_Some, sameb}
+use Rattle.fcl_check.proofs.Words.{section_name, section_of, shapeless_terms, SignedNumber, Singleton}
+use Rattle.fcl_check.proofs.Words.{singleton_names, singleton_of, singletons_of, slice_get, Some, subst, suc, sym}
+use Rattle.fcl_check.proofs.Words.{Term, term_names, term_number, terms_of, terms_over_limit, the_type, too_many}
+use Rattle.fcl_check.proofs.Words.{true, twice, unknown, unknown_in, unknown_pair, unknown_section, value, Variable}
+use Rattle.fcl_check.proofs.Words.{variable_in, variable_number, weight_outside, widened, without_section}
+use Rattle.fcl_check.proofs.Words.{without_terms, wrong_side, x_of, zero, ℕ, ℤ}
+use Rattle.std.proofs.{lemmas.Bool.lt-leb, lemmas.List.length-drop, Common.if◌then◌else◌}
+use Rattle.fcl_syntax.specs.{declared.tree.Rule.Rule, declared.tree.Tree.Tree}
+use Rattle.fcl_check.specs.{Faults.condition_pairs, Faults.most_of, Names.defuzzify_of, Names.fuzzify_of}
+use Rattle.fcl_check.specs.{Names.direction_of, Steps.room_behind, declared.checks.Room.Room}
 use Rattle.fcl_syntax.specs.declared.tree.Part.TheVariants as part
 use Rattle.fcl_syntax.specs.declared.tree.Direction.TheVariants as side
 use Rattle.fcl_syntax.specs.declared.tree.DefuzzyLine.TheVariants as defuzzy
-use Rattle.fz_num.specs.declared.dec.Dec.{Dec}
-use Rattle.fcl_syntax.specs.contracts.tree.Direction.{the_type}
-use Rattle.fcl_check.specs.WellFormed.{IsKnown, IsWellFormedRule, HasSection, IsWellFormedDefuzzify}
-use Rattle.fcl_check.specs.WellFormed.{IsWellFormedFuzzify}
-use Rattle.fcl_check.specs.Faults.{Pair, conclusions_of, condition_pairs, direction, first_fault, is_declared_as}
-use Rattle.fcl_check.specs.Faults.{is_some_direction, kinds, mistaken, mistaken_in, mistaken_section, missing_part}
-use Rattle.fcl_check.specs.Faults.{too_many, twice, unknown, unknown_in, unknown_pair, unknown_section}
-use Rattle.fcl_check.specs.Faults.{weight_outside, wrong_side, is_over, most_of, repeated, same_declared}
-use Rattle.fcl_check.specs.Faults.{without_section}
-use Rattle.fcl_check.specs.Names.{as_defuzzify, as_fuzzify, defuzzify_of, fuzzify_of, is_direction, is_named, letters}
-use Rattle.fcl_check.specs.Names.{section_of, section_name, term_number, Declared, declared_in, direction_of}
-use Rattle.fcl_check.specs.Names.{singleton_of, terms_of, declared_as, number_in, singleton_names, singletons_of}
-use Rattle.fcl_check.specs.Names.{term_names, variable_number}
-use Rattle.fcl_check.specs.Places.{at_if, at_some, first, at_each, drop_while}
-use Rattle.fcl_check.specs.Sections.{bad_range, falling_points, incomplete, numbers_outside, points_outside}
-use Rattle.fcl_check.specs.Sections.{shapeless_terms, terms_over_limit, without_terms, Ends, default_of}
-use Rattle.fcl_check.specs.Sections.{defuzzy_range, fallback_number, fuzzy_range, has_one, has_shape, has_zero}
-use Rattle.fcl_check.specs.Sections.{hull_of, method_line, number_line, points_of, value, x_of}
-use Rattle.fcl_check.specs.Loaded.{abscissa_of, given_or, input_range, output_hull, output_range, widened, or_zero}
-use Rattle.fcl_check.specs.{declared.fault.LoadFault.LoadFault, Steps.room_behind, declared.checks.Room.Room}
-use Rattle.fcl_check.specs.{ByLetters.names_of, ByLetters.variable_in, declared.inputs.Corners.Corners}
-use Rattle.fcl_check.specs.{Corners.AreCornersOf, declared.names.Variable.Variable}
 use Rattle.fcl_check.proofs.Places.{first-append, first-map, first-map-drop}
 use Rattle.fcl_check.proofs.Naming.{same-direction, section-at, number_within}
 use Rattle.fcl_check.proofs.Elements.{drop_while-all, none-passes}

@@ -1,31 +1,23 @@
 -- Each text has a fault or a block, and not two of them: a tree without load faults has a block, and at most one.
-use Rattle.std.proofs.lemmas.{List.Elements.recursion_from_All, Option.same_Some, Option.some_pair_parts}
-use Rattle.std.proofs.Common.{◌≡◌, true, false, List, [], ◌∷◌, Some, None, refl, not, Option, option_map, ap, sym}
-use Rattle.std.proofs.Common.{map, ◌∙◌, ℕ, ◌≤◌, ◌⊎◌, inl, inr, length, subst}
-use Rattle.std.specs.Prelude.{IsSome, if◌then◌else◌, All}
-use Rattle.std.specs.List.{AllByRecursion, AllZip, cons_option, filter_map, filter, take_while}
-use Rattle.std.specs.{Option.option_or, Str.str_to_ascii_lowercase}
-use Rattle.fuzzy_meaning.specs.declared.block.{Input.Input, Trapezoid.Trapezoid, Output.Output, Rule.Rule}
-use Rattle.fuzzy_meaning.specs.declared.block.Block.{Block}
-use Rattle.fcl_syntax.specs.declared.tree.{Direction.Direction, Name.Name, Fuzzify.Fuzzify, Point.Point, Term.Term}
-use Rattle.fcl_syntax.specs.declared.tree.{Defuzzify.Defuzzify, SignedNumber.SignedNumber, Singleton.Singleton}
-use Rattle.fcl_syntax.specs.declared.tree.{FunctionBlock.FunctionBlock, Part.Part, Rule.Rule as RuleNode}
-use Rattle.fcl_syntax.specs.declared.tree.Weight.{Weight}
+use Rattle.fcl_check.proofs.Words.{[], ◌∙◌, ◌∷◌, ◌≡◌, ◌≤◌, ◌⊎◌, abscissa_of, All, AllByRecursion, AllZip, ap}
+use Rattle.fcl_check.proofs.Words.{as_defuzzify, as_fuzzify, at_if, Block, conclusion_of, conclusions_of, cons_option}
+use Rattle.fcl_check.proofs.Words.{Dec, Declared, declared_as, declared_in, default_number, default_of, Defuzzify}
+use Rattle.fcl_check.proofs.Words.{Direction, drop_while, fallback_number, false, filter, filter_map, first}
+use Rattle.fcl_check.proofs.Words.{first_fault, FunctionBlock, Fuzzify, has_one, has_shape, has_zero, HasSection}
+use Rattle.fcl_check.proofs.Words.{if◌then◌else◌, inl, input_range, inr, is_direction, IsInputNamed, IsInputOf}
+use Rattle.fcl_check.proofs.Words.{IsOutputNamed, IsOutputOf, IsRuleOf, IsSome, IsTermOf, IsVariableNamed}
+use Rattle.fcl_check.proofs.Words.{IsWellFormedDefuzzify, IsWellFormedFuzzify, last, length, List, literal_of}
+use Rattle.fcl_check.proofs.Words.{LoadFault, map, Name, None, not, number_of, Option, option_map, option_or}
+use Rattle.fcl_check.proofs.Words.{or_condition, output_range, Part, Point, points_of, refl, Rule, RuleNode}
+use Rattle.fcl_check.proofs.Words.{same_Some, SignedNumber, Singleton, singletons_of, Some, SpelledBlocksAreValid}
+use Rattle.fcl_check.proofs.Words.{str_to_ascii_lowercase, subst, sym, take_while, Term, terms_of, Trapezoid, true}
+use Rattle.fcl_check.proofs.Words.{value, view, Weight, x_of, ℕ}
+use Rattle.std.proofs.{lemmas.List.Elements.recursion_from_All, lemmas.Option.some_pair_parts}
+use Rattle.fuzzy_meaning.specs.{declared.block.Input.Input, declared.block.Output.Output}
+use Rattle.fcl_syntax.specs.{Readings.EachTextIsRead, Readings.TreesAreOne, Text.SpellsTree}
+use Rattle.fcl_check.specs.{Texts.SpellsBlock}
 use Rattle.fcl_syntax.specs.declared.tree.Direction.TheVariants as side
-use Rattle.fz_num.specs.declared.dec.Dec.{Dec}
-use Rattle.fcl_syntax.specs.{Readings.EachTextIsRead, Readings.TreesAreOne, Text.SpellsTree, View.view}
-use Rattle.fcl_check.specs.Names.{Declared, is_direction, terms_of, singletons_of, as_defuzzify, as_fuzzify}
-use Rattle.fcl_check.specs.Names.{declared_as, declared_in}
-use Rattle.fcl_check.specs.Places.{first, last, at_if, drop_while}
-use Rattle.fcl_check.specs.Loaded.{IsInputOf, IsTermOf, abscissa_of, input_range, number_of, IsOutputOf}
-use Rattle.fcl_check.specs.Loaded.{default_number, output_range, IsInputNamed, IsOutputNamed, IsVariableNamed}
-use Rattle.fcl_check.specs.Loaded.{IsRuleOf, conclusion_of, literal_of, or_condition}
-use Rattle.fcl_check.specs.WellFormed.{IsWellFormedFuzzify, IsWellFormedDefuzzify, HasSection}
-use Rattle.fcl_check.specs.Sections.{has_one, has_shape, has_zero, points_of, x_of, default_of, fallback_number}
-use Rattle.fcl_check.specs.Sections.{value}
 use Rattle.fcl_check.specs.Texts.{TreesHaveBlocks, EachTextIsJudged, HasLoadFault, LoadFaultsAreOne}
-use Rattle.fcl_check.specs.Texts.{SpelledBlocksAreValid, SpellsBlock}
-use Rattle.fcl_check.specs.{Faults.first_fault, Faults.conclusions_of, declared.fault.LoadFault.LoadFault}
 use Rattle.fcl_check.specs.OneBlock.{BlocksAreOne}
 use Rattle.fcl_check.proofs.Faultless.{nowhere, shaped, found_value, input_range_there, one_there}
 use Rattle.fcl_check.proofs.Faultless.{default_there, output_range_there, input_sections, output_sections}

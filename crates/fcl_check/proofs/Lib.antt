@@ -10,3 +10,4 @@ pub mod Ranges
 pub mod ConditionParts
 pub mod RuleSizes
 pub mod ValidBlocks
+pub mod Words

@@ -1,26 +1,20 @@
 -- Names: those that are gathered, maps by their letters, their numbers, and the sections that they have.
-use denote.Enum.Bare.{sameb}
-use Rattle.std.proofs.lemmas.{Bool.cases_Bool, Bool.Decides.nat_tests, Cmp.nat_list_eq_equiv}
-use Rattle.std.proofs.lemmas.{Map.Text.btree_map_updates_str, Slice.Eq.bytes_eq-Decides, List.append-nil}
-use Rattle.std.proofs.lemmas.Slice.Zip.{all_zipped_more}
-use Rattle.std.proofs.Common.{Bool, true, false, List, ◌∷◌, ◌≡◌, ℕ, suc, ◌+◌, nat_lt, cond, not, ◌||◌, [], ◌++◌}
-use Rattle.std.proofs.Common.{length, Option, Some, None, is_some, option_map, refl, ap, ◌∙◌, arith, ◌<◌, ◌≤◌}
-use Rattle.std.proofs.Common.{if◌then◌else◌, get_or, option_and_then, take}
+use Rattle.fcl_check.proofs.Words.{[], ◌++◌, ◌+◌, ◌<◌, ◌||◌, ◌∙◌, ◌∷◌, ◌≡◌, ◌≤◌, all_zipped_more, AllZip, ap}
+use Rattle.fcl_check.proofs.Words.{append-nil, arith, at_letters, Bool, Bor, BTreeMap, bytes_eq-Decides, cases_Bool}
+use Rattle.fcl_check.proofs.Words.{cond, cons_option, Declaration, Declared, DefuzzyLine, Direction, false}
+use Rattle.fcl_check.proofs.Words.{filter_map, find, flat_map, FunctionBlock, FuzzyLine, get_or, Input, is_direction}
+use Rattle.fcl_check.proofs.Words.{is_named, is_some_direction, length, letters, List, list_any, Name, names_of}
+use Rattle.fcl_check.proofs.Words.{nat_tests, None, not, number_in, Option, option_and_then, option_map, option_or}
+use Rattle.fcl_check.proofs.Words.{Output, Part, refl, sameb, section_of, Singleton, singleton_of, Some, suc, take}
+use Rattle.fcl_check.proofs.Words.{Term, term_of, the_type, true, ℕ}
+use Rattle.std.proofs.{lemmas.Cmp.nat_list_eq_equiv, lemmas.Map.Text.btree_map_updates_str, Common.nat_lt}
+use Rattle.std.proofs.{Common.is_some, Common.if◌then◌else◌}
+use Rattle.std.specs.{List.position, List.position_or_len, BTreeMap.UpdatesBy, Cmp.Lexicographic.slice_cmp}
+use Rattle.std.specs.{Ordering.nat_cmp, Str.bytes_eq}
 use Rattle.std.specs.Prelude.{map}
-use Rattle.std.specs.List.{filter_map, flat_map, find, list_any, position, position_or_len, AllZip, cons_option}
 use Rattle.std.specs.List.{slice_get}
-use Rattle.std.specs.{BTreeMap.BTreeMap, BTreeMap.UpdatesBy, Borrow.Bor, Cmp.Lexicographic.slice_cmp}
-use Rattle.std.specs.{Option.option_or, Ordering.nat_cmp, Str.bytes_eq}
-use Rattle.fcl_syntax.specs.declared.tree.{Declaration.Declaration, DefuzzyLine.DefuzzyLine, Direction.Direction}
-use Rattle.fcl_syntax.specs.declared.tree.{FuzzyLine.FuzzyLine, Name.Name, Singleton.Singleton, Term.Term}
-use Rattle.fcl_syntax.specs.declared.tree.{FunctionBlock.FunctionBlock, Direction.TheVariants.Input}
-use Rattle.fcl_syntax.specs.declared.tree.{Direction.TheVariants.Output, Part.Part}
 use Rattle.fcl_syntax.specs.declared.tree.DefuzzyLine.TheVariants as defuzzy
 use Rattle.fcl_syntax.specs.declared.tree.FuzzyLine.TheVariants as fuzzy
-use Rattle.fcl_syntax.specs.contracts.tree.Direction.{the_type}
-use Rattle.fcl_check.specs.Names.{Declared, singleton_of, term_of, letters, is_named, number_in, is_direction}
-use Rattle.fcl_check.specs.Names.{section_of}
-use Rattle.fcl_check.specs.{ByLetters.at_letters, ByLetters.names_of, Faults.is_some_direction}
 use Rattle.fcl_check.proofs.Elements.{filter_map-next}
 
 -- ---- The names that are gathered from declarations and lines.

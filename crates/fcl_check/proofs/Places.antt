@@ -1,17 +1,12 @@
 -- The first of some places, and of the lines of a sort.
-use Rattle.std.proofs.lemmas.List.{at_drop_more, append-nil, take_more, take-append-drop, drop-map}
+use Rattle.fcl_check.proofs.Words.{[], ◌++◌, ◌+◌, ◌<◌, ◌||◌, ◌∙◌, ◌∷◌, ◌≡◌, ◌≤◌, ap, append-nil, arith, AscendWithin}
+use Rattle.fcl_check.proofs.Words.{at_drop_more, at_each, at_if, at_some, behind, Bool, cons_option, drop, each}
+use Rattle.fcl_check.proofs.Words.{false, filter_map, first, flat_map, get_or, is_some, length, List, list_any}
+use Rattle.fcl_check.proofs.Words.{LoadFault, map, None, offset_of, offsets, Option, option_map, option_or, or-false}
+use Rattle.fcl_check.proofs.Words.{refl, repeated, slice_get, Some, subst, suc, Sym, sym, take, take_more, Token}
+use Rattle.fcl_check.proofs.Words.{true, zero, ℕ}
+use Rattle.std.proofs.{lemmas.List.take-append-drop, lemmas.List.drop-map, Common.◌≢◌, Common.append_assoc}
 use Rattle.std.proofs.lemmas.{Option.slice_get-map, List.Concat.flat_map_single}
-use Rattle.std.proofs.Math.Bool.{or-false}
-use Rattle.std.proofs.Common.{◌≡◌, ℕ, zero, suc, ◌+◌, ◌<◌, Bool, List, [], ◌∷◌, ◌++◌, Option, Some, None, drop}
-use Rattle.std.proofs.Common.{get_or, length, map, option_map, refl, sym, ap, ◌∙◌, ◌||◌, ◌≢◌, true, false, take}
-use Rattle.std.proofs.Common.{append_assoc, ◌≤◌, subst, arith}
-use Rattle.std.specs.Prelude.{is_some, slice_get}
-use Rattle.std.specs.List.{list_any, filter_map, flat_map, cons_option}
-use Rattle.std.specs.Option.{option_or}
-use Rattle.fcl_syntax.specs.Offsets.{AscendWithin, offset_of, offsets}
-use Rattle.fcl_syntax.specs.{Grammar.behind, Grammar.each, Annotations.Sym, declared.token.Token.Token}
-use Rattle.fcl_check.specs.Places.{at_some, first, at_if, at_each}
-use Rattle.fcl_check.specs.{Faults.repeated, declared.fault.LoadFault.LoadFault}
 use Rattle.fcl_check.specs.declared.fault.LoadFault.TheVariants as load
 
 pub first-append : {A : Type 0} (xs ys : List A) → first (xs ++ ys) ≡ option_or (first xs) (first ys)

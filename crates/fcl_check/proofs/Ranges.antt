@@ -1,30 +1,23 @@
 -- Ranges of written numbers: what lies in them, and that they are in scale.
-use Rattle.std.proofs.Common.{◌≡◌, ℕ, ◌+◌, ◌<◌, List, [], ◌∷◌, ◌++◌, drop, get_or, length, map, Option, Some, None}
-use Rattle.std.proofs.Common.{refl, ap, sym, ◌∙◌, arith, cond, true, false, option_map, not, subst, inl, inr, take}
-use Rattle.std.proofs.lemmas.List.{at_drop_more, append-nil, map-append}
-use Rattle.std.proofs.lemmas.{Int.ints, Int.clamps, Bool.cases_Bool, Bool.Decides.Decides-int_eq}
-use Rattle.std.specs.Prelude.{ℤ, pos, neg_ℤ, ◌≤ℤ◌, ◌+ℤ◌, ◌<ℤ◌, int_lt}
-use Rattle.std.specs.List.{filter_map, flat_map, AllByRecursion, cons_option}
-use Rattle.std.specs.{Int.int_min, Int.int_max, Ordering.int_eq}
-use Rattle.fcl_syntax.specs.declared.tree.{FuzzyLine.FuzzyLine, Point.Point, Term.Term, Defuzzify.Defuzzify}
-use Rattle.fcl_syntax.specs.declared.tree.{DefuzzyLine.DefuzzyLine, FallbackValue.FallbackValue, Fuzzify.Fuzzify}
-use Rattle.fcl_syntax.specs.declared.tree.{SignedNumber.SignedNumber, Range.Range, Singleton.Singleton}
+use Rattle.fcl_check.proofs.Words.{[], ◌++◌, ◌+◌, ◌<ℤ◌, ◌<◌, ◌∙◌, ◌∷◌, ◌≡◌, ◌≤ℤ◌, abscissas, AllByRecursion, ap}
+use Rattle.fcl_check.proofs.Words.{append-nil, arith, at_drop_more, at_if, block_text, cases_Bool, cond, cons_option}
+use Rattle.fcl_check.proofs.Words.{Dec, Decides-int_eq, Defuzzify, DefuzzyLine, drop, Ends, ends_of, extended}
+use Rattle.fcl_check.proofs.Words.{fallback_number, FallbackValue, false, filter_map, flat_map, Fuzzify, fuzzy_range}
+use Rattle.fcl_check.proofs.Words.{FuzzyLine, get_or, given_or, hull_of, inl, input_range, inr, int_eq, int_lt, ints}
+use Rattle.fcl_check.proofs.Words.{is_empty_range, IsInScale, length, lies_in, List, map, map-append, None, not}
+use Rattle.fcl_check.proofs.Words.{number_line, Option, option_map, output_hull, output_numbers, Point, points_of}
+use Rattle.fcl_check.proofs.Words.{pos, Range, reach, refl, SignedNumber, Singleton, singleton_of, Some, subst, sym}
+use Rattle.fcl_check.proofs.Words.{take, Term, term_of, terms_of, Token, true, value, widened, x_of, ℕ, ℤ}
+use Rattle.std.proofs.{lemmas.Int.clamps}
+use Rattle.std.specs.{Prelude.neg_ℤ, Prelude.◌+ℤ◌, Int.int_min, Int.int_max}
+use Rattle.fcl_syntax.specs.{Annotations.tokens_of, Scale.IsTokenInScale, Scale.NumbersInScale}
+use Rattle.fcl_check.specs.{Sections.to_scale, Sections.magnitude, Kept.IsKept, Kept.NumbersAreKept}
 use Rattle.fcl_syntax.specs.declared.tree.FuzzyLine.TheVariants as fuzzy
 use Rattle.fcl_syntax.specs.declared.tree.DefuzzyLine.TheVariants as defuzzy
 use Rattle.fcl_syntax.specs.declared.tree.FallbackValue.TheVariants as fallback
 use Rattle.fcl_syntax.specs.declared.tree.SignedNumber.TheVariants as signed
-use Rattle.fz_num.specs.declared.dec.Dec.{Dec}
-use Rattle.fuzzy_meaning.specs.Blocks.{IsInScale}
-use Rattle.fcl_syntax.specs.{Annotations.tokens_of, Grammar.block_text, Scale.IsTokenInScale, Scale.NumbersInScale}
-use Rattle.fcl_syntax.specs.declared.token.Token.{Token}
 use Rattle.fcl_syntax.specs.declared.token.Amount.TheVariants as amount
 use Rattle.fcl_syntax.specs.declared.token.Token.TheVariants as tok
-use Rattle.fcl_check.specs.Names.{term_of, terms_of, singleton_of}
-use Rattle.fcl_check.specs.Sections.{Ends, points_of, reach, x_of, to_scale, abscissas, ends_of, fallback_number}
-use Rattle.fcl_check.specs.Sections.{fuzzy_range, hull_of, magnitude, number_line, output_numbers, value}
-use Rattle.fcl_check.specs.Sections.{is_empty_range, lies_in}
-use Rattle.fcl_check.specs.Loaded.{given_or, input_range, widened, output_hull}
-use Rattle.fcl_check.specs.{Steps.extended, Kept.IsKept, Kept.NumbersAreKept, Places.at_if}
 use Rattle.fcl_check.proofs.{Places.map-cons_option, Elements.all_weaker, Elements.filter_map-next}
 use Rattle.fcl_check.proofs.{Faultless.no_place, Faultless.nowhere}
 

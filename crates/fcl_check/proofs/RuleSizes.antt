@@ -1,30 +1,24 @@
 -- The conditions and rules of a text: how deep and how many they are, and which are valid.
-use Rattle.std.proofs.lemmas.{List.length-append, List.length-map, List.Elements.filter_map-append}
+use Rattle.fcl_check.proofs.Words.{[], ◌*◌, ◌++◌, ◌+◌, ◌-◌, ◌∙◌, ◌∷◌, ◌≡◌, ◌≤◌, AllByRecursion, AllZip, and_condition}
+use Rattle.fcl_check.proofs.Words.{and_of, and_pairs, and_text, ands_conditions, ands_pairs, ands_text, ap, arith}
+use Rattle.fcl_check.proofs.Words.{AscendWithin, behind, Block, block_text, Conclusion, conclusion_of}
+use Rattle.fcl_check.proofs.Words.{conclusion_text, conclusions_of, conclusions_text, Condition, each, either_text}
+use Rattle.fcl_check.proofs.Words.{end_text, filter_map-append, FunctionBlock, group, HasTerm, is, IsClean, IsRuleOf}
+use Rattle.fcl_check.proofs.Words.{length, length-map, less, List, literal_of, lone, map, more_ands, more_nots, Name}
+use Rattle.fcl_check.proofs.Words.{neg, no_ands, no_nots, None, not_condition, not_pairs, not_text, nots_conditions}
+use Rattle.fcl_check.proofs.Words.{nots_pairs, nots_text, offset_of, offsets, or_condition, or_of, or_pairs, or_text}
+use Rattle.fcl_check.proofs.Words.{Pair, part_text, plain, refl, Rule, rule_item_text, rule_line_text, rule_size}
+use Rattle.fcl_check.proofs.Words.{rulebase_text, RuleNode, section_text, semicolon_text, Some, suc, sum_by, Sym}
+use Rattle.fcl_check.proofs.Words.{TAnd, TAnds, TNot, TNots, Token, TOr, view, view_part, view_rule_item}
+use Rattle.fcl_check.proofs.Words.{view_rule_line, view_section, view_weight, weight_text, zero, ℕ}
+use Rattle.fuzzy_meaning.specs.Conditions.{depth, greatest_depth, nodes, total_nodes, AllHaveLiterals}
+use Rattle.std.proofs.{lemmas.List.length-append}
+use Rattle.fuzzy_meaning.specs.{Blocks.IsValidCondition}
+use Rattle.fcl_syntax.specs.{Grammar.opener, Grammar.key_text, declared.fault.Kind.TheVariants.Unsupported}
 use Rattle.std.proofs.lemmas.List.Sums.{sum_by-cons}
-use Rattle.std.proofs.Common.{◌≡◌, ℕ, zero, suc, ◌+◌, ◌-◌, ◌*◌, ◌≤◌, List, [], ◌∷◌, ◌++◌, length, Some, None, refl}
-use Rattle.std.proofs.Common.{arith, map, ap, ◌∙◌}
-use Rattle.std.specs.Prelude.{sum_by}
-use Rattle.std.specs.List.{AllByRecursion, AllZip}
-use Rattle.fuzzy_meaning.specs.declared.block.{Block.Block, Rule.Rule}
-use Rattle.fcl_syntax.specs.declared.tree.{Name.Name, Conclusion.Conclusion, FunctionBlock.FunctionBlock}
-use Rattle.fcl_syntax.specs.declared.tree.Rule.{Rule as RuleNode}
-use Rattle.fuzzy_meaning.specs.Conditions.{Condition, depth, greatest_depth, nodes, total_nodes, AllHaveLiterals}
-use Rattle.fuzzy_meaning.specs.Blocks.{HasTerm, IsValidCondition, rule_size}
-use Rattle.fcl_syntax.specs.Annotations.{IsClean, Sym, plain, either_text}
-use Rattle.fcl_syntax.specs.Grammar.{TNot, neg, group, is, lone, TNots, no_nots, more_nots, TAnd, and_of, TAnds}
-use Rattle.fcl_syntax.specs.Grammar.{no_ands, more_ands, TOr, or_of, not_text, nots_text, and_text, ands_text}
-use Rattle.fcl_syntax.specs.Grammar.{or_text, less, opener, behind, block_text, conclusion_text, conclusions_text}
-use Rattle.fcl_syntax.specs.Grammar.{each, end_text, key_text, part_text, rule_item_text, rule_line_text}
-use Rattle.fcl_syntax.specs.Grammar.{rulebase_text, section_text, semicolon_text, weight_text}
-use Rattle.fcl_syntax.specs.Offsets.{AscendWithin, offset_of, offsets}
-use Rattle.fcl_syntax.specs.View.{view, view_part, view_rule_item, view_rule_line, view_section, view_weight}
 use Rattle.fcl_syntax.specs.{declared.fault.Kind.Kind, declared.fault.Kind.TheVariants.Deep}
-use Rattle.fcl_syntax.specs.{declared.fault.Kind.TheVariants.Unsupported, declared.token.Token.Token}
 use Rattle.fcl_syntax.specs.declared.token.Keyword.TheVariants as key
 use Rattle.fcl_syntax.specs.declared.token.Token.TheVariants as tok
-use Rattle.fcl_check.specs.Loaded.{not_condition, nots_conditions, and_condition, ands_conditions, or_condition}
-use Rattle.fcl_check.specs.Loaded.{IsRuleOf, conclusion_of, literal_of}
-use Rattle.fcl_check.specs.Faults.{Pair, and_pairs, ands_pairs, not_pairs, nots_pairs, or_pairs, conclusions_of}
 use Rattle.fcl_check.proofs.Elements.{parts_of}
 
 -- ---- How deep the condition of a text is, and how many conditions there are: no more than the text's offsets.

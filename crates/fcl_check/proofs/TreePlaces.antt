@@ -1,50 +1,43 @@
 -- The places of each kind of fault stand in the text that spells the tree, so they ascend.
-use Rattle.std.proofs.Common.{ℕ, Bool, List, [], ◌∷◌, ◌++◌, Option, Some, None, pos, refl, not, ◌&&◌, map, option_map}
-use Rattle.std.proofs.Common.{ℤ, ◌⊎◌, ◌≡◌, length, ap, All}
-use Rattle.std.proofs.lemmas.{Grind.flat_map-append, List.append-nil, List.Elements.All-nil, List.Elements.All-cons}
-use Rattle.std.specs.Prelude.{◌||◌, is_none, int_lt}
-use Rattle.std.specs.{List.flat_map, List.list_any, Str.str_to_ascii_lowercase}
-use Rattle.fcl_syntax.specs.declared.tree.{Conclusion.Conclusion, Direction.Direction, Direction.TheVariants.Input}
-use Rattle.fcl_syntax.specs.declared.tree.{Direction.TheVariants.Output, FunctionBlock.FunctionBlock, Name.Name}
-use Rattle.fcl_syntax.specs.declared.tree.{Rule.Rule, RuleLine.RuleLine, Weight.Weight, Defuzzify.Defuzzify}
-use Rattle.fcl_syntax.specs.declared.tree.{DefuzzyLine.DefuzzyLine, FallbackValue.FallbackValue, Fuzzify.Fuzzify}
-use Rattle.fcl_syntax.specs.declared.tree.{FuzzyLine.FuzzyLine, SignedNumber.SignedNumber, Part.Part, Point.Point}
-use Rattle.fcl_syntax.specs.declared.tree.{Range.Range, Singleton.Singleton, Term.Term, Declaration.Declaration}
+use Rattle.fcl_check.proofs.Words.{[], ◌&&◌, ◌++◌, ◌∷◌, ◌≡◌, ◌⊎◌, abscissas, and_of, and_pairs, and_text, ands_pairs}
+use Rattle.fcl_check.proofs.Words.{ands_text, ap, append-nil, AscendWithin, at_each, at_if, at_some, bad_fuzzy_range}
+use Rattle.fcl_check.proofs.Words.{bad_range, behind, block_text, Bool, Conclusion, conclusion_text, conclusions_of}
+use Rattle.fcl_check.proofs.Words.{conclusions_text, Declaration, Declared, declared_by, declared_in, Defuzzify}
+use Rattle.fcl_check.proofs.Words.{defuzzy_range, DefuzzyLine, Direction, direction, each, either_text, empty_range}
+use Rattle.fcl_check.proofs.Words.{end_text, Ends, fallback_number, FallbackValue, falling_in, falling_points}
+use Rattle.fcl_check.proofs.Words.{flat_map, flat_map-append, FunctionBlock, Fuzzify, fuzzy_range, FuzzyLine, group}
+use Rattle.fcl_check.proofs.Words.{hull_of, incomplete, Input, int_lt, is, is_declared_as, is_direction}
+use Rattle.fcl_check.proofs.Words.{is_empty_range, is_none, is_over, is_whole, kinds, length, less, letters, lies_in}
+use Rattle.fcl_check.proofs.Words.{line_at, List, list_any, LoadFault, lone, map, missing_part, mistaken, mistaken_in}
+use Rattle.fcl_check.proofs.Words.{mistaken_section, more_ands, more_nots, Name, neg, no_ands, no_nots, None, not}
+use Rattle.fcl_check.proofs.Words.{not_pairs, not_text, nots_pairs, nots_text, number_line, numbers_outside, offsets}
+use Rattle.fcl_check.proofs.Words.{OffsetsAscend, Option, option_map, or_of, or_pairs, or_text, Output}
+use Rattle.fcl_check.proofs.Words.{output_line_at, output_numbers, output_range_line, outside_in, Pair, Part}
+use Rattle.fcl_check.proofs.Words.{part_text, plain, Point, points_of, points_outside, Range, range_line, refl}
+use Rattle.fcl_check.proofs.Words.{repeated_lines, repeated_section, rule_item_text, rule_line_at, rule_line_text}
+use Rattle.fcl_check.proofs.Words.{rulebase_text, same_declared, same_rule_line, same_section, section_name}
+use Rattle.fcl_check.proofs.Words.{section_of, section_text, semicolon_text, shapeless_terms, SignedNumber, Singleton}
+use Rattle.fcl_check.proofs.Words.{singleton_of, singletons_of, Some, str_to_ascii_lowercase, Sym, TAnd, TAnds, Term}
+use Rattle.fcl_check.proofs.Words.{term_of, terms_of, terms_over_limit, TNot, TNots, too_many, TOr, twice, unknown}
+use Rattle.fcl_check.proofs.Words.{unknown_in, unknown_pair, unknown_section, value, view, view_part, view_rule_item}
+use Rattle.fcl_check.proofs.Words.{view_rule_line, view_section, view_weight, Weight, weight_outside, weight_text}
+use Rattle.fcl_check.proofs.Words.{without_section, without_terms, wrong_side, ℕ}
+use Rattle.fcl_syntax.specs.Grammar.{name_token, is_text, TTerm, TRange, point_text, name_text, declaration_text}
+use Rattle.fcl_syntax.specs.View.{view_with, view_point, view_term, view_fuzzy_line, view_singleton, view_fallback}
+use Rattle.fcl_syntax.specs.View.{view_defuzzy_line, view_declaration, view_rulebase}
+use Rattle.std.proofs.{Common.pos, Common.ℤ, Common.All, lemmas.List.Elements.All-nil, lemmas.List.Elements.All-cons}
+use Rattle.std.specs.{Prelude.◌||◌}
+use Rattle.fcl_syntax.specs.{declared.tree.Rule.Rule, declared.tree.RuleLine.RuleLine}
+use Rattle.fcl_check.specs.{Order.PlacesAscend}
 use Rattle.fcl_syntax.specs.declared.tree.Variables.{Variables}
 use Rattle.fcl_syntax.specs.declared.tree.RuleLine.TheVariants as line
 use Rattle.fcl_syntax.specs.declared.tree.DefuzzyLine.TheVariants as defuzzy
 use Rattle.fcl_syntax.specs.declared.tree.FallbackValue.TheVariants as fallback
 use Rattle.fcl_syntax.specs.declared.tree.FuzzyLine.TheVariants as fuzzy
 use Rattle.fcl_syntax.specs.declared.tree.Part.TheVariants as part
-use Rattle.fcl_syntax.specs.Grammar.{TNot, neg, group, is, lone, TNots, no_nots, more_nots, TAnd, and_of, TAnds}
-use Rattle.fcl_syntax.specs.Grammar.{no_ands, more_ands, TOr, or_of, less, name_token, is_text, not_text, nots_text}
-use Rattle.fcl_syntax.specs.Grammar.{and_text, ands_text, or_text, conclusion_text, conclusions_text, weight_text}
-use Rattle.fcl_syntax.specs.Grammar.{semicolon_text, rule_item_text, rule_line_text, TTerm, TRange, each, point_text}
 use Rattle.fcl_syntax.specs.Grammar.{term_text, range_text, singleton_text, fallback_text, defuzzy_line_text}
-use Rattle.fcl_syntax.specs.Grammar.{part_text, behind, name_text, declaration_text, section_text, rulebase_text}
-use Rattle.fcl_syntax.specs.Grammar.{end_text, block_text}
-use Rattle.fcl_syntax.specs.Annotations.{Sym, plain, either_text}
-use Rattle.fcl_syntax.specs.View.{view_with, view_weight, view_rule_item, view_rule_line, view_point, view_term}
-use Rattle.fcl_syntax.specs.View.{view_fuzzy_line, view_singleton, view_fallback, view_defuzzy_line, view_part}
-use Rattle.fcl_syntax.specs.View.{view_declaration, view_section, view_rulebase, view}
-use Rattle.fcl_syntax.specs.Offsets.{AscendWithin, OffsetsAscend, offsets}
 use Rattle.fcl_syntax.specs.declared.token.Keyword.TheVariants as key
 use Rattle.fcl_syntax.specs.declared.token.Token.TheVariants as tok
-use Rattle.fcl_check.specs.Faults.{Pair, not_pairs, nots_pairs, and_pairs, ands_pairs, or_pairs, conclusions_of}
-use Rattle.fcl_check.specs.Faults.{rule_line_at, weight_outside, direction, unknown_pair, unknown_in, mistaken}
-use Rattle.fcl_check.specs.Faults.{mistaken_in, line_at, output_line_at, repeated_lines, mistaken_section}
-use Rattle.fcl_check.specs.Faults.{same_rule_line, is_over, same_declared, same_section, repeated_section, twice}
-use Rattle.fcl_check.specs.Faults.{is_declared_as, unknown_section, unknown, too_many, wrong_side, without_section}
-use Rattle.fcl_check.specs.Faults.{is_whole, missing_part, kinds}
-use Rattle.fcl_check.specs.Places.{at_if, at_some, at_each}
-use Rattle.fcl_check.specs.Sections.{value, points_of, Ends, lies_in, is_empty_range, hull_of, range_line}
-use Rattle.fcl_check.specs.Sections.{fuzzy_range, output_range_line, defuzzy_range, abscissas, fallback_number}
-use Rattle.fcl_check.specs.Sections.{number_line, output_numbers, without_terms, terms_over_limit, falling_in}
-use Rattle.fcl_check.specs.Sections.{falling_points, shapeless_terms, outside_in, points_outside, numbers_outside}
-use Rattle.fcl_check.specs.Sections.{empty_range, bad_fuzzy_range, bad_range, incomplete}
-use Rattle.fcl_check.specs.Names.{is_direction, section_name, term_of, terms_of, singleton_of, singletons_of}
-use Rattle.fcl_check.specs.Names.{Declared, declared_by, declared_in, section_of, letters}
-use Rattle.fcl_check.specs.{declared.fault.LoadFault.LoadFault, Order.PlacesAscend}
 use Rattle.fcl_check.proofs.Places.{StandIn, none, passed, taken, no_places, join, in_front, in_back, at_head}
 use Rattle.fcl_check.proofs.Places.{at_head_and, in_some, in_row, dropped_items, in_each, in_each_after, in_each_kept}
 use Rattle.fcl_check.proofs.Places.{in_first_kept, in_repeated, in_each_of_each, AscendWithin-places}

@@ -1,48 +1,41 @@
 -- The block of a tree without load faults is valid, where it is not too deep and not too large: as it is
 -- where a text spells the tree.
-use Rattle.std.proofs.Common.{◌≡◌, true, false, List, [], ◌∷◌, Option, Some, None, arith, inl, inr, ℕ, not, ◌&&◌, sym}
-use Rattle.std.proofs.Common.{subst, length, map, option_map, refl, ap, ◌∙◌, suc, ◌-◌, ◌≤◌, ◌||◌, option_and_then}
-use Rattle.std.proofs.Common.{Bool}
-use Rattle.std.proofs.lemmas.{Bool.cases_Bool, Int.ints, List.Sums.take_while-cons, List.Elements.All-from_recursion}
-use Rattle.std.proofs.lemmas.{Slice.Zip.AllZip-long, List.length-map, Slice.Eq.bytes_eq-Decides}
+use Rattle.fcl_check.proofs.Words.{[], ◌&&◌, ◌-◌, ◌<ℤ◌, ◌||◌, ◌∙◌, ◌∷◌, ◌≡◌, ◌≤ℤ◌, ◌≤◌, abscissa_of, abscissas}
+use Rattle.fcl_check.proofs.Words.{All-from_recursion, AllByRecursion, AllZip, ap, arith, as_defuzzify, as_fuzzify}
+use Rattle.fcl_check.proofs.Words.{at_each, at_if, at_some, bad_fuzzy_range, Block, block_text, Bool}
+use Rattle.fcl_check.proofs.Words.{bytes_eq-Decides, cases_Bool, Conclusion, conclusion_of, conclusions_of}
+use Rattle.fcl_check.proofs.Words.{cons_option, Dec, declared_as, declared_in, default_line, default_number}
+use Rattle.fcl_check.proofs.Words.{default_of, Defuzzify, defuzzy_range, DefuzzyLine, Direction, direction}
+use Rattle.fcl_check.proofs.Words.{drop_while, empty_range, Ends, ends_of, fallback_number, FallbackValue, falling_in}
+use Rattle.fcl_check.proofs.Words.{false, filter, filter_map, first, first_fault, flat_map, FunctionBlock, Fuzzify}
+use Rattle.fcl_check.proofs.Words.{fuzzy_range, given_or, has_one, has_shape, has_zero, HasTerm, hull_of, incomplete}
+use Rattle.fcl_check.proofs.Words.{inl, inr, int_lt, ints, is_declared_as, is_empty_range, is_none, is_whole}
+use Rattle.fcl_check.proofs.Words.{IsBlockOf, IsClean, IsInputNamed, IsInputOf, IsInScale, IsKnown, IsOutputNamed}
+use Rattle.fcl_check.proofs.Words.{IsOutputOf, IsRuleOf, IsTermOf, IsVariableNamed, IsWellFormedRule, last, length}
+use Rattle.fcl_check.proofs.Words.{length-map, letters, lies_in, List, list_all, literal_of, map, Name, None, not}
+use Rattle.fcl_check.proofs.Words.{number_in, number_line, number_of, offsets, OffsetsAscend, Option, option_and_then}
+use Rattle.fcl_check.proofs.Words.{option_map, or_zero, output_hull, output_numbers, outside_in, Pair, Part, Point}
+use Rattle.fcl_check.proofs.Words.{points_of, pos, Range, refl, Rule, rule_size, RuleNode, section_of, SignedNumber}
+use Rattle.fcl_check.proofs.Words.{Singleton, singleton_names, singleton_of, singletons_of, Some}
+use Rattle.fcl_check.proofs.Words.{SpelledBlocksAreValid, str_to_ascii_lowercase, subst, suc, sum_by, Sym, sym}
+use Rattle.fcl_check.proofs.Words.{take_while, take_while-cons, Term, term_names, term_number, terms_of}
+use Rattle.fcl_check.proofs.Words.{terms_over_limit, Trapezoid, true, value, variable_number, view, Weight, widened}
+use Rattle.fcl_check.proofs.Words.{without_section, x_of, ℕ, ℤ}
+use Rattle.fuzzy_meaning.specs.Blocks.{IsValidTerm, IsValidInput, IsValidOutput, IsWithin, HasSingleton, IsValidRule}
+use Rattle.fuzzy_meaning.specs.Blocks.{IsWeight, IsValid}
+use Rattle.std.proofs.{lemmas.Slice.Zip.AllZip-long}
+use Rattle.std.specs.{Prelude.IfSome, Prelude.IsSomeAnd}
+use Rattle.fuzzy_meaning.specs.{declared.block.Input.Input, declared.block.Output.Output}
+use Rattle.fcl_syntax.specs.{declared.tree.Fallback.Fallback, Text.IsSpelled}
+use Rattle.fcl_check.specs.{Sections.outside, Faults.has_direction}
 use Rattle.std.proofs.Math.Logic.{∥∥₁_elim}
-use Rattle.std.specs.Prelude.{IfSome, ℤ, ◌≤ℤ◌, ◌<ℤ◌, IsSomeAnd, pos, int_lt, is_none, sum_by}
-use Rattle.std.specs.List.{filter, list_all, take_while, AllByRecursion, flat_map, cons_option, filter_map, AllZip}
 use Rattle.std.specs.List.{slice_get}
 use Rattle.std.specs.Coded.{Coded-set, Unit-prop, coded_option, le_prop, ×_prop}
-use Rattle.std.specs.Str.{str_to_ascii_lowercase}
-use Rattle.fuzzy_meaning.specs.declared.block.{Trapezoid.Trapezoid, Input.Input, Output.Output, Block.Block}
-use Rattle.fuzzy_meaning.specs.declared.block.Rule.{Rule}
-use Rattle.fcl_syntax.specs.declared.tree.{Point.Point, Term.Term, FunctionBlock.FunctionBlock, Fuzzify.Fuzzify}
-use Rattle.fcl_syntax.specs.declared.tree.{Range.Range, Defuzzify.Defuzzify, DefuzzyLine.DefuzzyLine}
-use Rattle.fcl_syntax.specs.declared.tree.{Fallback.Fallback, FallbackValue.FallbackValue, SignedNumber.SignedNumber}
-use Rattle.fcl_syntax.specs.declared.tree.{Singleton.Singleton, Conclusion.Conclusion, Direction.Direction, Name.Name}
-use Rattle.fcl_syntax.specs.declared.tree.{Part.Part, Rule.Rule as RuleNode, Weight.Weight}
 use Rattle.fcl_syntax.specs.declared.tree.Direction.TheVariants as side
 use Rattle.fcl_syntax.specs.declared.tree.Part.TheVariants as part
 use Rattle.fcl_syntax.specs.declared.tree.DefuzzyLine.TheVariants as defuzzy
 use Rattle.fcl_syntax.specs.declared.tree.FallbackValue.TheVariants as fallback
-use Rattle.fz_num.specs.declared.dec.Dec.{Dec}
-use Rattle.fuzzy_meaning.specs.Blocks.{IsValidTerm, IsValidInput, IsValidOutput, IsInScale, IsWithin, HasSingleton}
-use Rattle.fuzzy_meaning.specs.Blocks.{HasTerm, IsValidRule, IsWeight, IsValid, rule_size}
-use Rattle.fcl_syntax.specs.{Annotations.IsClean, Annotations.Sym, Grammar.block_text, Offsets.OffsetsAscend}
-use Rattle.fcl_syntax.specs.{Offsets.offsets, Text.IsSpelled, View.view}
 use Rattle.fcl_syntax.specs.contracts.fault.Kind as kind
-use Rattle.fcl_check.specs.Loaded.{IsTermOf, abscissa_of, number_of, IsInputOf, given_or, IsOutputOf, default_number}
-use Rattle.fcl_check.specs.Loaded.{output_hull, widened, IsBlockOf, IsRuleOf, IsVariableNamed, conclusion_of}
-use Rattle.fcl_check.specs.Loaded.{literal_of, or_zero, IsInputNamed, IsOutputNamed}
-use Rattle.fcl_check.specs.Places.{drop_while, first, last, at_if, at_some, at_each}
-use Rattle.fcl_check.specs.Sections.{falling_in, has_one, has_shape, has_zero, points_of, x_of, Ends, abscissas}
-use Rattle.fcl_check.specs.Sections.{bad_fuzzy_range, ends_of, fuzzy_range, hull_of, is_empty_range, outside}
-use Rattle.fcl_check.specs.Sections.{outside_in, default_line, default_of, defuzzy_range, empty_range}
-use Rattle.fcl_check.specs.Sections.{fallback_number, lies_in, number_line, output_numbers, value, incomplete}
-use Rattle.fcl_check.specs.Sections.{terms_over_limit}
-use Rattle.fcl_check.specs.Faults.{direction, is_declared_as, Pair, conclusions_of, first_fault, has_direction}
-use Rattle.fcl_check.specs.Faults.{is_whole, without_section}
-use Rattle.fcl_check.specs.Names.{terms_of, singleton_of, singletons_of, as_defuzzify, as_fuzzify, declared_as}
-use Rattle.fcl_check.specs.Names.{declared_in, letters, number_in, section_of, singleton_names, term_names}
-use Rattle.fcl_check.specs.Names.{term_number, variable_number}
-use Rattle.fcl_check.specs.{WellFormed.IsKnown, WellFormed.IsWellFormedRule, Texts.SpelledBlocksAreValid}
 use Rattle.fcl_check.proofs.CourseSteps.{no-ones, Ascends, ascends, last-over, tail-zero}
 use Rattle.fcl_check.proofs.Ranges.{AllIn, In, all_inside, hull-over, not_empty, input_range-in, hull-ordered}
 use Rattle.fcl_check.proofs.Ranges.{widened-ordered, widened-over, AreInScale, IsWide, IsWide-widened}

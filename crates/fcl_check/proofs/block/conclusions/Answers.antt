@@ -1,5 +1,4 @@
-use Rattle.std.proofs.Common.{refl}
-use Rattle.fcl_check.specs.Loaded.{conclusion_of}
+use Rattle.fcl_check.proofs.Words.{conclusion_of, refl}
 use Rattle.fcl_check.proofs.Elements.{mapped_more}
 use Rattle.fcl_check.proofs.block.conclusions.Goals as goal
 

@@ -1,5 +1,4 @@
-use Rattle.std.proofs.Common.{◌≡◌, ◌∷◌, map, take}
-use Rattle.fcl_check.specs.Loaded.{conclusion_of}
+use Rattle.fcl_check.proofs.Words.{◌∷◌, ◌≡◌, conclusion_of, map, take}
 use Rattle.fcl_check.proofs.block.conclusions.Given as goal
 
 abbrev pub invariant-each : goal.invariant-each

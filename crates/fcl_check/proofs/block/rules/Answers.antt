@@ -1,6 +1,5 @@
-use Rattle.std.proofs.Common.{take, refl, subst, sym}
-use Rattle.std.proofs.lemmas.{List.Elements.All-from_recursion, Slice.Zip.all_zipped_more}
-use Rattle.fcl_check.specs.{Loaded.IsRuleOf, WellFormed.IsWellFormedRule}
+use Rattle.fcl_check.proofs.Words.{All-from_recursion, all_zipped_more, IsRuleOf, IsWellFormedRule, refl, subst, sym}
+use Rattle.fcl_check.proofs.Words.{take}
 use Rattle.fcl_check.proofs.{Faultless.faultless, Faultless.well_formed_rules, Places.one_further}
 use Rattle.fcl_check.proofs.block.rules.Goals as goal
 

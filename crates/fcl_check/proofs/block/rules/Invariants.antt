@@ -1,6 +1,4 @@
-use Rattle.std.proofs.Common.{take}
-use Rattle.std.specs.List.{AllZip}
-use Rattle.fcl_check.specs.Loaded.{IsRuleOf}
+use Rattle.fcl_check.proofs.Words.{AllZip, IsRuleOf, take}
 use Rattle.fcl_check.proofs.block.rules.Given as goal
 
 abbrev pub invariant-each : goal.invariant-each

@@ -1,4 +1,4 @@
-use Rattle.std.proofs.Common.{sym}
+use Rattle.fcl_check.proofs.Words.{sym}
 use Rattle.fcl_check.proofs.Faultless.{over_first}
 use Rattle.fcl_check.proofs.checks.declared_over_limit.Goals as goal
 

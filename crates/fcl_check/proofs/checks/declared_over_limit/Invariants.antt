@@ -1,5 +1,4 @@
-use Rattle.std.proofs.Common.{◌≡◌, List, [], drop}
-use Rattle.fcl_check.specs.{Faults.is_over, Names.Declared, Places.at_each, Places.at_if, Places.first}
+use Rattle.fcl_check.proofs.Words.{[], ◌≡◌, at_each, at_if, Declared, drop, first, is_over, List}
 use Rattle.fcl_check.proofs.Faultless.{over_from}
 use Rattle.fcl_check.proofs.checks.declared_over_limit.Given as goal
 

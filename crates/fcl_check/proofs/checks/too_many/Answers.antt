@@ -1,4 +1,4 @@
-use Rattle.std.proofs.Common.{rules}
+use Rattle.fcl_check.proofs.Words.{rules}
 use Rattle.fcl_check.proofs.Faultless.{too_many_first}
 use Rattle.fcl_check.proofs.checks.too_many.Goals as goal
 

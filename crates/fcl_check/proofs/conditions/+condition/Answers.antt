@@ -1,4 +1,4 @@
-use Rattle.std.proofs.Common.{rules, refl}
+use Rattle.fcl_check.proofs.Words.{refl, rules}
 use Rattle.fcl_check.proofs.ConditionParts.{and_kind, first_falls, first_known, or_kind, part_falls, part_known}
 use Rattle.fcl_check.proofs.ConditionParts.{parts_further, whole_of_all, whole_of_one}
 use Rattle.fcl_check.proofs.conditions.+condition.Goals as goal

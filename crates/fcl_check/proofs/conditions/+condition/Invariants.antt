@@ -1,5 +1,4 @@
-use Rattle.std.proofs.Common.{◌≡◌, ◌∷◌, map, take}
-use Rattle.fcl_check.specs.Loaded.{literal_of, not_condition, and_condition}
+use Rattle.fcl_check.proofs.Words.{◌∷◌, ◌≡◌, and_condition, literal_of, map, not_condition, take}
 use Rattle.fcl_check.proofs.ConditionParts.{and_kind, or_kind}
 use Rattle.fcl_check.proofs.conditions.+condition.Given as goal
 

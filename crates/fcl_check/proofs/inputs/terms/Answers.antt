@@ -1,7 +1,5 @@
-use Rattle.std.proofs.Common.{◌<◌, Some, None, length, not, rules, ap, sym, ◌∙◌}
-use Rattle.std.proofs.lemmas.{List.append-nil, Slice.Zip.all_zipped_more}
-use Rattle.fcl_syntax.specs.declared.tree.Term.{Term}
-use Rattle.fcl_check.specs.{Loaded.IsTermOf, Names.term_of, Places.at_if, Sections.has_shape, Sections.points_of}
+use Rattle.fcl_check.proofs.Words.{◌<◌, ◌∙◌, all_zipped_more, ap, append-nil, at_if, has_shape, IsTermOf, length}
+use Rattle.fcl_check.proofs.Words.{None, not, points_of, rules, Some, sym, Term, term_of}
 use Rattle.fcl_check.proofs.{Faultless.shaped, Faultless.none_at, Elements.filter_map-more}
 use Rattle.fcl_check.proofs.inputs.terms.Goals.{in-Term+in_ok-push, in_default}
 use Rattle.fcl_check.proofs.inputs.terms.Goals as goal

@@ -1,6 +1,4 @@
-use Rattle.std.proofs.Common.{take}
-use Rattle.std.specs.List.{AllZip, filter_map}
-use Rattle.fcl_check.specs.{Loaded.IsTermOf, Names.term_of}
+use Rattle.fcl_check.proofs.Words.{AllZip, filter_map, IsTermOf, take, term_of}
 use Rattle.fcl_check.proofs.inputs.terms.Given as goal
 
 abbrev pub invariant-each : goal.invariant-each

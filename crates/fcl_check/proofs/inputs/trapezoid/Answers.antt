@@ -1,5 +1,4 @@
-use Rattle.std.proofs.Common.{◌≡◌, [], ◌∷◌, take, refl}
-use Rattle.std.proofs.lemmas.List.{take_all}
+use Rattle.fcl_check.proofs.Words.{[], ◌∷◌, ◌≡◌, refl, take, take_all}
 use Rattle.fcl_check.proofs.{CourseSteps.AreCornersOf-more, Faultless.top_there}
 use Rattle.fcl_check.proofs.inputs.trapezoid.Goals as goal
 

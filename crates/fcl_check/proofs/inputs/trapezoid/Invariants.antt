@@ -1,5 +1,4 @@
-use Rattle.std.proofs.Common.{◌∷◌, take}
-use Rattle.fcl_check.specs.Corners.{AreCornersOf}
+use Rattle.fcl_check.proofs.Words.{◌∷◌, AreCornersOf, take}
 use Rattle.fcl_check.proofs.inputs.trapezoid.Given as goal
 
 abbrev pub invariant-loop-point : goal.invariant-loop-point

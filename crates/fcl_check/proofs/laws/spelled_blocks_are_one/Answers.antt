@@ -1,7 +1,4 @@
-use Rattle.std.proofs.Common.{subst}
-use Rattle.std.specs.Str.{str_to_ascii_lowercase}
-use Rattle.fcl_syntax.specs.declared.tree.FunctionBlock.{FunctionBlock}
-use Rattle.fcl_check.specs.Loaded.{IsBlockOf}
+use Rattle.fcl_check.proofs.Words.{FunctionBlock, IsBlockOf, str_to_ascii_lowercase, subst}
 use Rattle.fcl_check.proofs.laws.spelled_blocks_are_one.Goals as goal
 
 pub returns : goal.returns

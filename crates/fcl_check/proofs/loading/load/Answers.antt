@@ -1,4 +1,4 @@
-use Rattle.std.proofs.Common.{rules}
+use Rattle.fcl_check.proofs.Words.{rules}
 use Rattle.fcl_check.proofs.ValidBlocks.{kept_block}
 use Rattle.fcl_check.proofs.loading.load.Goals as goal
 

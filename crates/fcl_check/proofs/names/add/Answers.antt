@@ -1,5 +1,4 @@
-use Rattle.std.proofs.Common.{◌≡◌, None, sym, ◌∙◌}
-use Rattle.fcl_check.specs.{ByLetters.at_letters, Names.letters}
+use Rattle.fcl_check.proofs.Words.{◌∙◌, ◌≡◌, at_letters, letters, None, sym}
 use Rattle.fcl_check.proofs.Naming.{letters_added, no_value}
 use Rattle.fcl_check.proofs.names.add.Goals as goal
 

@@ -1,6 +1,4 @@
-use Rattle.std.proofs.Common.{◌≡◌, take}
-use Rattle.std.specs.List.{flat_map}
-use Rattle.fcl_check.specs.Names.{declared_by}
+use Rattle.fcl_check.proofs.Words.{◌≡◌, declared_by, flat_map, take}
 use Rattle.fcl_check.proofs.names.declared.Given as goal
 
 abbrev pub invariant-each : goal.invariant-each

@@ -1,5 +1,4 @@
-use Rattle.std.proofs.Common.{◌≡◌, Err, rules, refl, sym, ◌∙◌}
-use Rattle.std.proofs.lemmas.List.{take_more}
+use Rattle.fcl_check.proofs.Words.{◌∙◌, ◌≡◌, Err, refl, rules, sym, take_more}
 use Rattle.fcl_check.proofs.DeclaredNames.{KnowsSingletons-other, KnowsSingletons-singleton, is_no_singleton}
 use Rattle.fcl_check.proofs.DeclaredNames.{named_twice, other_twice, singleton_lines}
 use Rattle.fcl_check.proofs.names.defuzzy_terms.Goals as goal

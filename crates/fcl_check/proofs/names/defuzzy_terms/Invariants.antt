@@ -1,4 +1,4 @@
-use Rattle.std.proofs.Common.{take}
+use Rattle.fcl_check.proofs.Words.{take}
 use Rattle.fcl_check.proofs.DeclaredNames.{KnowsSingletons}
 use Rattle.fcl_check.proofs.names.defuzzy_terms.Given as goal
 

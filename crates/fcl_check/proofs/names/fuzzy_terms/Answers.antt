@@ -1,4 +1,4 @@
-use Rattle.std.proofs.Common.{◌≡◌, Err, rules, refl, sym, ◌∙◌}
+use Rattle.fcl_check.proofs.Words.{◌∙◌, ◌≡◌, Err, refl, rules, sym}
 use Rattle.fcl_check.proofs.DeclaredNames.{KnowsTerms-range, KnowsTerms-term, named_twice, range_twice, term_lines}
 use Rattle.fcl_check.proofs.Places.{read_further}
 use Rattle.fcl_check.proofs.names.fuzzy_terms.Goals.{in-Term+in_ok-add_term-in-Term, in-Range+else-has_range}

@@ -1,4 +1,4 @@
-use Rattle.std.proofs.Common.{◌≡◌, ◌∷◌, ◌++◌, map, take}
+use Rattle.fcl_check.proofs.Words.{◌++◌, ◌∷◌, ◌≡◌, map, take}
 use Rattle.fcl_check.proofs.names.push_declaration.Given as goal
 
 abbrev pub invariant-each : goal.invariant-each

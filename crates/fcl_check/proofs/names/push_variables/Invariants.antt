@@ -1,4 +1,4 @@
-use Rattle.std.proofs.Common.{◌≡◌, ◌++◌, take}
+use Rattle.fcl_check.proofs.Words.{◌++◌, ◌≡◌, take}
 use Rattle.fcl_check.proofs.Naming.{names_declared}
 use Rattle.fcl_check.proofs.names.push_variables.Given as goal
 

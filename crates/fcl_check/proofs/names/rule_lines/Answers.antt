@@ -1,6 +1,4 @@
-use Rattle.std.proofs.Common.{refl, sym}
-use Rattle.std.proofs.lemmas.List.{take_more}
-use Rattle.fcl_check.specs.Faults.{same_rule_line, rule_line_at}
+use Rattle.fcl_check.proofs.Words.{refl, rule_line_at, same_rule_line, sym, take_more}
 use Rattle.fcl_check.proofs.Places.{repeated_here}
 use Rattle.fcl_check.proofs.names.rule_lines.Goals as goal
 

@@ -1,5 +1,4 @@
-use Rattle.std.proofs.Common.{◌≡◌, take, None}
-use Rattle.fcl_check.specs.{Faults.repeated, Faults.same_rule_line, Faults.rule_line_at, Places.first}
+use Rattle.fcl_check.proofs.Words.{◌≡◌, first, None, repeated, rule_line_at, same_rule_line, take}
 use Rattle.fcl_check.proofs.names.rule_lines.Given as goal
 
 abbrev pub invariant-each : goal.invariant-each

@@ -1,4 +1,4 @@
-use Rattle.std.proofs.Common.{◌≡◌, Err, rules, refl, sym}
+use Rattle.fcl_check.proofs.Words.{◌≡◌, Err, refl, rules, sym}
 use Rattle.fcl_check.proofs.DeclaredNames.{section_twice, line_twice, section_once, sections_more}
 use Rattle.fcl_check.proofs.Places.{read_further}
 use Rattle.fcl_check.proofs.names.sections.Goals as goal

@@ -1,5 +1,4 @@
-use Rattle.std.proofs.Common.{◌≡◌, [], take, None}
-use Rattle.fcl_check.specs.{ByLetters.HoldsSections, Faults.repeated_section, Places.at_each, Places.first}
+use Rattle.fcl_check.proofs.Words.{[], ◌≡◌, at_each, first, HoldsSections, None, repeated_section, take}
 use Rattle.fcl_check.proofs.names.sections.Given as goal
 
 abbrev pub invariant-each : goal.invariant-each

@@ -1,5 +1,5 @@
-use Rattle.std.proofs.Common.{◌≡◌, Err, take, length-take, rules, arith}
-use Rattle.fcl_syntax.specs.declared.tree.Direction.TheVariants.{Input, Output}
+use Rattle.fcl_check.proofs.Words.{◌≡◌, arith, Err, Input, Output, rules, take}
+use Rattle.std.proofs.{Common.length-take}
 use Rattle.fcl_check.proofs.DeclaredNames.{count_bound, variables_more, counts_more, variables_once, variables_twice}
 use Rattle.fcl_check.proofs.names.variables.Goals as goal
 

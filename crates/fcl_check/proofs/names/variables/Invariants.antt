@@ -1,7 +1,5 @@
-use Rattle.std.proofs.Common.{◌≡◌, ℕ, List, length, take, None}
-use Rattle.fcl_syntax.specs.declared.tree.Direction.{Direction}
-use Rattle.fcl_check.specs.ByLetters.{at_letters, variable_in, names_of, count_of}
-use Rattle.fcl_check.specs.{Faults.repeated, Faults.same_declared, Places.first}
+use Rattle.fcl_check.proofs.Words.{◌≡◌, at_letters, count_of, Direction, first, length, List, names_of, None}
+use Rattle.fcl_check.proofs.Words.{repeated, same_declared, take, variable_in, ℕ}
 use Rattle.fcl_check.proofs.names.variables.Given as goal
 
 abbrev pub invariant-each : goal.invariant-each

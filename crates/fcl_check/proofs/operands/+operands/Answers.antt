@@ -1,5 +1,4 @@
-use Rattle.std.proofs.Common.{refl, sym, ◌∙◌}
-use Rattle.std.proofs.lemmas.{Fn.says_at, List.append-nil}
+use Rattle.fcl_check.proofs.Words.{◌∙◌, append-nil, refl, says_at, sym}
 use Rattle.fcl_check.proofs.ConditionParts.{and_kind, first_place, or_kind}
 use Rattle.fcl_check.proofs.operands.+operands.Goals as goal
 

@@ -1,5 +1,4 @@
-use Rattle.std.proofs.Common.{drop}
-use Rattle.std.specs.Fn.{FnReturnsAt}
+use Rattle.fcl_check.proofs.Words.{drop, FnReturnsAt}
 use Rattle.fcl_check.proofs.ConditionParts.{HaveFirst, and_kind, or_kind}
 use Rattle.fcl_check.proofs.operands.+operands.Given as goal
 

@@ -1,6 +1,4 @@
-use Rattle.std.proofs.Common.{◌≡◌, drop}
-use Rattle.std.specs.List.{filter_map}
-use Rattle.fcl_check.specs.{Places.first, Sections.default_line, Sections.default_of}
+use Rattle.fcl_check.proofs.Words.{◌≡◌, default_line, default_of, drop, filter_map, first}
 use Rattle.fcl_check.proofs.outputs.fallback.Given as goal
 
 abbrev pub invariant-loop-line : goal.invariant-loop-line

@@ -1,6 +1,4 @@
-use Rattle.std.proofs.Common.{◌≡◌, drop}
-use Rattle.std.specs.List.{filter_map}
-use Rattle.fcl_check.specs.{Places.first, Sections.method_line}
+use Rattle.fcl_check.proofs.Words.{◌≡◌, drop, filter_map, first, method_line}
 use Rattle.fcl_check.proofs.outputs.has_method.Given as goal
 
 abbrev pub invariant-loop-line : goal.invariant-loop-line

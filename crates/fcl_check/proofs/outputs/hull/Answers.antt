@@ -1,5 +1,4 @@
-use Rattle.std.proofs.Common.{None, Some, ap, option_map, ◌∙◌}
-use Rattle.fcl_check.specs.Spans.{ends_in}
+use Rattle.fcl_check.proofs.Words.{◌∙◌, ap, ends_in, None, option_map, Some}
 use Rattle.fcl_check.proofs.Ranges.{hull-found, hull-passed}
 use Rattle.fcl_check.proofs.outputs.hull.Goals as goal
 use Rattle.fcl_check.proofs.outputs.hull.Goals.{in-Some+in-Some-hull, in-Some+in-None, in_default}

@@ -1,6 +1,4 @@
-use Rattle.std.proofs.Common.{◌≡◌, map, option_map, take}
-use Rattle.std.specs.List.{filter_map}
-use Rattle.fcl_check.specs.{Spans.ends_in, Sections.hull_of, Sections.number_line}
+use Rattle.fcl_check.proofs.Words.{◌≡◌, ends_in, filter_map, hull_of, map, number_line, option_map, take}
 use Rattle.fcl_check.proofs.outputs.hull.Given as goal
 
 abbrev pub invariant-loop-line : goal.invariant-loop-line

@@ -1,6 +1,4 @@
-use Rattle.std.proofs.Common.{◌≡◌, map, take}
-use Rattle.std.specs.List.{filter_map}
-use Rattle.fcl_check.specs.{Names.singleton_of, Sections.value}
+use Rattle.fcl_check.proofs.Words.{◌≡◌, filter_map, map, singleton_of, take, value}
 use Rattle.fcl_check.proofs.outputs.singletons.Given as goal
 
 abbrev pub invariant-each : goal.invariant-each

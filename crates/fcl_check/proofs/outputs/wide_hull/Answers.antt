@@ -1,4 +1,4 @@
-use Rattle.fcl_check.specs.Spans.{ends_in}
+use Rattle.fcl_check.proofs.Words.{ends_in}
 use Rattle.fcl_check.proofs.Ranges.{output_hull-in}
 use Rattle.fcl_check.proofs.outputs.wide_hull.Goals as goal
 

@@ -1,6 +1,4 @@
-use Rattle.std.proofs.Common.{◌≡◌, drop}
-use Rattle.std.specs.List.{filter_map}
-use Rattle.fcl_check.specs.{Places.first, Sections.defuzzy_range, Sections.output_range_line}
+use Rattle.fcl_check.proofs.Words.{◌≡◌, defuzzy_range, drop, filter_map, first, output_range_line}
 use Rattle.fcl_check.proofs.sections.defuzzy_range.Given as goal
 
 abbrev pub invariant-loop-line : goal.invariant-loop-line

@@ -1,5 +1,4 @@
-use Rattle.std.proofs.Common.{◌≡◌, drop}
-use Rattle.fcl_check.specs.{Places.first, Sections.falling_in}
+use Rattle.fcl_check.proofs.Words.{◌≡◌, drop, falling_in, first}
 use Rattle.fcl_check.proofs.CourseSteps.{falling_from}
 use Rattle.fcl_check.proofs.sections.falling_in.Given as goal
 

@@ -1,6 +1,4 @@
-use Rattle.std.proofs.Common.{◌≡◌, drop}
-use Rattle.std.specs.List.{filter_map}
-use Rattle.fcl_check.specs.{Places.first, Sections.fuzzy_range, Sections.range_line}
+use Rattle.fcl_check.proofs.Words.{◌≡◌, drop, filter_map, first, fuzzy_range, range_line}
 use Rattle.fcl_check.proofs.sections.fuzzy_range.Given as goal
 
 abbrev pub invariant-loop-line : goal.invariant-loop-line

@@ -1,5 +1,5 @@
-use Rattle.std.proofs.Common.{◌≡◌, drop}
-use Rattle.fcl_check.specs.{Steps.completes, Sections.has_shape, Sections.points_of}
+use Rattle.fcl_check.proofs.Words.{◌≡◌, drop, has_shape, points_of}
+use Rattle.fcl_check.specs.{Steps.completes}
 use Rattle.fcl_check.proofs.sections.has_shape.Given as goal
 
 abbrev pub invariant-loop-point : goal.invariant-loop-point

@@ -1,8 +1,5 @@
-use Rattle.std.proofs.Common.{◌∙◌, rules, tests}
-use Rattle.std.proofs.lemmas.{Iterator.YieldsList-from_slice, Iterator.Search.any_from_yields_List}
-use Rattle.std.specs.Prelude.{is_some}
-use Rattle.fcl_syntax.specs.declared.tree.DefuzzyLine.{DefuzzyLine}
-use Rattle.fcl_check.specs.Names.{singleton_of}
+use Rattle.fcl_check.proofs.Words.{◌∙◌, any_from_yields_List, DefuzzyLine, is_some, rules, singleton_of, tests}
+use Rattle.fcl_check.proofs.Words.{YieldsList-from_slice}
 use Rattle.fcl_check.proofs.Places.{any_found}
 use Rattle.fcl_check.proofs.sections.has_singleton.Goals as goal
 

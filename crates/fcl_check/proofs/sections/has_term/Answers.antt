@@ -1,8 +1,5 @@
-use Rattle.std.proofs.Common.{◌∙◌, rules, tests}
-use Rattle.std.proofs.lemmas.{Iterator.YieldsList-from_slice, Iterator.Search.any_from_yields_List}
-use Rattle.std.specs.Prelude.{is_some}
-use Rattle.fcl_syntax.specs.declared.tree.FuzzyLine.{FuzzyLine}
-use Rattle.fcl_check.specs.Names.{term_of}
+use Rattle.fcl_check.proofs.Words.{◌∙◌, any_from_yields_List, FuzzyLine, is_some, rules, term_of, tests}
+use Rattle.fcl_check.proofs.Words.{YieldsList-from_slice}
 use Rattle.fcl_check.proofs.Places.{any_found}
 use Rattle.fcl_check.proofs.sections.has_term.Goals as goal
 

@@ -1,6 +1,5 @@
-use Rattle.std.proofs.Common.{◌∙◌, option_map, arith, rules}
+use Rattle.fcl_check.proofs.Words.{◌∙◌, arith, ends_in, option_map, rules}
 use Rattle.std.proofs.lemmas.Grind.{common_steps}
-use Rattle.fcl_check.specs.Spans.{ends_in}
 use Rattle.fcl_check.proofs.Ranges.{hull_term}
 use Rattle.fcl_check.proofs.sections.hull.Goals.{in-Term, in_default}
 use Rattle.fcl_check.proofs.sections.hull.Goals as goal

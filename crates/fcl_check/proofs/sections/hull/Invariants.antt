@@ -1,8 +1,6 @@
-use Rattle.std.proofs.Common.{◌≡◌, drop, map}
+use Rattle.fcl_check.proofs.Words.{◌≡◌, abscissas, drop, ends_in, extended, filter_map, flat_map, hull_of, map}
+use Rattle.fcl_check.proofs.Words.{points_of, term_of, x_of}
 use Rattle.std.specs.Prelude.{option_map}
-use Rattle.std.specs.List.{filter_map, flat_map}
-use Rattle.fcl_check.specs.{Spans.ends_in, Names.term_of, Steps.extended}
-use Rattle.fcl_check.specs.Sections.{abscissas, hull_of, points_of, x_of}
 use Rattle.fcl_check.proofs.sections.hull.Given as goal
 
 abbrev pub invariant-loop-line : goal.invariant-loop-line

@@ -1,4 +1,4 @@
-use Rattle.std.proofs.Common.{rules}
+use Rattle.fcl_check.proofs.Words.{rules}
 use Rattle.fcl_check.proofs.Places.{flat_map-filter_map}
 use Rattle.fcl_check.proofs.sections.point_outside.Goals as goal
 

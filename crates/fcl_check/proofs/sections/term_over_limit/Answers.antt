@@ -1,9 +1,7 @@
-use Rattle.std.proofs.Common.{rules, tests, ◌∙◌, sym, option_map}
-use Rattle.std.proofs.lemmas.{Iterator.YieldsList-from_slice, Iterator.Adapters.option_map_id}
+use Rattle.fcl_check.proofs.Words.{◌∙◌, DefuzzyLine, FuzzyLine, option_map, rules, Singleton, singleton_of, sym, Term}
+use Rattle.fcl_check.proofs.Words.{term_of, tests, YieldsList-from_slice}
+use Rattle.std.proofs.{lemmas.Iterator.Adapters.option_map_id}
 use Rattle.std.proofs.lemmas.{Iterator.Consumers.YieldsList-from_filter_map, Iterator.Consumers.nth_from_yields_List}
-use Rattle.fcl_syntax.specs.declared.tree.{DefuzzyLine.DefuzzyLine, FuzzyLine.FuzzyLine, Singleton.Singleton}
-use Rattle.fcl_syntax.specs.declared.tree.Term.{Term}
-use Rattle.fcl_check.specs.Names.{singleton_of, term_of}
 use Rattle.fcl_check.proofs.Places.{first-map-drop-filter_map}
 use Rattle.fcl_check.proofs.sections.term_over_limit.Goals as goal
 

@@ -1,5 +1,4 @@
-use Rattle.std.proofs.Common.{◌≡◌, drop, map}
-use Rattle.fcl_check.specs.{Spans.ends_in, Sections.reach, Sections.x_of}
+use Rattle.fcl_check.proofs.Words.{◌≡◌, drop, ends_in, map, reach, x_of}
 use Rattle.fcl_check.proofs.sections.with_points.Given as goal
 
 abbrev pub invariant-loop-point : goal.invariant-loop-point

@@ -1,4 +1,4 @@
-use Rattle.std.proofs.Common.{arith, sym, ◌∙◌}
+use Rattle.fcl_check.proofs.Words.{◌∙◌, arith, sym}
 use Rattle.fcl_check.proofs.Faultless.{number_few, term_few}
 use Rattle.fcl_check.proofs.source.numbers.Goals as goal
 

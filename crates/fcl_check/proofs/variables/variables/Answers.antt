@@ -1,5 +1,4 @@
-use Rattle.std.proofs.Common.{sym, arith, ◌∙◌}
-use Rattle.fcl_check.specs.Loaded.{IsVariableNamed}
+use Rattle.fcl_check.proofs.Words.{◌∙◌, arith, IsVariableNamed, sym}
 use Rattle.fcl_check.proofs.Faultless.{IsVariableNamed-read, IsWellFormed-read, kind_read, part_read}
 use Rattle.fcl_check.proofs.Naming.{named-more, unnamed-more}
 use Rattle.fcl_check.proofs.variables.variables.Goals as goal

@@ -1,6 +1,4 @@
-use Rattle.std.proofs.Common.{take}
-use Rattle.std.specs.List.{AllZip, filter_map}
-use Rattle.fcl_check.specs.Loaded.{IsVariableNamed}
+use Rattle.fcl_check.proofs.Words.{AllZip, filter_map, IsVariableNamed, take}
 use Rattle.fcl_check.proofs.Naming.{named_as}
 use Rattle.fcl_check.proofs.variables.variables.Given as goal
 

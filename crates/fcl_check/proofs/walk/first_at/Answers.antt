@@ -1,5 +1,4 @@
-use Rattle.std.proofs.Common.{rules, refl}
-use Rattle.std.proofs.lemmas.Fn.{says_at}
+use Rattle.fcl_check.proofs.Words.{refl, rules, says_at}
 use Rattle.fcl_check.proofs.Places.{found_here, none_here}
 use Rattle.fcl_check.proofs.walk.first_at.Goals as goal
 

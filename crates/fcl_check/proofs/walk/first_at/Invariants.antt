@@ -1,6 +1,4 @@
-use Rattle.std.proofs.Common.{◌≡◌, ℕ, List, Option, drop}
-use Rattle.std.specs.{Fn.FnReturnsAt, List.flat_map}
-use Rattle.fcl_check.specs.Places.{first}
+use Rattle.fcl_check.proofs.Words.{◌≡◌, drop, first, flat_map, FnReturnsAt, List, Option, ℕ}
 use Rattle.fcl_check.proofs.walk.first_at.Given as goal
 
 abbrev pub invariant-loop-item : goal.invariant-loop-item

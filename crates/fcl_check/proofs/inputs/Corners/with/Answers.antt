@@ -1,4 +1,4 @@
-use Rattle.std.proofs.Common.{rules}
+use Rattle.fcl_check.proofs.Words.{rules}
 use Rattle.fcl_check.proofs.CourseSteps.{rising, falling, beginning, going-on}
 use Rattle.fcl_check.proofs.inputs.Corners.with.Goals as goal
 

@@ -1,4 +1,4 @@
-use Rattle.fcl_check.specs.Spans.{ends_in}
+use Rattle.fcl_check.proofs.Words.{ends_in}
 use Rattle.fcl_check.proofs.Faultless.{input_range_there, mapped_there}
 use Rattle.fcl_check.proofs.inputs.InputFromSection.from_section.Goals as goal
 

@@ -1,4 +1,4 @@
-use Rattle.fcl_check.specs.Spans.{ends_in}
+use Rattle.fcl_check.proofs.Words.{ends_in}
 use Rattle.fcl_check.proofs.Faultless.{mapped_there, output_range_there}
 use Rattle.fcl_check.proofs.outputs.OutputFromSection.from_section.Goals as goal
 
