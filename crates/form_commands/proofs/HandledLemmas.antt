@@ -54,7 +54,7 @@ module _ (reported : AnswersAreReported) (fit : SpelledBytesFit) (all : AnswersU
         same ran;
     interrupts = handled.run;
     reported = reported Byte flags files.fcl block firmware a.inputs.accepted.cert errors files.inputs.trace samples
-        plan plain a.compiled a.inputs.accepted.accepted a.inputs.in_range handled.listed under;
+        plan plain a.compiled a.inputs.accepted.accepted a.inputs.in_range under;
   }
 
 -- what refuses the files behind HANDLER refuses the run

@@ -110,7 +110,7 @@ module _ (reported : AnswersAreReported) (keep : AnswersKeepTheBound) (fit : Spe
     ran = ran;
     answers = answers;
     reported = reported Byte flags files.slow slow two.slow a.certs.slow_accepted.cert errors files.slow_trace samples
-        plan plain slow_gives a.certs.slow_accepted.accepted a.traces.slow_in_range plain_is under;
+        plan plain slow_gives a.certs.slow_accepted.accepted a.traces.slow_in_range under;
     fast_bound = ap fast_most fast_bounds.instructions;
     fast_instructions = of_seen (λ q. q.instructions ≤ most) answer_of_fast (fast_runs rows)
         (keep Byte fast most (λ o. 0) (map (bytes_of fast_bytes) (fast_numbers rows))

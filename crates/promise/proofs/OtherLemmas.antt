@@ -12,28 +12,29 @@ use Rattle.promise.specs.{Bench.AreReadOff, Bench.requests_in, Laws.AnswersServe
 use Rattle.promise.specs.OtherRuns.{DebuggedRunsServe, WatchedRunsServe, GeneratedRunsServe, HandledRunsServe}
 use Rattle.promise.specs.OtherRuns.{OtherRunsServe, SlowRunsServe}
 use Rattle.promise.proofs.BenchLemmas.{read_off_expected}
+use Rattle.run_reports.proofs.Algebra.{rows_ran}
 
 generated : AnswersServe → GeneratedRunsServe
 generated keep number output g =
     keep Byte 0 g.block g.firmware (map input_bytes g.samples) g.requests g.report.rows (omega arith)
-    g.gives.spelled.valid g.gives.limits g.gives.compiled.0 g.gives.compiled.1 g.reported.ran g.reported.follows
+    g.gives.spelled.valid g.gives.limits g.gives.compiled.0 g.gives.compiled.1 g.reported.follows
 
 debugged : AnswersServe → DebuggedRunsServe
 debugged keep debug files output d byte =
     keep Byte debug.flags d.block d.firmware (map input_bytes d.samples) d.plan d.rows byte
     d.accepts.compiled.spelled.valid d.accepts.compiled.limits d.accepts.compiled.compiled.0
-    d.accepts.compiled.compiled.1 d.ran d.follows
+    d.accepts.compiled.compiled.1 d.follows
 
 handled : AnswersServe → HandledRunsServe
 handled keep flags files report h byte = record {
   serves = keep Byte flags h.block h.firmware (map input_bytes h.samples) h.plan (map (λ row. row.row) report.rows) byte
-      h.compiled.spelled.valid h.compiled.limits h.compiled.compiled.0 h.compiled.compiled.1 h.reported.ran
+      h.compiled.spelled.valid h.compiled.limits h.compiled.compiled.0 h.compiled.compiled.1
       h.reported.follows;
   last = _;
   ran = record {
     most = h.firmware.step_bound;
     arrived = h.interrupts.arrived;
-    rows_are = h.reported.ran ∙ sym h.interrupts.rows_are;
+    rows_are = rows_ran h.reported.follows ∙ sym h.interrupts.rows_are;
     last_is = refl;
   };
 }
@@ -43,13 +44,13 @@ slow keep flags files report l byte = record {
   serves = keep Byte flags l.slow l.two.slow (map input_bytes l.samples) (plan_of l.levels)
       (map (λ row. row.row) report.rows) byte
       l.accepts.compiled.slow_is.spelled.valid l.accepts.compiled.slow_is.limits
-      l.accepts.compiled.both.slow_alone.firmware l.accepts.compiled.both.slow_alone.narrow l.reported.ran
+      l.accepts.compiled.both.slow_alone.firmware l.accepts.compiled.both.slow_alone.narrow
       l.reported.follows;
   last = _;
   ran = record {
     most = l.two.slow.step_bound;
     arrived = l.answers.arrived;
-    rows_are = l.reported.ran ∙ sym l.answers.rows_are;
+    rows_are = rows_ran l.reported.follows ∙ sym l.answers.rows_are;
     last_is = refl;
   };
 }

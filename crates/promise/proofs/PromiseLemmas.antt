@@ -25,6 +25,7 @@ use Rattle.run_reports.specs.RowLines.{run_lines}
 use Rattle.promise.specs.Bench.{AreReadOff, IsFirstAtLoop, IsRunOf, bench, loop, requests_in}
 use Rattle.promise.specs.{Laws.AnswersServe, Laws.CertifiedRunsKeepPromise, Promise.Serves}
 use Rattle.promise.proofs.BenchLemmas.{bench_is, reaches, read_off}
+use Rattle.run_reports.proofs.Algebra.{rows_ran}
 
 enough_steps : (w : Width) (b : Block) → length b.outputs ≤ 4 → 3 ≤ step_bound w b
 unfolding steps_by instruction_bound
@@ -33,8 +34,7 @@ enough_steps w b few = omega arith
 module _ (answers : FirmwareAnswers) (one : PlainIsOneStep) (arrives : ArrivesPlainly) (width : Width) (flags : ℕ)
     (b : Block) (f : Firmware) (bytes : List (List ℕ)) (plan : List Request) (rows : List (RowSeen (List ℕ)))
     (byte : flags < 2 ^ 8) (valid : IsValid b) (limits : IsWithinLimits b) (compiled : IsFirmwareOf b f)
-    (wide : f.wide ≡ is_wide width) (ran_so : rows ≡ (firmware_rows f bytes plan flags).rows)
-    (r : AnswersUnder b f flags bytes plan rows) where
+    (wide : f.wide ≡ is_wide width) (r : AnswersUnder b f flags bytes plan rows) where
   abbrev start : State
   start = reset_with (image_memory f.image.bytes)
 
@@ -70,7 +70,7 @@ module _ (answers : FirmwareAnswers) (one : PlainIsOneStep) (arrives : ArrivesPl
       form (record {
         most = f.step_bound;
         arrived = r.follows.arrived;
-        rows_are = ran_so;
+        rows_are = rows_ran r;
         last_is = refl;
       })
 
@@ -84,8 +84,8 @@ module _ (answers : FirmwareAnswers) (one : PlainIsOneStep) (arrives : ArrivesPl
   served = record { first = first; waits = waits; last = last; ran = ran; without = without }
 
 pub answers_serve : FirmwareAnswers → PlainIsOneStep → ArrivesPlainly → AnswersServe
-answers_serve answers one arrives = λ width flags b f bytes plan rows byte valid limits compiled wide ran r.
-    served answers one arrives width flags b f bytes plan rows byte valid limits compiled wide ran r
+answers_serve answers one arrives = λ width flags b f bytes plan rows byte valid limits compiled wide r.
+    served answers one arrives width flags b f bytes plan rows byte valid limits compiled wide r
 
 -- ---- the printed numbers are small
 
@@ -111,7 +111,7 @@ certified_keep answers one arrives few kind width flags files report r byte = re
   plan = r.plan;
   free_writes = r.good_plan;
   serves = served answers one arrives width flags r.block r.firmware (map input_bytes r.samples) r.plan report.rows byte
-      r.compiled.spelled.valid r.compiled.limits r.compiled.compiled.0 r.compiled.compiled.1 r.reported.ran
+      r.compiled.spelled.valid r.compiled.limits r.compiled.compiled.0 r.compiled.compiled.1
       r.reported.follows;
   within = r.reported.within;
   instructions = r.reported.instructions;

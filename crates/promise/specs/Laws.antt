@@ -15,7 +15,7 @@ use Rattle.rule_layout.specs.Layouts.{IsWithinLimits}
 use Rattle.run_reports.specs.{CertifiedRun.CertifiedRun, Reports.Report, RowLines.run_lines}
 use Rattle.run_reports.specs.declared.files.RunFiles.{RunFiles}
 use Rattle.run_commands.specs.Run.{RunAccepts, run_with}
-use Rattle.alone_runs.specs.{Answering.AnswersUnder, Rows.firmware_rows}
+use Rattle.alone_runs.specs.Answering.{AnswersUnder}
 use Rattle.run_law.specs.Forms.{RowSeen}
 use Rattle.srecord.specs.Texts.{GivesImage}
 use Rattle.std.specs.Prelude.{◌≡◌, ◌<◌, ◌^◌, ℕ, List, length}
@@ -27,7 +27,6 @@ abbrev pub AnswersServe : Type 0
 AnswersServe = (width : Width) (flags : ℕ) (block : Block) (firmware : Firmware) (samples : List (List ℕ))
     (plan : List Request) (rows : List (RowSeen (List ℕ))) → flags < 2 ^ 8 → IsValid block → IsWithinLimits block
     → IsFirmwareOf block firmware → firmware.wide ≡ is_wide width
-    → rows ≡ (firmware_rows firmware samples plan flags).rows
     → AnswersUnder block firmware flags samples plan rows
     → Serves width (length block.outputs) flags firmware.image samples plan rows
 

@@ -13,14 +13,10 @@ abbrev pub certifies : (reported : AnswersAreReported) (run : Run) (files : RunF
     (firmware : Firmware) (errors : List ℕ) (samples slice : List Sample) (plan : List Request)
     (rows : List (RowSeen (List ℕ))) (left : ℕ)
     → Accepts run.kind run.width files block firmware errors samples plan → slice ≡ samples
-    → rows ≡ (firmware_rows firmware (map input_bytes slice) plan run.flags).rows
     → AnswersItsBlock firmware run.flags (map input_bytes slice) plan rows
     → left ≡ left_of (firmware_rows firmware (map input_bytes slice) plan run.flags).state.mem
     → CertifiedRun run.kind run.width run.flags files (report_of errors firmware.instr_bound rows)
-certifies reported run files block firmware errors samples slice plan rows left a same ran answers left_is =
-    let ran_there = subst
-    (λ (ss : List Sample). rows ≡ (firmware_rows firmware (map input_bytes ss) plan run.flags).rows)
-    same ran in
+certifies reported run files block firmware errors samples slice plan rows left a same answers left_is =
     let answers_there : AnswersItsBlock firmware run.flags (map input_bytes samples) plan rows =
     subst (λ (ss : List Sample). AnswersItsBlock firmware run.flags (map input_bytes ss) plan rows) same answers in
     record {
@@ -34,7 +30,7 @@ certifies reported run files block firmware errors samples slice plan rows left 
       plan = plan;
       good_plan = a.inputs.good_plan;
       reported = reported run.width run.flags files.fcl block firmware a.inputs.accepted.cert errors files.inputs.trace
-          samples plan rows a.compiled a.inputs.accepted.accepted a.inputs.in_range ran_there answers_there;
+          samples plan rows a.compiled a.inputs.accepted.accepted a.inputs.in_range answers_there;
       left = left;
       left_is = subst (λ (ss : List Sample). left
           ≡ left_of (firmware_rows firmware (map input_bytes ss) plan run.flags).state.mem) same left_is;
@@ -49,7 +45,7 @@ accepted_made reported under run files block firmware errors samples plan byte a
       record {
         report = report_of errors firmware.instr_bound all.rows;
         certified = certifies reported run files block firmware errors samples samples plan all.rows
-            (left_of all.state.mem) a refl refl (under firmware run.flags bytes plan byte a.inputs.good_plan.good) refl;
+            (left_of all.state.mem) a refl (under firmware run.flags bytes plan byte a.inputs.good_plan.good) refl;
         output_is = refl;
       },
       refl,

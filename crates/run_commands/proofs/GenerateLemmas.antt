@@ -25,7 +25,7 @@ generate_made reported under generate (block, firmware, samples, requests, cert,
         report = report_of cert.claims firmware.instr_bound rows;
         errors = refl;
         reported = reported Byte 0 a.text block firmware cert cert.claims a.trace samples requests rows a.gives
-            a.halving.claims a.workload.in_trace refl
+            a.halving.claims a.workload.in_trace
             (under firmware 0 bytes requests (omega arith) a.workload.in_plan.good);
         output_is = refl;
       },

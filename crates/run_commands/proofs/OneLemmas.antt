@@ -16,6 +16,7 @@ use Rattle.alone_code.specs.{Alike.FirmwaresAreOne, Firmwares.IsFirmwareOf}
 use Rattle.workload.specs.Laws.{WorkloadsAreOne}
 use Rattle.run_forms.specs.Positions.{positions}
 use Rattle.command_parts.specs.Certs.{AcceptedErrorsAreOne, AcceptsCert}
+use Rattle.run_reports.proofs.Algebra.{rows_ran}
 
 pub runs_once : GivenFirmwaresAreOne → AcceptedErrorsAreOne → SpelledInputsAreOne → (run : Run) (files : RunFiles)
     → OutputsAreOne (RunMakes run files)
@@ -32,7 +33,8 @@ runs_once firmwares accepted inputs run files output other a b =
     (subst (λ (c : Block). SpellsTrace c.inputs files.inputs.trace q.samples) (sym one.0) q.in_range) in
     let plan : p.plan ≡ q.plan = inputs.plans files.inputs.plan p.plan q.plan p.good_plan q.good_plan in
     let rows : a.report.rows ≡ b.report.rows =
-    p.reported.ran ∙ (λ i. (firmware_rows (one.1 i) (bytes i) (plan i) run.flags).rows) ∙ sym q.reported.ran in
+    rows_ran p.reported.follows ∙ (λ i. (firmware_rows (one.1 i) (bytes i) (plan i) run.flags).rows)
+    ∙ sym (rows_ran q.reported.follows) in
     let bound : a.report.bound ≡ b.report.bound =
     p.reported.bound ∙ ap (instruction_bound run.width) one.0 ∙ sym q.reported.bound in
     let report : a.report ≡ b.report = (λ i. record { errors = errors i; bound = bound i; rows = rows i }) in
@@ -73,7 +75,8 @@ generates_once workloads firmwares answers generate output other a b =
     (subst (λ (c : Block). IsHalving Named c (parts Byte) generated_target b.cert) (sym one.0) b.halving)) in
     let errors : a.report.errors ≡ b.report.errors = a.errors ∙ ap (λ (c : Cert). c.claims) cert ∙ sym b.errors in
     let rows : a.report.rows ≡ b.report.rows =
-    a.reported.ran ∙ (λ i. (firmware_rows (firmware i) (one.1 i) (one.2 i) 0).rows) ∙ sym b.reported.ran in
+    rows_ran a.reported.follows ∙ (λ i. (firmware_rows (firmware i) (one.1 i) (one.2 i) 0).rows)
+    ∙ sym (rows_ran b.reported.follows) in
     let bound : a.report.bound ≡ b.report.bound =
     a.reported.bound ∙ ap (instruction_bound Byte) one.0 ∙ sym b.reported.bound in
     a.output_is ∙ (λ i. only_lines (generate_lines generate.number (errors i) (bound i) (rows i)))

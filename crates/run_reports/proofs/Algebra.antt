@@ -1,4 +1,4 @@
--- The lines that all runs tell.
+-- The lines that all runs tell, and their rows.
 use Rattle.std.proofs.Common.{◌≡◌, ◌<◌, ◌+◌, ℕ, List, [], ◌∷◌, ◌++◌, length, take, get_or, true, refl, sym, ◌∙◌, ap}
 use Rattle.std.proofs.Common.{append_assoc, add-one}
 use Rattle.std.specs.Prelude.{codes, decimal, map}
@@ -10,6 +10,10 @@ use Rattle.fz_shelf.specs.{Lines.has_no_end, Parts.address_digits}
 use Rattle.run_forms.specs.Rows.{boundary_seen, frames_seen}
 use Rattle.cpu12_emul.specs.{Take.FrameSeen, declared.ends.Frame.Frame}
 use Rattle.run_law.specs.Forms.{RowSeen}
+use Rattle.fuzzy_meaning.specs.declared.block.Block.{Block}
+use Rattle.alone_code.specs.declared.firmware.Firmware.{Firmware}
+use Rattle.alone_runs.specs.{Answering.AnswersUnder, Rows.firmware_rows}
+use Rattle.interrupt_plan.specs.declared.Request.{Request}
 use Rattle.command_parts.proofs.Algebra.{made_next, made_with}
 use Rattle.run_reports.specs.RowLines.{answered, answers_told, frame_line, frame_told, numbers, sample_told}
 
@@ -102,3 +106,11 @@ bare-frame f =
     let pc = codes " " ++ (address_digits f.1.pc ++ sp) in
     bare-append (decimal f.0) pc (bare-decimal f.0) (bare-append (address_digits f.1.pc) sp (bare-address f.1.pc)
     (bare-append (address_digits f.1.sp) bytes (bare-address f.1.sp) (bare-decimal (length f.1.bytes))))
+
+-- ---- rows
+
+-- rows that are read off the run without interrupts are those of the run that follows it
+pub rows_ran : {b : Block} {f : Firmware} {flags : ℕ} {samples : List (List ℕ)} {plan : List Request}
+    {rows : List (RowSeen (List ℕ))} → AnswersUnder b f flags samples plan rows
+    → rows ≡ (firmware_rows f samples plan flags).rows
+rows_ran a = a.rows_are ∙ sym a.follows.rows_are

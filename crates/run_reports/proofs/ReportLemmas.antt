@@ -16,7 +16,6 @@ use Rattle.trace_io.specs.Traces.{AreWithin, Fields, SpellSamples, Spells, input
 use Rattle.trace_io.specs.declared.sample.Sample.{Sample}
 use Rattle.run_law.specs.Forms.{RowSeen}
 use Rattle.alone_runs.specs.Answering.{AnswersItsBlock, AnswersUnder, answer_of_row}
-use Rattle.alone_runs.specs.Rows.{firmware_rows}
 use Rattle.run_reports.specs.Nearness.{AnswersAreWithinErrors, AreWithinErrors}
 use Rattle.run_reports.specs.Reports.{IsReportOf, report_of}
 use Rattle.command_parts.specs.{Firmwares.GivesFirmware, declared.firmware.Form.TheVariants.Alone}
@@ -78,7 +77,6 @@ module _ (near : AnswersAreWithinErrors) (w : Width) (flags : ℕ) (text : List 
     (cert : Cert) (errors trace : List ℕ) (samples : List Sample) (plan : List Request) (rows : List (RowSeen (List ℕ)))
     (gives : GivesFirmware (Alone w) text block firmware) (accepted : IsAccepted block (parts w) cert errors)
     (in_range : Spells block.inputs trace samples)
-    (ran : rows ≡ (firmware_rows firmware (map input_bytes samples) plan flags).rows)
     (answers : AnswersItsBlock firmware flags (map input_bytes samples) plan rows) where
   width : width_of firmware.wide ≡ w
   width = ap width_of gives.compiled.1 ∙ width_again w
@@ -96,7 +94,6 @@ module _ (near : AnswersAreWithinErrors) (w : Width) (flags : ℕ) (text : List 
 
   pub reports : IsReportOf w flags block firmware samples plan (report_of errors firmware.instr_bound rows)
   reports = record {
-    ran = ran;
     within = within;
     bound = gives.compiled.0.instructions ∙ ap (λ (v : Width). instruction_bound v block) width;
     instructions = of_seen (λ a. a.instructions ≤ firmware.instr_bound) answer_of_row rows

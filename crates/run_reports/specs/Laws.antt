@@ -11,7 +11,7 @@ use Rattle.interrupt_plan.specs.{OneReading.SpelledPlansAreOne, Plans.Spells as 
 use Rattle.interrupt_plan.specs.declared.Request.{Request}
 use Rattle.trace_io.specs.{Traces.Spells as SpellsTrace, declared.sample.Sample.Sample}
 use Rattle.run_law.specs.Forms.{RowSeen}
-use Rattle.alone_runs.specs.{Answering.AnswersItsBlock, Rows.firmware_rows}
+use Rattle.alone_runs.specs.Answering.{AnswersItsBlock}
 use Rattle.trace_io.specs.Traces.{input_bytes}
 use Rattle.fz_status.specs.declared.status.Status.{Status}
 use Rattle.command_parts.specs.{Firmwares.GivesFirmware, declared.firmware.Form.TheVariants.Alone}
@@ -46,7 +46,6 @@ AnswersAreReported = (width : Width) (flags : ℕ) (text : List ℕ) (block : Bl
     (errors trace : List ℕ) (samples : List Sample) (plan : List Request) (rows : List (RowSeen (List ℕ)))
     → GivesFirmware (Alone width) text block firmware → IsAccepted block (parts width) cert errors
     → SpellsTrace block.inputs trace samples
-    → rows ≡ (firmware_rows firmware (map input_bytes samples) plan flags).rows
     → AnswersItsBlock firmware flags (map input_bytes samples) plan rows
     → IsReportOf width flags block firmware samples plan (report_of errors firmware.instr_bound rows)
 

@@ -8,7 +8,7 @@ use Rattle.alone_code.specs.declared.firmware.Firmware.{Firmware}
 use Rattle.trace_io.specs.{declared.sample.Sample.Sample, Traces.input_bytes}
 use Rattle.interrupt_plan.specs.declared.Request.{Request}
 use Rattle.run_law.specs.Forms.{RowSeen}
-use Rattle.alone_runs.specs.{Answering.AnswersUnder, Rows.firmware_rows}
+use Rattle.alone_runs.specs.Answering.{AnswersUnder}
 use Rattle.run_reports.specs.Nearness.{AreWithinErrors}
 use Rattle.std.specs.Prelude.{◌-◌, drop, sum, take}
 use Rattle.cpu12_isa.specs.Regions.{free_start, stack_end}
@@ -29,7 +29,6 @@ report_of errors bound rows = record { errors = errors; bound = bound; rows = ro
 -- goes on once interrupted, and its frames are read off its run without interrupts.
 pub record IsReportOf (width : Width) (flags : ℕ) (block : Block) (firmware : Firmware) (samples : List Sample)
     (plan : List Request) (report : Report) : Type 0 where
-  pub ran : report.rows ≡ (firmware_rows firmware (map input_bytes samples) plan flags).rows
   pub within : AreWithinErrors (parts width) block report.errors samples report.rows
   pub bound : report.bound ≡ instruction_bound width block
   pub instructions : All (λ row. row.instrs ≤ report.bound) report.rows

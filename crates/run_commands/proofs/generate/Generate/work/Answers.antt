@@ -61,7 +61,6 @@ returns c =
       errors = refl;
       reported = c.answers_are_reported.ensures Byte 0 w.text.items w.block firmware cert cert.claims w.trace.items
           w.samples.items w.requests rows gives halving.claims drawn.in_trace
-          (rw c.as_slice-samples.ensures.value at c.in_ok-rows.ensures.rows)
           (rw c.as_slice-samples.ensures.value at c.in_ok-rows.ensures.answers);
       output_is = ap only_lines (c.in_ok-lines.ensures ∙ ap₂ lines_of c.as_slice-errors.ensures c.deref.ensures.value);
     }
