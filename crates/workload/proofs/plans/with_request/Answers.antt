@@ -35,4 +35,4 @@ returns c =
     (c.in_ok-with_sample.ensures ∙ ap (comma a.text.items) sample_is)
     (c.in_ok-with_moment.ensures ∙ ap (comma t1) moment_is)
     (c.in_ok-with_address.ensures ∙ ap (comma t2) word_is) refl in
-    subst (λ (t : List ℕ). IfOk c.with_field.result (λ v. v.items ≡ t)) row c.with_field.ensures
+    subst (λ (t : List ℕ). IfOk c.with_field-4.result (λ v. v.items ≡ t)) row c.with_field-4.ensures

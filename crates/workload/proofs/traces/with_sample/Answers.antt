@@ -20,4 +20,4 @@ returns c =
     ap (λ (g : List ℕ). begun ++ (g ++ (10 ∷ []))) (c.deref-2.ensures.value ∙ c.in_ok-second.ensures)
     ∙ pair_written (decimal_text x) (decimal_text y) text begun _ (decimal_is_plain x small_x)
     (decimal_is_plain y small_y) one refl in
-    subst (λ (t : List ℕ). IfOk c.with_field.result (λ v. v.items ≡ t)) row c.with_field.ensures
+    subst (λ (t : List ℕ). IfOk c.with_field-2.result (λ v. v.items ≡ t)) row c.with_field-2.ensures
