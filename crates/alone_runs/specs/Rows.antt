@@ -6,8 +6,8 @@ use Rattle.run_law.specs.Forms.{RowSeen, Rows, rows_from}
 use Rattle.interrupt_plan.specs.declared.Request.{Request}
 use Rattle.trace_io.specs.declared.sample.Sample.{Sample}
 use Rattle.alone_code.specs.declared.firmware.Firmware.{Firmware}
-use Rattle.run_forms.specs.declared.sample.Room.{Room}
-use Rattle.run_forms.specs.{Rooms.room_notes, Forms.Harness, Rows.of_sample, Rows.frames_seen, Rows.arrived_at}
+use Rattle.run_forms.specs.declared.sample.Notes.{Notes}
+use Rattle.run_forms.specs.{Rooms.seen_notes, Forms.Harness, Rows.of_sample, Rows.frames_seen, Rows.arrived_at}
 use Rattle.alone_runs.specs.declared.rows.Row as declared
 use Rattle.alone_runs.specs.Forms.{place_of, listed_writes, with_writes}
 use Rattle.trace_io.specs.Traces.{input_bytes}
@@ -41,11 +41,11 @@ firmware_rows f samples plan flags =
 
 -- a firmware that stands alone, with samples and requests that list writes: nothing is told of these
 abbrev pub writes_harness : Firmware → List Sample
-    → Harness Request (Room (Unit {0})) declared.Row (List ℕ) (Unit {0}) (RowSeen (List ℕ))
+    → Harness Request (Notes (Unit {0})) declared.Row (List ℕ) (Unit {0}) (RowSeen (List ℕ))
 writes_harness f samples = record {
   samples = map input_bytes samples;
   parts = listed_writes f;
-  notes = room_notes (λ u. u);
+  notes = seen_notes (λ u. u);
   shows = λ row told. row;
   seen = row_seen;
 }

@@ -3,8 +3,8 @@
 -- Beside the promise.
 use Rattle.std.specs.Prelude.{ℕ, List, Option}
 use Rattle.run_law.specs.Forms.{RowSeen}
-use Rattle.run_forms.specs.Outlooks.{Outlook}
+use Rattle.run_forms.specs.RunRests.{RestHere}
 
 pub record SessionSeen : Type 0 where
-  pub outlook : Outlook (RowSeen (List ℕ))
+  pub rest : RestHere (RowSeen (List ℕ))
   pub noted : List (Option ℕ)

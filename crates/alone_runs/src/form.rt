@@ -11,7 +11,7 @@ use cpu12_isa::mem::Mem;
 use firmware_runs::{answers, give, is_busy_here, is_idle};
 use fz_list::Memory;
 use interrupt_plan::Request;
-use run_forms::{Room, RunForm, SampleForm, Tally, room_for};
+use run_forms::{Counts, Notes, RunForm, SampleForm, room_for};
 use std::alloc::Global;
 use trace_io::Sample;
 
@@ -25,7 +25,7 @@ pub struct WithWrites<'a> {
     ghost outputs: { firmware.now.outputs ≤ 4 },
 }
 
-impl<'a> SampleForm<Request, Room<()>, Row> for WithWrites<'a> {
+impl<'a> SampleForm<Request, Notes<()>, Row> for WithWrites<'a> {
     ghost Given = { List ℕ };
 
     ghost Told = { Unit {0} };
@@ -56,14 +56,14 @@ impl<'a> SampleForm<Request, Room<()>, Row> for WithWrites<'a> {
         m: &mut Machine<M>,
         request: &Request,
         moment: u32,
-        notes: &mut Room<()>,
+        notes: &mut Notes<()>,
     ) {
         let frame = m.interrupt(request.writes.as_slice());
         notes.put(moment, frame, ());
     }
 }
 
-impl<'a> RunForm<Request, Room<()>, Row> for WithWrites<'a> {
+impl<'a> RunForm<Request, Notes<()>, Row> for WithWrites<'a> {
     fn count(&self) -> usize {
         self.samples.len()
     }
@@ -78,21 +78,21 @@ impl<'a> RunForm<Request, Room<()>, Row> for WithWrites<'a> {
 
     fn leave<M: Mem>(&self, _m: &mut Machine<M>, _k: usize) {}
 
-    fn room(&self, alloc: Global, count: usize) -> Result<Room<()>, Memory> {
+    fn room(&self, alloc: Global, count: usize) -> Result<Notes<()>, Memory> {
         room_for(alloc, count)
     }
 
-    fn row<M: Mem>(&self, m: &Machine<M>, k: usize, tally: Tally<Room<()>>) -> Row
+    fn row<M: Mem>(&self, m: &Machine<M>, k: usize, counts: Counts<Notes<()>>) -> Row
         requires sample { k < length (writes_harness self.now.firmware.now self.now.samples.now).samples }
-        requires few { (n : ℕ) × Fits tally.notes n }
+        requires few { (n : ℕ) × Fits counts.notes n }
         ensures { (x : List ℕ)
             → slice_get (writes_harness self.now.firmware.now self.now.samples.now).samples k ≡ Some x
             → (writes_harness self.now.firmware.now self.now.samples.now).seen result
             ≡ shown_by (writes_harness self.now.firmware.now self.now.samples.now).shows
             (writes_harness self.now.firmware.now self.now.samples.now).parts.answers
-            (counted_at (writes_harness self.now.firmware.now self.now.samples.now).notes tally m.now.state) x }
+            (counted_at (writes_harness self.now.firmware.now self.now.samples.now).notes counts m.now.state) x }
     {
         let bytes = self.samples[k].bytes.as_slice();
-        row_of(bytes, answers(self.firmware, m), tally)
+        row_of(bytes, answers(self.firmware, m), counts)
     }
 }

@@ -15,7 +15,7 @@ use cpu12_isa::pages::PageMem;
 use firmware_runs::copy_of;
 use fz_list::{List, Memory};
 use interrupt_plan::Plan;
-use run_forms::{Room, Tally};
+use run_forms::{Counts, Notes};
 use std::alloc::Global;
 use trace_io::Sample;
 
@@ -39,18 +39,18 @@ pub struct Row {
 }
 
 /// The row of a sample of at most eight bytes, of which this was counted.
-pub fn row_of<U: Drop>(bytes: &[u8], answers: ArrayVec<u16, 4>, tally: Tally<Room<U>>) -> Row
+pub fn row_of<U: Drop>(bytes: &[u8], answers: ArrayVec<u16, 4>, counts: Counts<Notes<U>>) -> Row
     requires { length bytes.now ≤ 8 }
     ensures { row_seen result ≡ record {
       sample = bytes.now;
       answers = answers.items;
-      instrs = tally.instrs;
-      steps = tally.moment;
-      resumed = tally.resumed;
-      frames = frames_seen tally.notes.frames.items;
+      instrs = counts.instrs;
+      steps = counts.moment;
+      resumed = counts.resumed;
+      frames = frames_seen counts.notes.frames.items;
     } }
 {
-    let Tally {
+    let Counts {
         arrived: _,
         moment,
         inside: _,
@@ -58,8 +58,8 @@ pub fn row_of<U: Drop>(bytes: &[u8], answers: ArrayVec<u16, 4>, tally: Tally<Roo
         instrs,
         resumed,
         notes,
-    } = tally;
-    let Room { frames, told: _ } = notes;
+    } = counts;
+    let Notes { frames, told: _ } = notes;
     Row {
         bytes: copy_of(bytes),
         answers,

@@ -5,7 +5,7 @@ ghost use Rattle.cpu12_isa.specs.Watching.{any_changed, noted_again, nothing_not
 ghost use Rattle.interrupt_plan.specs.Plans.{IsGood};
 ghost use Rattle.alone_runs.specs.Rows.{row_seen, first_state, firmware_rows};
 ghost use Rattle.trace_io.specs.Traces.{input_bytes};
-ghost use Rattle.run_forms.specs.Outlooks.{from_here, at_position, of_run};
+ghost use Rattle.run_forms.specs.RunRests.{from_here, at_position, of_run};
 
 use crate::form::WithWrites;
 use crate::rows::Row;
@@ -17,7 +17,7 @@ use cpu12_isa::watching::WatchedMem;
 use fz_list::Memory;
 use interrupt_plan::{Plan, Request};
 use run_forms::laws::rows_are_shown;
-use run_forms::{Progress, Room, Start, advance, begun, drive, into_rows};
+use run_forms::{Notes, RunState, Start, advance, begun, drive, into_rows};
 use std::alloc::Global;
 use std::marker::Model;
 use trace_io::Sample;
@@ -31,11 +31,11 @@ pub struct Session<'a, M: Mem> {
     machine: Machine<M>,
     form: WithWrites<'a>,
     plan: &'a Plan,
-    progress: Progress<Room<()>, Row>,
+    run_state: RunState<Notes<()>, Row>,
 }
 
 impl<'a, M: Mem> Model for Session<'a, M> {
-    ghost use Rattle.run_forms.specs.Outlooks.{outlook_at, IsUnderWay};
+    ghost use Rattle.run_forms.specs.RunRests.{rest_here, IsUnderWay};
     ghost use Rattle.run_forms.specs.Rooms.{Fits};
     ghost use Rattle.alone_runs.specs.Rows.{writes_harness};
     ghost use Rattle.alone_runs.specs.Sessions.{SessionSeen};
@@ -43,13 +43,13 @@ impl<'a, M: Mem> Model for Session<'a, M> {
     ghost Value = { SessionSeen };
 
     ghost view = { λ a. record {
-      outlook = outlook_at a.machine.flags (writes_harness a.form.firmware.now a.form.samples.now)
-          a.plan.now a.progress a.machine.state;
+      rest = rest_here a.machine.flags (writes_harness a.form.firmware.now a.form.samples.now)
+          a.plan.now a.run_state a.machine.state;
       noted = a.machine.noted;
     } };
 
     ghost invariant = { λ a. IsUnderWay Fits (writes_harness a.form.firmware.now a.form.samples.now) a.plan.now
-        a.progress };
+        a.run_state };
 }
 
 impl<'a, M: Mem> Session<'a, M> {
@@ -64,51 +64,51 @@ impl<'a, M: Mem> Session<'a, M> {
     ) -> Result<Session<'a, M>, Memory>
         requires outputs { firmware.now.outputs ≤ 4 }
         requires plan { IsGood plan.now }
-        ensures outlook { IfOk result (λ s. from_here s.outlook ≡ of_run (first_state firmware.now flags)
+        ensures rest { IfOk result (λ s. from_here s.rest ≡ of_run (first_state firmware.now flags)
             (firmware_rows firmware.now (map input_bytes samples.now) plan.now flags)) }
         ensures noted { IfOk result (λ s. s.noted ≡ nothing_noted) }
     {
-        rows_are_shown::<Request, Room<()>, Row, WithWrites>();
+        rows_are_shown::<Request, Notes<()>, Row, WithWrites>();
         let form = WithWrites { firmware, samples };
         let start = Start {
             image: &firmware.image,
             wait: firmware.memory_map.wait,
             most: firmware.step_bound,
         };
-        let (machine, progress) = begun(alloc, &form, &start, plan.as_slice(), flags)?;
+        let (machine, run_state) = begun(alloc, &form, &start, plan.as_slice(), flags)?;
         Ok(Session {
             machine,
             form,
             plan,
-            progress,
+            run_state,
         })
     }
 
     /// Goes on to the next position. Answers false, and changes nothing, exactly at the last.
     pub fn advance(&mut self) -> bool
-        ensures goes { result ≡ true → self.old.outlook
-            ≡ at_position self.old.outlook.here (from_here self.new.outlook) }
-        ensures ends { result ≡ false → (self.old.outlook.later ≡ []) × (self.new ≡ self.old) }
+        ensures goes { result ≡ true → self.old.rest
+            ≡ at_position self.old.rest.here (from_here self.new.rest) }
+        ensures ends { result ≡ false → (self.old.rest.later ≡ []) × (self.new ≡ self.old) }
         ensures noted { self.new.noted ≡ self.old.noted }
     {
         advance(
             &mut self.machine,
             &self.form,
             self.plan.as_slice(),
-            &mut self.progress,
+            &mut self.run_state,
         )
     }
 
     /// The registers.
     pub fn regs(&self) -> Regs
-        ensures { result ≡ self.now.outlook.here.state.regs }
+        ensures { result ≡ self.now.rest.here.state.regs }
     {
         self.machine.regs()
     }
 
     /// The byte at an address.
     pub fn byte(&self, address: u16) -> u8
-        ensures { result ≡ slice_index self.now.outlook.here.state.mem address }
+        ensures { result ≡ slice_index self.now.rest.here.state.mem address }
     {
         self.machine.peek(address)
     }
@@ -116,33 +116,33 @@ impl<'a, M: Mem> Session<'a, M> {
     /// Memory has 65536 bytes.
     #[inline(always)]
     pub fn has_all_bytes(&self)
-        ensures { length self.now.outlook.here.state.mem ≡ 65536 }
+        ensures { length self.now.rest.here.state.mem ≡ 65536 }
     {
         self.machine.has_all_bytes()
     }
 
     /// The position: the sample, of those past 4294967295 that number, and the boundary.
     pub fn at(&self) -> (u32, u32)
-        ensures sample { result.0 ≡ min self.now.outlook.here.sample 4294967295 }
-        ensures moment { result.1 ≡ self.now.outlook.here.moment }
+        ensures sample { result.0 ≡ min self.now.rest.here.sample 4294967295 }
+        ensures moment { result.1 ≡ self.now.rest.here.moment }
     {
-        let sample = u32::try_from(self.progress.number).unwrap_or(u32::MAX);
-        (sample, self.progress.stand.tally.moment)
+        let sample = u32::try_from(self.run_state.number).unwrap_or(u32::MAX);
+        (sample, self.run_state.sample.counts.moment)
     }
 
     /// Goes on to the last position, and answers all rows of the run and the memory of its last state.
     pub fn finish(self) -> (Vec<Row>, M)
-        ensures rows { map row_seen result.0.items ≡ self.entry.outlook.rows }
-        ensures memory { M.bytes result.1 ≡ self.entry.outlook.state.mem }
+        ensures rows { map row_seen result.0.items ≡ self.entry.rest.rows }
+        ensures memory { M.bytes result.1 ≡ self.entry.rest.state.mem }
     {
         let Session {
             mut machine,
             form,
             plan,
-            mut progress,
+            mut run_state,
         } = self;
-        drive(&mut machine, &form, plan.as_slice(), &mut progress);
-        let rows = into_rows(&mut machine, &form, progress);
+        drive(&mut machine, &form, plan.as_slice(), &mut run_state);
+        let rows = into_rows(&mut machine, &form, run_state);
         (rows, machine.into_mem())
     }
 }
@@ -150,16 +150,16 @@ impl<'a, M: Mem> Session<'a, M> {
 impl<'a, M: Mem> Session<'a, WatchedMem<M>> {
     /// Watches an address: notes the byte that is there.
     pub fn watch(&mut self, at: u16)
-        ensures outlook { self.new.outlook ≡ self.old.outlook }
+        ensures rest { self.new.rest ≡ self.old.rest }
         ensures noted { self.new.noted
-            ≡ slice_set self.old.noted at (Some (slice_index self.old.outlook.here.state.mem at)) }
+            ≡ slice_set self.old.noted at (Some (slice_index self.old.rest.here.state.mem at)) }
     {
         self.machine.watch(at);
     }
 
     /// Watches an address no more.
     pub fn unwatch(&mut self, at: u16)
-        ensures outlook { self.new.outlook ≡ self.old.outlook }
+        ensures rest { self.new.rest ≡ self.old.rest }
         ensures noted { self.new.noted ≡ slice_set self.old.noted at None }
     {
         self.machine.unwatch(at);
@@ -168,8 +168,8 @@ impl<'a, M: Mem> Session<'a, WatchedMem<M>> {
     /// Notes the bytes at all watched addresses again.
     #[inline(always)]
     pub fn note(&mut self)
-        ensures outlook { self.new.outlook ≡ self.old.outlook }
-        ensures noted { self.new.noted ≡ noted_again self.old.noted self.old.outlook.here.state.mem }
+        ensures rest { self.new.rest ≡ self.old.rest }
+        ensures noted { self.new.noted ≡ noted_again self.old.noted self.old.rest.here.state.mem }
     {
         self.machine.note();
     }
@@ -177,7 +177,7 @@ impl<'a, M: Mem> Session<'a, WatchedMem<M>> {
     /// Whether the byte at a watched address is another than the noted one.
     #[inline(always)]
     pub fn has_changed(&self) -> bool
-        ensures { result ≡ any_changed self.now.noted self.now.outlook.here.state.mem }
+        ensures { result ≡ any_changed self.now.noted self.now.rest.here.state.mem }
     {
         self.machine.has_changed()
     }

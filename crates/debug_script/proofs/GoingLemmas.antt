@@ -6,7 +6,7 @@ use Rattle.std.specs.Prelude.{slice_index}
 use Rattle.cpu12_isa.specs.Memory.{bytes_at, from, plus}
 use Rattle.cpu12_parts.specs.State.{State}
 use Rattle.run_law.specs.Forms.{Form, RowSeen, rows_from}
-use Rattle.run_forms.specs.Outlooks.{Outlook, at_position, from_here}
+use Rattle.run_forms.specs.RunRests.{RestHere, at_position, from_here}
 use Rattle.run_forms.specs.Positions.{Position, all_numbered, numbered, positions, positions_or}
 use Rattle.debug_script.specs.{Going.AreTold, Going.Leads, Going.place_of, Places.distance, Places.on}
 use Rattle.debug_script.specs.Showing.{marks_after, no_marks, place_after, shown, shown_from, shown_of, stops}
@@ -20,23 +20,23 @@ use Rattle.debug_script.proofs.PlaceLemmas.{go_more, go_stops, on_last, on_more}
 
 -- a session that went on to the next position
 abbrev pub GoesOn : SessionSeen → SessionSeen → Type 0
-GoesOn old new = old.outlook ≡ at_position old.outlook.here (from_here new.outlook)
+GoesOn old new = old.rest ≡ at_position old.rest.here (from_here new.rest)
 
 -- so it did also, where its bytes are noted there
-pub goes_on : (old there new : SessionSeen) → GoesOn old there → new.outlook ≡ there.outlook → GoesOn old new
+pub goes_on : (old there new : SessionSeen) → GoesOn old there → new.rest ≡ there.rest → GoesOn old new
 goes_on old there new e same =
-    e ∙ ap (λ (o : Outlook (RowSeen (List ℕ))). at_position old.outlook.here (from_here o)) (sym same)
+    e ∙ ap (λ (o : RestHere (RowSeen (List ℕ))). at_position old.rest.here (from_here o)) (sym same)
 
-pub place_more : (old new : SessionSeen) → GoesOn old new → place_of old ≡ old.outlook.here ∷ place_of new
-place_more old new e = ap (λ (o : Outlook (RowSeen (List ℕ))). o.here ∷ o.later) e
+pub place_more : (old new : SessionSeen) → GoesOn old new → place_of old ≡ old.rest.here ∷ place_of new
+place_more old new e = ap (λ (o : RestHere (RowSeen (List ℕ))). o.here ∷ o.later) e
 
 pub stays : (s : SessionSeen) → Leads s s
 stays s = record { rows = refl; state = refl }
 
 pub leads_more : (first old new : SessionSeen) → GoesOn old new → Leads first old → Leads first new
 leads_more first old new e l = record {
-  rows = sym (ap (λ (o : Outlook (RowSeen (List ℕ))). o.rows) e) ∙ l.rows;
-  state = sym (ap (λ (o : Outlook (RowSeen (List ℕ))). o.state) e) ∙ l.state;
+  rows = sym (ap (λ (o : RestHere (RowSeen (List ℕ))). o.rows) e) ∙ l.rows;
+  state = sym (ap (λ (o : RestHere (RowSeen (List ℕ))). o.state) e) ∙ l.state;
 }
 
 pub step_more : (old new : SessionSeen) (left : ℕ) → GoesOn old new → 0 < left
@@ -44,30 +44,30 @@ pub step_more : (old new : SessionSeen) (left : ℕ) → GoesOn old new → 0 < 
 step_more old new left e some =
     let n : left ≡ left - 1 + 1 = omega arith in
     ap₂ (λ (k : ℕ) (ps : List Position). on k ps) n (place_more old new e)
-    ∙ on_more (left - 1) old.outlook.here new.outlook.here new.outlook.later
+    ∙ on_more (left - 1) old.rest.here new.rest.here new.rest.later
 
 -- at the last position
-pub last_place : (s : SessionSeen) (n : ℕ) → s.outlook.later ≡ [] → on n (place_of s) ≡ place_of s
+pub last_place : (s : SessionSeen) (n : ℕ) → s.rest.later ≡ [] → on n (place_of s) ≡ place_of s
 last_place s n e =
-    ap (λ (ps : List Position). on n (s.outlook.here ∷ ps)) e ∙ on_last n s.outlook.here
-    ∙ ap (λ (ps : List Position). s.outlook.here ∷ ps) (sym e)
+    ap (λ (ps : List Position). on n (s.rest.here ∷ ps)) e ∙ on_last n s.rest.here
+    ∙ ap (λ (ps : List Position). s.rest.here ∷ ps) (sym e)
 
 -- ---- how far `go` leads
 
 pub stopped_place : (marks : Marks) (old new : SessionSeen) → GoesOn old new
-    → stops marks old.outlook.here new.outlook.here ≡ true
+    → stops marks old.rest.here new.rest.here ≡ true
     → on (distance (stops marks) (place_of old)) (place_of old) ≡ place_of new
 stopped_place marks old new e is =
     ap (λ (ps : List Position). on (distance (stops marks) ps) ps) (place_more old new e)
-    ∙ go_stops (stops marks) old.outlook.here new.outlook.here new.outlook.later is
+    ∙ go_stops (stops marks) old.rest.here new.rest.here new.rest.later is
 
 pub further_place : (marks : Marks) (old new : SessionSeen) → GoesOn old new
-    → stops marks old.outlook.here new.outlook.here ≡ false
+    → stops marks old.rest.here new.rest.here ≡ false
     → on (distance (stops marks) (place_of old)) (place_of old) ≡ on (distance (stops marks) (place_of new))
     (place_of new)
 further_place marks old new e is =
     ap (λ (ps : List Position). on (distance (stops marks) ps) ps) (place_more old new e)
-    ∙ go_more (stops marks) old.outlook.here new.outlook.here new.outlook.later is
+    ∙ go_more (stops marks) old.rest.here new.rest.here new.rest.later is
 
 -- ---- bytes one after the other
 

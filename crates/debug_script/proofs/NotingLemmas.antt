@@ -10,7 +10,7 @@ use Rattle.std.proofs.lemmas.Bool.{or_cases}
 use Rattle.std.proofs.lemmas.Bool.Decides.{nat_tests}
 use Rattle.cpu12_isa.specs.Watching.{NothingIsWatched, any_changed, is_changed, noted_again, nothing_noted}
 use Rattle.run_law.specs.Forms.{RowSeen}
-use Rattle.run_forms.specs.Outlooks.{Outlook}
+use Rattle.run_forms.specs.RunRests.{RestHere}
 use Rattle.alone_runs.specs.Sessions.{SessionSeen}
 use Rattle.debug_script.specs.{Noting.AreNoted, Noting.NotesBytes, Noting.noted_at, Showing.no_marks, Showing.stops}
 use Rattle.debug_script.specs.declared.marks.Marks.{Marks}
@@ -151,37 +151,37 @@ noted_as watches mem same noted other e f are = record {
 
 -- the bytes where a session stands
 abbrev bytes_here : SessionSeen → List ℕ
-bytes_here s = s.outlook.here.state.mem
+bytes_here s = s.rest.here.state.mem
 
 -- it goes on and notes them there
 pub notes_there : (watches : BTreeSet ℕ) (old there new : SessionSeen) → there.noted ≡ old.noted
-    → length (bytes_here there) ≡ 65536 → new.outlook ≡ there.outlook
+    → length (bytes_here there) ≡ 65536 → new.rest ≡ there.rest
     → new.noted ≡ noted_again there.noted (bytes_here there) → NotesBytes watches old → NotesBytes watches new
 notes_there watches old there new kept long same noted notes =
     noted_as watches (bytes_here there) (bytes_here new) (noted_again old.noted (bytes_here there)) new.noted
-    (ap (λ (o : Outlook (RowSeen (List ℕ))). o.here.state.mem) same)
+    (ap (λ (o : RestHere (RowSeen (List ℕ))). o.here.state.mem) same)
     (noted ∙ ap (λ (l : List (Option ℕ)). noted_again l (bytes_here there)) kept)
     (noted_anew watches (bytes_here old) (bytes_here there) old.noted long notes)
 
 -- there it tells whether the run stops
 stops_there : (marks : Marks) (old there : SessionSeen) → there.noted ≡ old.noted → length (bytes_here there) ≡ 65536
     → NotesBytes marks.watches old
-    → (contains_by (nat_cmp there.outlook.here.state.regs.pc) marks.breaks || any_changed there.noted
+    → (contains_by (nat_cmp there.rest.here.state.regs.pc) marks.breaks || any_changed there.noted
     (bytes_here there))
-    ≡ stops marks old.outlook.here there.outlook.here
+    ≡ stops marks old.rest.here there.rest.here
 stops_there marks old there kept long notes =
-    ap (λ (changed : Bool). contains_by (nat_cmp there.outlook.here.state.regs.pc) marks.breaks || changed)
+    ap (λ (changed : Bool). contains_by (nat_cmp there.rest.here.state.regs.pc) marks.breaks || changed)
     (ap (λ (l : List (Option ℕ)). any_changed l (bytes_here there)) kept
     ∙ watched_differ marks.watches (bytes_here old) (bytes_here there) old.noted long notes)
 
 -- and where it notes the bytes there, what was told stays true
 pub stops_at_next : (marks : Marks) (old there new : SessionSeen) (told : Bool) → there.noted ≡ old.noted
-    → length (bytes_here there) ≡ 65536 → new.outlook ≡ there.outlook → NotesBytes marks.watches old
-    → told ≡ (contains_by (nat_cmp there.outlook.here.state.regs.pc) marks.breaks || any_changed there.noted
+    → length (bytes_here there) ≡ 65536 → new.rest ≡ there.rest → NotesBytes marks.watches old
+    → told ≡ (contains_by (nat_cmp there.rest.here.state.regs.pc) marks.breaks || any_changed there.noted
     (bytes_here there))
-    → stops marks old.outlook.here new.outlook.here ≡ told
+    → stops marks old.rest.here new.rest.here ≡ told
 stops_at_next marks old there new told kept long same notes is =
-    ap (λ (o : Outlook (RowSeen (List ℕ))). stops marks old.outlook.here o.here) same
+    ap (λ (o : RestHere (RowSeen (List ℕ))). stops marks old.rest.here o.here) same
     ∙ sym (is ∙ stops_there marks old there kept long notes)
 
 -- at first none is

@@ -16,7 +16,7 @@ pub record AreNoted (watches : BTreeSet ℕ) (mem : List ℕ) (noted : List (Opt
 
 -- a session notes the bytes where it stands
 abbrev pub NotesBytes : BTreeSet ℕ → SessionSeen → Type 0
-NotesBytes watches s = AreNoted watches s.outlook.here.state.mem s.noted
+NotesBytes watches s = AreNoted watches s.rest.here.state.mem s.noted
 
 -- whatever is watched: where a session noted the bytes, it notes them still
 abbrev pub KeepsNotes : SessionSeen → SessionSeen → Type 0

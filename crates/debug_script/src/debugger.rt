@@ -46,8 +46,8 @@ fn step<M: Mem>(session: &mut Session<'_, WatchedMem<M>>, count: u32)
 /// Whether the run stops where it stands, coming from the position whose bytes are noted.
 #[inline(always)]
 fn is_stopped<M: Mem>(session: &Session<'_, WatchedMem<M>>, marks: &Marks) -> bool
-    ensures { result ≡ (contains_by (nat_cmp session.now.outlook.here.state.regs.pc) marks.now.breaks
-        || any_changed session.now.noted session.now.outlook.here.state.mem) }
+    ensures { result ≡ (contains_by (nat_cmp session.now.rest.here.state.regs.pc) marks.now.breaks
+        || any_changed session.now.noted session.now.rest.here.state.mem) }
 {
     marks.breaks.contains(session.regs().pc) || session.has_changed()
 }
@@ -72,8 +72,8 @@ fn go<M: Mem>(session: &mut Session<'_, WatchedMem<M>>, marks: &Marks)
 
 /// Where a session stands.
 fn stop<M: Mem>(session: &Session<'_, WatchedMem<M>>) -> Shown
-    requires { session.now.outlook.here.sample ≤ 4294967295 }
-    ensures { result ≡ stop_at session.now.outlook.here }
+    requires { session.now.rest.here.sample ≤ 4294967295 }
+    ensures { result ≡ stop_at session.now.rest.here }
 {
     let (sample, moment) = session.at();
     Shown::Stop(sample, moment, session.regs().pc)
@@ -86,7 +86,7 @@ fn bytes_from<M: Mem>(
     at: u16,
     count: u32,
 ) -> Result<Vec<u8>, AllocError>
-    ensures { IfOk result (λ bytes. bytes.items ≡ bytes_at session.now.outlook.here.state.mem (from at count)) }
+    ensures { IfOk result (λ bytes. bytes.items ≡ bytes_at session.now.rest.here.state.mem (from at count)) }
 {
     let mut bytes = Vec::new(alloc);
     let mut next = at;

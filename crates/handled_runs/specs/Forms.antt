@@ -7,7 +7,7 @@ use Rattle.handler_check.specs.Running.{Returned, until_rti, step_limit, at_code
 use Rattle.interrupt_plan.specs.declared.Request.{Request}
 use Rattle.alone_code.specs.declared.firmware.Firmware.{Firmware}
 use Rattle.trace_io.specs.{declared.sample.Sample.Sample, Traces.input_bytes}
-use Rattle.run_forms.specs.{declared.sample.Room.Room, Rooms.room_notes, Rows.arrived_at, Rows.shown}
+use Rattle.run_forms.specs.{declared.sample.Notes.Notes, Rooms.seen_notes, Rows.arrived_at, Rows.shown}
 use Rattle.run_forms.specs.Forms.{FormParts, plan_form, Harness}
 use Rattle.firmware_runs.specs.Ports.{given}
 use Rattle.alone_runs.specs.{Forms.place_of, Forms.stand_alone, Rows.requests_of}
@@ -67,11 +67,11 @@ abbrev pub row_seen : declared.HandledRow → HandledSeen
 row_seen r = record { row = rows.row_seen r.row; handler = r.handler }
 
 abbrev pub code_harness : Firmware → List Sample
-    → Harness Request (Room HandlerEnd) declared.HandledRow (List ℕ) HandlerEnd HandledSeen
+    → Harness Request (Notes HandlerEnd) declared.HandledRow (List ℕ) HandlerEnd HandledSeen
 code_harness f samples = record {
   samples = map input_bytes samples;
   parts = code_parts f;
-  notes = room_notes (λ end. end);
+  notes = seen_notes (λ end. end);
   shows = with_steps;
   seen = row_seen;
 }

@@ -13,7 +13,7 @@ use cpu12_isa::mem::Mem;
 use firmware_runs::{answers, give, is_busy_here, is_idle};
 use fz_list::Memory;
 use interrupt_plan::Request;
-use run_forms::{Room, RunForm, SampleForm, Tally, room_for};
+use run_forms::{Counts, Notes, RunForm, SampleForm, room_for};
 use std::alloc::Global;
 use trace_io::Sample;
 
@@ -35,7 +35,7 @@ fn steps_in(told: &[HandlerEnd]) -> u32
     told.iter().map(|end| u32::from(end.steps)).sum()
 }
 
-impl<'a> SampleForm<Request, Room<HandlerEnd>, HandledRow> for WithCode<'a> {
+impl<'a> SampleForm<Request, Notes<HandlerEnd>, HandledRow> for WithCode<'a> {
     ghost Given = { List ℕ };
 
     ghost Told = { end.HandlerEnd };
@@ -66,7 +66,7 @@ impl<'a> SampleForm<Request, Room<HandlerEnd>, HandledRow> for WithCode<'a> {
         m: &mut Machine<M>,
         request: &Request,
         moment: u32,
-        notes: &mut Room<HandlerEnd>,
+        notes: &mut Notes<HandlerEnd>,
     ) {
         let frame = m.enter(request.writes.as_slice());
         let end = until_rti(m);
@@ -74,7 +74,7 @@ impl<'a> SampleForm<Request, Room<HandlerEnd>, HandledRow> for WithCode<'a> {
     }
 }
 
-impl<'a> RunForm<Request, Room<HandlerEnd>, HandledRow> for WithCode<'a> {
+impl<'a> RunForm<Request, Notes<HandlerEnd>, HandledRow> for WithCode<'a> {
     fn count(&self) -> usize {
         self.samples.len()
     }
@@ -89,24 +89,24 @@ impl<'a> RunForm<Request, Room<HandlerEnd>, HandledRow> for WithCode<'a> {
 
     fn leave<M: Mem>(&self, _m: &mut Machine<M>, _k: usize) {}
 
-    fn room(&self, alloc: Global, count: usize) -> Result<Room<HandlerEnd>, Memory> {
+    fn room(&self, alloc: Global, count: usize) -> Result<Notes<HandlerEnd>, Memory> {
         room_for(alloc, count)
     }
 
-    fn row<M: Mem>(&self, m: &Machine<M>, k: usize, tally: Tally<Room<HandlerEnd>>) -> HandledRow
+    fn row<M: Mem>(&self, m: &Machine<M>, k: usize, counts: Counts<Notes<HandlerEnd>>) -> HandledRow
         requires sample { k < length (code_harness self.now.firmware.now self.now.samples.now).samples }
-        requires few { (n : ℕ) × Fits tally.notes n }
+        requires few { (n : ℕ) × Fits counts.notes n }
         ensures { (x : List ℕ)
             → slice_get (code_harness self.now.firmware.now self.now.samples.now).samples k ≡ Some x
             → (code_harness self.now.firmware.now self.now.samples.now).seen result
             ≡ shown_by (code_harness self.now.firmware.now self.now.samples.now).shows
             (code_harness self.now.firmware.now self.now.samples.now).parts.answers
-            (counted_at (code_harness self.now.firmware.now self.now.samples.now).notes tally
+            (counted_at (code_harness self.now.firmware.now self.now.samples.now).notes counts
             m.now.state) x }
     {
-        let handler = steps_in(tally.notes.told.as_slice());
+        let handler = steps_in(counts.notes.told.as_slice());
         let bytes = self.samples[k].bytes.as_slice();
-        let row = row_of(bytes, answers(self.firmware, m), tally);
+        let row = row_of(bytes, answers(self.firmware, m), counts);
         HandledRow { row, handler }
     }
 }

@@ -12,7 +12,7 @@ use alone_runs::laws::{
 use cpu12_emul::laws::{holds_image, images_load_alike};
 use handler_check::laws::handlers_are_quiet;
 use interrupt_plan::Request;
-use run_forms::Room;
+use run_forms::Notes;
 use run_forms::laws::rows_are_shown;
 use run_law::laws::{runs_follow, sums_fit_below};
 
@@ -33,7 +33,7 @@ pub fn handled_answers()
     runs_follow_beside();
     requests_are_good();
     runs_follow::<HandledForm>();
-    rows_are_shown::<Request, Room<HandlerEnd>, HandledRow, WithCode>();
+    rows_are_shown::<Request, Notes<HandlerEnd>, HandledRow, WithCode>();
 }
 
 /// Handlers with the same bytes give the same rows.

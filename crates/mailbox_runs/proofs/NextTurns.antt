@@ -1,20 +1,20 @@
 -- A run by its next turn: where it is over, and where the turn comes to its end or to none.
 use Rattle.mailbox_runs.proofs.Words.{[], ◌&&◌, ◌++◌, ◌+◌, ◌-◌, ◌==◌, ◌∙◌, ◌≡◌, ◌≤◌, answers_by, AnswerSeen, ap}
-use Rattle.mailbox_runs.proofs.Words.{append-nil, append_assoc, ap₂, arith, asked, before_turns, Bool, Brought, drop}
+use Rattle.mailbox_runs.proofs.Words.{append-nil, append_assoc, ap₂, arith, asked, before_turns, Bool, drop}
 use Rattle.mailbox_runs.proofs.Words.{false, Firmware, FrameSeen, is_empty, is_over, length, List, no_turn, notes_of}
 use Rattle.mailbox_runs.proofs.Words.{Post, Ran, refl, run_from, RunSeen, slice_index, State, suc, sym, take, takes}
-use Rattle.mailbox_runs.proofs.Words.{Taking, then_turns, true, turn_form, turns_from, waiting, waits_by, with_before}
+use Rattle.mailbox_runs.proofs.Words.{Taking, TakingSummary, then_turns, true, turn_form, turns_from, waiting, waits_by, with_before}
 use Rattle.mailbox_runs.proofs.Words.{with_rest, zero, ℕ}
-use Rattle.run_forms.specs.Rest.{Brief, brief, after, rest_at}
-use Rattle.mailbox_runs.specs.{Tallies.Counted, Tallies.counted_at}
-use Rattle.run_forms.specs.declared.{sample.Room.Room, sample.Tally.Tally}
+use Rattle.run_forms.specs.Rest.{SampleSummary, summary, after, rest_at}
+use Rattle.mailbox_runs.specs.{Counts.Counted, Counts.counted_at}
+use Rattle.run_forms.specs.declared.{sample.Notes.Notes, sample.Counts.Counts}
 use Rattle.run_forms.specs.Rest as rest
 use Rattle.run_forms.proofs.Algebra.{ran_told}
 use Rattle.mailbox_runs.proofs.Running.{run_over, run_turn, slice_is}
 
--- A turn begins: what is due is taken, which leads from tally t and state s to t1 and s1, and then sample v waits,
+-- A turn begins: what is due is taken, which leads from counts t and state s to t1 and s1, and then sample v waits,
 -- where w did before.
-pub record Begins (flags : ℕ) (f : Firmware) (samples : List (List ℕ)) (posts : List Post) (w v : ℕ) (t t1 : Tally (Room (Unit {0})))
+pub record Begins (flags : ℕ) (f : Firmware) (samples : List (List ℕ)) (posts : List Post) (w v : ℕ) (t t1 : Counts (Notes (Unit {0})))
     (s s1 : State) : Type 0 where
   pub takes_are : with_before (notes_of.frames t.notes) (notes_of.told t.notes)
       (takes (turn_form flags f samples t.moment) t.moment (drop t.next posts) s)
@@ -38,8 +38,8 @@ counted answers frames resumed = record { answers = answers; frames = frames; re
 
 -- where the run r of a turn ended, which began at boundary g, behind these frames and tellings
 pub record EndsWith (g resumed : ℕ) (us : List (Unit {0})) (fs : List (ℕ × FrameSeen)) (r : Ran Post (Unit {0}))
-    (posts : List Post) (t2 : Tally (Room (Unit {0}))) (s2 : State) : Type 0 where
-  pub counted : rest.counted_at notes_of t2 s2 ≡ after 0 g resumed us fs (brief r)
+    (posts : List Post) (t2 : Counts (Notes (Unit {0}))) (s2 : State) : Type 0 where
+  pub counted : rest.counted_at notes_of t2 s2 ≡ after 0 g resumed us fs (summary r)
   pub left : drop t2.next posts ≡ r.left
 
 -- frames of a turn, behind those of its first boundary
@@ -54,15 +54,15 @@ all_frames fs bs rs ks fs1 fs2 a b =
 
 -- a turn comes to no end
 stuck_by : (f : Firmware) (samples : List (List ℕ)) (g v : ℕ) (bs fs1 : List (ℕ × FrameSeen)) (r : Ran Post (Unit {0}))
-    (rest : ℕ → ℕ → List Post → State → RunSeen) (posts : List Post) (t t2 : Tally (Room (Unit {0}))) (s2 : State)
+    (rest : ℕ → ℕ → List Post → State → RunSeen) (posts : List Post) (t t2 : Counts (Notes (Unit {0}))) (s2 : State)
     (us : List (Unit {0})) (answers : List AnswerSeen)
     → notes_of.frames t.notes ++ bs ≡ fs1 → t2.arrived ≡ false → EndsWith g t.resumed us fs1 r posts t2 s2
     → with_rest answers t (then_turns f samples g v bs r rest) ≡ counted_at answers t2
 unfolding counted
 stuck_by f samples g v bs fs1 r rest posts t t2 s2 us answers before off is =
-    let stays : r.arrived ≡ false = sym (ap (λ (k : Brief (Unit {0})). k.arrived) is.counted) ∙ off in
-    let frames : fs1 ++ r.frames ≡ notes_of.frames t2.notes = sym (ap (λ (k : Brief (Unit {0})). k.frames) is.counted) in
-    let resumed : t.resumed + r.resumed ≡ t2.resumed = sym (ap (λ (k : Brief (Unit {0})). k.resumed) is.counted) in
+    let stays : r.arrived ≡ false = sym (ap (λ (k : SampleSummary (Unit {0})). k.arrived) is.counted) ∙ off in
+    let frames : fs1 ++ r.frames ≡ notes_of.frames t2.notes = sym (ap (λ (k : SampleSummary (Unit {0})). k.frames) is.counted) in
+    let resumed : t.resumed + r.resumed ≡ t2.resumed = sym (ap (λ (k : SampleSummary (Unit {0})). k.resumed) is.counted) in
     let go : then_turns f samples g v bs r rest ≡ no_turn false (bs ++ r.frames) r.resumed = rw stays refl in
     let all : notes_of.frames t.notes ++ (bs ++ r.frames) ≡ notes_of.frames t2.notes =
     sym (append_assoc (notes_of.frames t.notes) bs r.frames)
@@ -74,7 +74,7 @@ stuck_by f samples g v bs fs1 r rest posts t t2 s2 us answers before off is =
 
 -- a turn comes to its end, with these answers and this sample that waits there
 turn_by : (f : Firmware) (samples : List (List ℕ)) (g v : ℕ) (bs fs1 : List (ℕ × FrameSeen)) (r : Ran Post (Unit {0}))
-    (rest : ℕ → ℕ → List Post → State → RunSeen) (posts : List Post) (t t2 : Tally (Room (Unit {0}))) (s2 : State)
+    (rest : ℕ → ℕ → List Post → State → RunSeen) (posts : List Post) (t t2 : Counts (Notes (Unit {0}))) (s2 : State)
     (us : List (Unit {0})) (answers answers2 : List AnswerSeen) (w2 : ℕ)
     → notes_of.frames t.notes ++ bs ≡ fs1 → t2.arrived ≡ true → EndsWith g t.resumed us fs1 r posts t2 s2
     → answers2 ≡ answers ++ answers_by f samples g v (asked r.told) t2.moment t2.instrs s2
@@ -83,13 +83,13 @@ turn_by : (f : Firmware) (samples : List (List ℕ)) (g v : ℕ) (bs fs1 : List 
     ≡ with_rest answers2 t2 (rest t2.moment w2 (drop t2.next posts) s2)
 unfolding counted
 turn_by f samples g v bs fs1 r rest posts t t2 s2 us answers answers2 w2 before off is answers_are waits_are =
-    let comes : r.arrived ≡ true = sym (ap (λ (k : Brief (Unit {0})). k.arrived) is.counted) ∙ off in
-    let frames : fs1 ++ r.frames ≡ notes_of.frames t2.notes = sym (ap (λ (k : Brief (Unit {0})). k.frames) is.counted) in
-    let resumed : t.resumed + r.resumed ≡ t2.resumed = sym (ap (λ (k : Brief (Unit {0})). k.resumed) is.counted) in
-    let at : t2.moment ≡ g + r.steps = ap (λ (k : Brief (Unit {0})). k.steps) is.counted in
+    let comes : r.arrived ≡ true = sym (ap (λ (k : SampleSummary (Unit {0})). k.arrived) is.counted) ∙ off in
+    let frames : fs1 ++ r.frames ≡ notes_of.frames t2.notes = sym (ap (λ (k : SampleSummary (Unit {0})). k.frames) is.counted) in
+    let resumed : t.resumed + r.resumed ≡ t2.resumed = sym (ap (λ (k : SampleSummary (Unit {0})). k.resumed) is.counted) in
+    let at : t2.moment ≡ g + r.steps = ap (λ (k : SampleSummary (Unit {0})). k.steps) is.counted in
     let left : drop t2.next posts ≡ r.left = is.left in
-    let state : s2 ≡ r.state = ap (λ (k : Brief (Unit {0})). k.state) is.counted in
-    let none_before : t2.instrs ≡ 0 + r.instrs = ap (λ (k : Brief (Unit {0})). k.instrs) is.counted in
+    let state : s2 ≡ r.state = ap (λ (k : SampleSummary (Unit {0})). k.state) is.counted in
+    let none_before : t2.instrs ≡ 0 + r.instrs = ap (λ (k : SampleSummary (Unit {0})). k.instrs) is.counted in
     let instrs : t2.instrs ≡ r.instrs = omega (arith, none_before) in
     let k : RunSeen = rest (g + r.steps) (waits_by g v (asked r.told)) r.left r.state in
     let same : k ≡ rest t2.moment w2 (drop t2.next posts) s2 =
@@ -114,7 +114,7 @@ turn_by f samples g v bs fs1 r rest posts t t2 s2 us answers answers2 w2 before 
     ∙ ap₂ (λ (fs : List (ℕ × FrameSeen)) (j : ℕ). counted (answers2 ++ k.answers) fs j) all_of sum
     ∙ ap (λ (x : RunSeen). with_rest answers2 t2 x) same
 
-module _ {flags : ℕ} {f : Firmware} {samples : List (List ℕ)} {posts : List Post} {w v : ℕ} {t t1 : Tally (Room (Unit {0}))}
+module _ {flags : ℕ} {f : Firmware} {samples : List (List ℕ)} {posts : List Post} {w v : ℕ} {t t1 : Counts (Notes (Unit {0}))}
     {s s1 : State} (b : Begins flags f samples posts w v t t1 s s1) (last n : ℕ) (answers : List AnswerSeen) where
   -- the run is over here
   pub over_here : (is_empty (drop t1.next posts) && (slice_index s1.mem f.memory_map.ready == 0)) ≡ true
@@ -123,10 +123,10 @@ module _ {flags : ℕ} {f : Firmware} {samples : List (List ℕ)} {posts : List 
   unfolding counted
   over_here e =
       let k : Taking Post (Unit {0}) = takes (turn_form flags f samples t.moment) t.moment (drop t.next posts) s in
-      let es : k.state ≡ s1 = ap (λ (x : Brought Post (Unit {0})). x.state) b.takes_are in
+      let es : k.state ≡ s1 = ap (λ (x : TakingSummary Post (Unit {0})). x.state) b.takes_are in
       let ef : notes_of.frames t.notes ++ k.frames ≡ notes_of.frames t1.notes =
-      ap (λ (x : Brought Post (Unit {0})). x.frames) b.takes_are in
-      let el : k.left ≡ drop t1.next posts = ap (λ (x : Brought Post (Unit {0})). x.left) b.takes_are in
+      ap (λ (x : TakingSummary Post (Unit {0})). x.frames) b.takes_are in
+      let el : k.left ≡ drop t1.next posts = ap (λ (x : TakingSummary Post (Unit {0})). x.left) b.takes_are in
       let on : is_over f.memory_map k ≡ true =
       ap₂ (λ (l : List Post) (u : State). is_empty l && (slice_index u.mem f.memory_map.ready == 0)) el es ∙ e in
       let same = b.fresh.2 in
@@ -136,8 +136,8 @@ module _ {flags : ℕ} {f : Firmware} {samples : List (List ℕ)} {posts : List 
       (append-nil answers)
       ∙ ap₂ (λ (fs : List (ℕ × FrameSeen)) (j : ℕ). counted answers fs j) ef r
 
-  -- what its tally says in the end of the run of its turn
-  turn_is : (i : ℕ) (t2 : Tally (Room (Unit {0}))) (s2 : State) → i ≡ flags
+  -- what its counts says in the end of the run of its turn
+  turn_is : (i : ℕ) (t2 : Counts (Notes (Unit {0}))) (s2 : State) → i ≡ flags
       → rest.counted_at notes_of t2 s2
       ≡ rest_at notes_of (turn_form i f samples t.moment) (last - t1.moment) posts t1 s1
       → drop t2.next posts
@@ -152,9 +152,9 @@ module _ {flags : ℕ} {f : Firmware} {samples : List (List ℕ)} {posts : List 
       let same : run i t1.moment t1.inside ≡ run flags t.moment false =
       ap (λ (k : ℕ). run k t1.moment t1.inside) ei ∙ ap₂ (λ (m : ℕ) (k : Bool). run flags m k) b.begins b.fresh.0 in
       record {
-        counted = is ∙ ap (λ (r : Ran Post (Unit {0})). after t1.instrs t1.moment t1.resumed told frames (brief r)) same
-            ∙ ap₂ (λ (j m : ℕ). after j m t1.resumed told frames (brief (run flags t.moment false))) b.fresh.1 b.begins
-            ∙ ap (λ (r : ℕ). after 0 t.moment r told frames (brief (run flags t.moment false))) b.fresh.2;
+        counted = is ∙ ap (λ (r : Ran Post (Unit {0})). after t1.instrs t1.moment t1.resumed told frames (summary r)) same
+            ∙ ap₂ (λ (j m : ℕ). after j m t1.resumed told frames (summary (run flags t.moment false))) b.fresh.1 b.begins
+            ∙ ap (λ (r : ℕ). after 0 t.moment r told frames (summary (run flags t.moment false))) b.fresh.2;
         left = left ∙ ap (λ (r : Ran Post (Unit {0})). r.left) same;
       }
 
@@ -170,7 +170,7 @@ module _ {flags : ℕ} {f : Firmware} {samples : List (List ℕ)} {posts : List 
       b.takes_are b.waits on
 
   -- and comes to no end in it
-  pub stuck_here : (i : ℕ) (t2 : Tally (Room (Unit {0}))) (s2 : State)
+  pub stuck_here : (i : ℕ) (t2 : Counts (Notes (Unit {0}))) (s2 : State)
       → (is_empty (drop t1.next posts) && (slice_index s1.mem f.memory_map.ready == 0)) ≡ false
       → i ≡ flags → t2.arrived ≡ false
       → rest.counted_at notes_of t2 s2
@@ -184,11 +184,11 @@ module _ {flags : ℕ} {f : Firmware} {samples : List (List ℕ)} {posts : List 
       ∙ stuck_by f samples t.moment v
       (takes (turn_form flags f samples t.moment) t.moment (drop t.next posts) s).frames (notes_of.frames t1.notes)
       (turn_run flags f samples last t.moment (drop t1.next posts) s1) (turns_from flags f samples last n) posts t t2 s2
-      (notes_of.told t1.notes) answers (ap (λ (k : Brought Post (Unit {0})). k.frames) b.takes_are) off
+      (notes_of.told t1.notes) answers (ap (λ (k : TakingSummary Post (Unit {0})). k.frames) b.takes_are) off
       (turn_is i t2 s2 ei is left)
 
   -- or to its end, where these posts were taken behind its first boundary
-  pub turn_here : (i : ℕ) (t2 : Tally (Room (Unit {0}))) (s2 : State) (answers2 : List AnswerSeen) (w2 : ℕ)
+  pub turn_here : (i : ℕ) (t2 : Counts (Notes (Unit {0}))) (s2 : State) (answers2 : List AnswerSeen) (w2 : ℕ)
       → (is_empty (drop t1.next posts) && (slice_index s1.mem f.memory_map.ready == 0)) ≡ false
       → i ≡ flags → t2.arrived ≡ true
       → rest.counted_at notes_of t2 s2
@@ -213,13 +213,13 @@ module _ {flags : ℕ} {f : Firmware} {samples : List (List ℕ)} {posts : List 
       ap (with_rest answers t) (turn_goes on)
       ∙ turn_by f samples g v (takes (turn_form flags f samples g) g (drop t.next posts) s).frames
       (notes_of.frames t1.notes) r (turns_from flags f samples last n) posts t t2 s2
-      (notes_of.told t1.notes) answers answers2 w2 (ap (λ (k : Brought Post (Unit {0})). k.frames) b.takes_are) off
+      (notes_of.told t1.notes) answers answers2 w2 (ap (λ (k : TakingSummary Post (Unit {0})). k.frames) b.takes_are) off
       turn (answers_are ∙ ap (λ (l : List Post). answers ++ answers_by f samples g v l t2.moment t2.instrs s2) taken)
       (waits_are ∙ ap (λ (l : List Post). waits_by g v l) taken)
 
 -- no turn more
 pub none_left : (flags : ℕ) (f : Firmware) (samples : List (List ℕ)) (last n g w : ℕ) (qs : List Post) (s : State)
-    (t : Tally (Room (Unit {0}))) (answers : List AnswerSeen) → n ≡ 0
+    (t : Counts (Notes (Unit {0}))) (answers : List AnswerSeen) → n ≡ 0
     → with_rest answers t (turns_from flags f samples last n g w qs s) ≡ counted_at answers t
 unfolding turns_from counted
 none_left flags f samples last zero g w qs s t answers z =

@@ -1,9 +1,9 @@
 -- What is told of posts, and a run by its next turn.
 use Rattle.mailbox_runs.proofs.Words.{[], ◌&&◌, ◌++◌, ◌+◌, ◌-◌, ◌==◌, ◌∙◌, ◌∷◌, ◌≡◌, ◌≤◌, answers_by, AnswerSeen, ap}
-use Rattle.mailbox_runs.proofs.Words.{ap₂, arith, asked, behind, Brought, bytes_of, drop, false, Firmware, FrameSeen}
+use Rattle.mailbox_runs.proofs.Words.{ap₂, arith, asked, behind, bytes_of, drop, false, Firmware, FrameSeen}
 use Rattle.mailbox_runs.proofs.Words.{is_empty, is_over, length, length-append, List, nat_tests, no_turn, Post, Ran}
-use Rattle.mailbox_runs.proofs.Words.{refl, run_from, slice_index, State, suc, sym, take, takes, Taking, then_turns}
-use Rattle.mailbox_runs.proofs.Words.{true, turn_form, TurnForm, turns_from, up_to, values_in, waiting, waits_by}
+use Rattle.mailbox_runs.proofs.Words.{refl, run_from, slice_index, State, suc, sym, take, takes, Taking, TakingSummary}
+use Rattle.mailbox_runs.proofs.Words.{then_turns, true, turn_form, TurnForm, turns_from, up_to, values_in, waiting, waits_by}
 use Rattle.mailbox_runs.proofs.Words.{with_before, zero, ℕ}
 use Rattle.std.proofs.{Common.length-drop}
 use Rattle.run_forms.proofs.Algebra.{taken_told}
@@ -33,7 +33,7 @@ pub taken_slice : (flags : ℕ) (f : Firmware) (samples : List (List ℕ)) (g m 
 taken_slice flags f samples g m posts s s1 fs fs1 us us1 i j te next =
     let b : Taking Post (Unit {0}) = takes (turn_form flags f samples g) m (drop i posts) s in
     slice_is posts (asked b.told) i j next.0 next.1
-    (ap (λ (l : List Post). asked b.told ++ l) (sym (ap (λ (k : Brought Post (Unit {0})). k.left) te))
+    (ap (λ (l : List Post). asked b.told ++ l) (sym (ap (λ (k : TakingSummary Post (Unit {0})). k.left) te))
     ∙ taken_told (turn_form flags f samples g) m (drop i posts) s)
 
 -- a run that is over
@@ -68,8 +68,8 @@ pub run_turn : (flags : ℕ) (f : Firmware) (samples : List (List ℕ)) (last n 
 run_turn flags f samples last n g w v qs qs1 s s1 fs fs1 us us1 te ve e =
     let form : TurnForm = turn_form flags f samples g in
     let b : Taking Post (Unit {0}) = takes form g qs s in
-    let es : b.state ≡ s1 = ap (λ (k : Brought Post (Unit {0})). k.state) te in
-    let el : b.left ≡ qs1 = ap (λ (k : Brought Post (Unit {0})). k.left) te in
+    let es : b.state ≡ s1 = ap (λ (k : TakingSummary Post (Unit {0})). k.state) te in
+    let el : b.left ≡ qs1 = ap (λ (k : TakingSummary Post (Unit {0})). k.left) te in
     let on : is_over f.memory_map b ≡ false =
     ap₂ (λ (l : List Post) (u : State). is_empty l && (slice_index u.mem f.memory_map.ready == 0)) el es ∙ e in
     run_on flags f samples last n g w qs s on

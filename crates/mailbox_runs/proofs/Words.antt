@@ -46,9 +46,9 @@ pub use Rattle.firmware_runs.specs.{Facts.Facts, Facts.FactsBeside, Instructions
 pub use Rattle.firmware_runs.specs.{Instructions.InstructionsAreSteps, Instructions.IsServing}
 pub use Rattle.fuzzy_meaning.specs.{declared.block.Block.Block}
 pub use Rattle.interrupt_plan.specs.{Posts.IsGoodPost, declared.Post.Post}
-pub use Rattle.mailbox_runs.specs.{Shifts.frames_from, Shifts.ran_from, Tallies.notes_of, Tallies.with_rest}
+pub use Rattle.mailbox_runs.specs.{Shifts.frames_from, Shifts.ran_from, Counts.notes_of, Counts.with_rest}
 pub use Rattle.mailbox_runs.specs.{TurnsExist.PostsHaveTurns, WholeRuns.RunsAreTurns}
-pub use Rattle.run_forms.specs.{Arrival.PlainIsOneStep, Rest.Brought, Rest.with_before}
+pub use Rattle.run_forms.specs.{Arrival.PlainIsOneStep, Rest.TakingSummary, Rest.with_before}
 pub use Rattle.run_law.proofs.{Algebra.uninterrupted_add}
 pub use Rattle.run_law.specs.{Following.asked, Moments.TakenAtFirstOpen}
 pub use Rattle.std.proofs.{lemmas.Bool.Decides.nat_tests, lemmas.Bool.cases_lt, lemmas.Bool.or_parts}

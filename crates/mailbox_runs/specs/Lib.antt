@@ -1,6 +1,6 @@
 pub mod Turns
 pub mod Runs
-pub mod Tallies
+pub mod Counts
 pub mod Answering
 pub mod UninterruptedTurns
 pub mod TurnsExist

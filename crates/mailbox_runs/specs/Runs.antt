@@ -7,8 +7,8 @@ use Rattle.cpu12_parts.specs.State.{State}
 use Rattle.cpu12_emul.specs.{Image.image_memory, Step.reset_with, Take.FrameSeen, Take.framed}
 use Rattle.run_law.specs.Forms.{Form, Taking, takes, is_empty, Ran, run_from}
 use Rattle.run_law.specs.Following.{asked}
-use Rattle.run_forms.specs.declared.sample.Room.{Room}
-use Rattle.run_forms.specs.{Rooms.room_notes, Forms.FormParts, Forms.plan_form, Forms.Harness}
+use Rattle.run_forms.specs.declared.sample.Notes.{Notes}
+use Rattle.run_forms.specs.{Rooms.seen_notes, Forms.FormParts, Forms.plan_form, Forms.Harness}
 use Rattle.interrupt_plan.specs.declared.Post.{Post}
 use Rattle.trace_io.specs.declared.sample.Sample.{Sample}
 use Rattle.alone_code.specs.declared.firmware.Firmware.{Firmware}
@@ -50,11 +50,11 @@ turn_form flags f samples g = plan_form flags (turn_parts f samples g)
 
 -- the run of one turn alone, which has no row
 abbrev pub turn_harness : Firmware → List (List ℕ) → ℕ
-    → Harness Post (Room (Unit {0})) (Unit {0}) (Unit {0}) (Unit {0}) (Unit {0})
+    → Harness Post (Notes (Unit {0})) (Unit {0}) (Unit {0}) (Unit {0}) (Unit {0})
 turn_harness f samples g = record {
   samples = [];
   parts = turn_parts f samples g;
-  notes = room_notes (λ u. u);
+  notes = seen_notes (λ u. u);
   shows = λ row told. tt;
   seen = λ r. tt;
 }

@@ -10,7 +10,7 @@ use cpu12_isa::instr::Write;
 use cpu12_isa::mem::Mem;
 use eval_code::MemoryMap;
 use interrupt_plan::Post;
-use run_forms::{Room, SampleForm};
+use run_forms::{Notes, SampleForm};
 use trace_io::Sample;
 
 /// The most writes of a post: eight inputs, POSTED, and eight of its own.
@@ -101,7 +101,7 @@ fn write_post(
     put_all(writes, count, post.writes.as_slice())
 }
 
-impl<'a> SampleForm<Post, Room<()>, ()> for WithPosts<'a> {
+impl<'a> SampleForm<Post, Notes<()>, ()> for WithPosts<'a> {
     ghost Given = { Unit {0} };
 
     ghost Told = { Unit {0} };
@@ -127,7 +127,7 @@ impl<'a> SampleForm<Post, Room<()>, ()> for WithPosts<'a> {
         (0, post.moment)
     }
 
-    fn take<M: Mem>(&self, m: &mut Machine<M>, post: &Post, moment: u32, notes: &mut Room<()>) {
+    fn take<M: Mem>(&self, m: &mut Machine<M>, post: &Post, moment: u32, notes: &mut Notes<()>) {
         let mut writes = [Write { at: 0, value: 0 }; MOST_WRITES];
         let count = write_post(&self.firmware.memory_map, self.samples, post, &mut writes);
         let frame = m.interrupt(&writes[..count]);

@@ -16,7 +16,7 @@ use cpu12_emul::machine::Machine;
 use cpu12_isa::pages::PageMem;
 use fz_list::Memory;
 use interrupt_plan::Posts;
-use run_forms::{Room, Tally, fresh_stand, room_for};
+use run_forms::{Counts, Notes, fresh_sample, room_for};
 use std::alloc::Global;
 use trace_io::Sample;
 
@@ -55,10 +55,10 @@ pub struct PostRun {
 }
 
 /// What a run gave that ends here.
-fn run_of(answers: Vec<Answer>, t: Tally<Room<()>>) -> PostRun
+fn run_of(answers: Vec<Answer>, t: Counts<Notes<()>>) -> PostRun
     ensures { result ≡ record { answers = answers; frames = t.notes.frames; resumed = t.resumed } }
 {
-    let Tally {
+    let Counts {
         arrived: _,
         moment: _,
         inside: _,
@@ -67,7 +67,7 @@ fn run_of(answers: Vec<Answer>, t: Tally<Room<()>>) -> PostRun
         resumed,
         notes,
     } = t;
-    let Room { frames, told: _ } = notes;
+    let Notes { frames, told: _ } = notes;
     PostRun {
         answers,
         frames,
@@ -119,9 +119,9 @@ pub fn run_posts(
         samples,
         begun: 0,
     };
-    let mut arrival = fresh_stand(0, none);
+    let mut arrival = fresh_sample(0, none);
     let waits = turn(&mut m, &form, &[], &mut arrival, firmware.step_bound);
-    let mut st = fresh_stand(0, room);
+    let mut st = fresh_sample(0, room);
     if waits {
         let last = last_boundary(firmware);
         run_turns(
@@ -134,5 +134,5 @@ pub fn run_posts(
             last,
         );
     }
-    Ok(run_of(answers, st.tally))
+    Ok(run_of(answers, st.counts))
 }

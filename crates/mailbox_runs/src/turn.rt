@@ -1,48 +1,48 @@
 //! A turn: from one arrival where the code waits to the next.
 ghost use Rattle.std.specs.Prelude.{◌≡◌, ◌≤◌, ◌<◌, ◌+◌, ◌-◌, ◌^◌, All, true, false, length, map, drop};
 ghost use Rattle.run_law.specs.Forms.{run_from};
-ghost use Rattle.run_forms.specs.{Rest.rest_at, Rest.counted_at, Rooms.Fits, Sessions.IsSteady};
+ghost use Rattle.run_forms.specs.{Rest.rest_at, Rest.counted_at, Rooms.Fits, SampleRests.IsSteady};
 ghost use Rattle.interrupt_plan.specs.Posts.{IsGoodPost};
-ghost use Rattle.mailbox_runs.specs.{Runs.input_bytes, Runs.turn_form, Tallies.notes_of};
+ghost use Rattle.mailbox_runs.specs.{Runs.input_bytes, Runs.turn_form, Counts.notes_of};
 
 use crate::form::WithPosts;
 use cpu12_emul::machine::Machine;
 use cpu12_isa::mem::Mem;
 use interrupt_plan::Post;
-use run_forms::{Room, Stand, run_sample};
+use run_forms::{Notes, SampleState, run_sample};
 
 /// Goes on until the code waits again, or up to boundary `last`. Answers whether it waits.
 pub(crate) fn turn<M: Mem>(
     m: &mut Machine<M>,
     form: &WithPosts,
     posts: &[Post],
-    st: &mut Stand<Room<()>>,
+    st: &mut SampleState<Notes<()>>,
     last: u32,
 ) -> bool
     requires good { All (IsGoodPost (length form.now.samples.now)) posts.now }
-    requires next { st.old.tally.next ≤ length posts.now }
-    requires room { Fits st.old.tally.notes (length posts.now - st.old.tally.next) }
-    requires counts { (st.old.tally.instrs ≤ st.old.tally.moment) × (st.old.tally.resumed ≤ st.old.tally.moment) }
-    requires most { st.old.tally.moment ≤ last }
-    ensures arrived { result ≡ st.new.tally.arrived }
-    ensures counted { counted_at notes_of st.new.tally m.new.state
+    requires next { st.old.counts.next ≤ length posts.now }
+    requires room { Fits st.old.counts.notes (length posts.now - st.old.counts.next) }
+    requires counts { (st.old.counts.instrs ≤ st.old.counts.moment) × (st.old.counts.resumed ≤ st.old.counts.moment) }
+    requires most { st.old.counts.moment ≤ last }
+    ensures arrived { result ≡ st.new.counts.arrived }
+    ensures counted { counted_at notes_of st.new.counts m.new.state
         ≡ rest_at notes_of
         (turn_form m.old.flags form.now.firmware.now (map input_bytes form.now.samples.now) form.now.begun)
-        (last - st.old.tally.moment) posts.now st.old.tally m.old.state }
-    ensures left { drop st.new.tally.next posts.now
+        (last - st.old.counts.moment) posts.now st.old.counts m.old.state }
+    ensures left { drop st.new.counts.next posts.now
         ≡ (run_from
         (turn_form m.old.flags form.now.firmware.now (map input_bytes form.now.samples.now) form.now.begun)
-        (last - st.old.tally.moment) st.old.tally.moment st.old.tally.inside (drop st.old.tally.next posts.now)
+        (last - st.old.counts.moment) st.old.counts.moment st.old.counts.inside (drop st.old.counts.next posts.now)
         m.old.state).left }
-    ensures next { st.old.tally.next ≤ st.new.tally.next }
+    ensures next { st.old.counts.next ≤ st.new.counts.next }
     ensures steady { IsSteady Fits posts.now st.new }
-    ensures most { st.new.tally.moment ≤ last }
-    ensures resumed { result ≡ true → st.new.tally.resumed ≤ st.new.tally.moment }
+    ensures most { st.new.counts.moment ≤ last }
+    ensures resumed { result ≡ true → st.new.counts.resumed ≤ st.new.counts.moment }
     ensures flags { m.new.flags ≡ m.old.flags }
 {
-    st.tally.arrived = false;
-    st.left = last - st.tally.moment;
+    st.counts.arrived = false;
+    st.left = last - st.counts.moment;
     st.over = false;
     run_sample(m, form, posts, st);
-    st.tally.arrived
+    st.counts.arrived
 }

@@ -7,9 +7,9 @@ ghost use Rattle.alone_code.specs.Uninterrupted.{values_in};
 ghost use Rattle.mailbox_runs.specs.Turns.{up_to, behind, waiting};
 ghost use Rattle.mailbox_runs.specs.Runs.{turn_form, answers_by, waits_by, input_bytes, answer_seen, turns_from};
 ghost use Rattle.mailbox_runs.specs.Runs.{most_turns};
-ghost use Rattle.mailbox_runs.specs.Tallies.{notes_of, counted_at, with_rest};
+ghost use Rattle.mailbox_runs.specs.Counts.{notes_of, counted_at, with_rest};
 ghost use Rattle.alone_runs.specs.Rows.{bytes_of};
-ghost use Rattle.run_forms.specs.{Rest.with_before, Rooms.Fits, Sessions.IsSteady};
+ghost use Rattle.run_forms.specs.{Rest.with_before, Rooms.Fits, SampleRests.IsSteady};
 
 use crate::form::WithPosts;
 use crate::run::Answer;
@@ -20,7 +20,7 @@ use cpu12_emul::machine::Machine;
 use cpu12_isa::mem::Mem;
 use firmware_runs::{answers, answers_are_values, copy_of};
 use interrupt_plan::Post;
-use run_forms::{Room, Stand, Tally, take_due};
+use run_forms::{Counts, Notes, SampleState, take_due};
 use trace_io::Sample;
 
 /// The most turns: each takes a step at least.
@@ -68,7 +68,7 @@ fn answer_of<M: Mem>(
     m: &Machine<M>,
     firmware: &Firmware,
     samples: &[Sample],
-    t: &Tally<Room<()>>,
+    t: &Counts<Notes<()>>,
     sample: u32,
 ) -> Answer
     requires outputs { (firmware.now.outputs ≤ 4) × (firmware.now.memory_map.outputs + 8 < 2 ^ 16) }
@@ -100,7 +100,7 @@ fn end_turn<M: Mem>(
     samples: &[Sample],
     taken: &[Post],
     begun: u32,
-    t: &Tally<Room<()>>,
+    t: &Counts<Notes<()>>,
     waits: u32,
     answers: &mut Vec<Answer>,
 ) -> u32
@@ -134,7 +134,7 @@ fn look<M: Mem>(
     m: &mut Machine<M>,
     form: &WithPosts,
     posts: &[Post],
-    t: &mut Tally<Room<()>>,
+    t: &mut Counts<Notes<()>>,
     waits: u32,
 ) -> u32
     requires good { AreGoodPosts (length form.now.samples.now) posts.now }
@@ -169,7 +169,12 @@ fn look<M: Mem>(
 }
 
 /// Whether no sample is posted and no post is left.
-fn is_over<M: Mem>(m: &Machine<M>, firmware: &Firmware, posts: &[Post], t: &Tally<Room<()>>) -> bool
+fn is_over<M: Mem>(
+    m: &Machine<M>,
+    firmware: &Firmware,
+    posts: &[Post],
+    t: &Counts<Notes<()>>,
+) -> bool
     requires { t.now.next ≤ length posts.now }
     ensures { result ≡ (is_empty (drop t.now.next posts.now)
         && (slice_index m.now.state.mem firmware.now.memory_map.ready == 0)) }
@@ -187,7 +192,7 @@ fn next_turn<M: Mem>(
     firmware: &Firmware,
     samples: &[Sample],
     posts: &[Post],
-    st: &mut Stand<Room<()>>,
+    st: &mut SampleState<Notes<()>>,
     waits: &mut u32,
     answers: &mut Vec<Answer>,
     last: u32,
@@ -195,42 +200,42 @@ fn next_turn<M: Mem>(
     requires outputs { (firmware.now.outputs ≤ 4) × (firmware.now.memory_map.outputs + 8 < 2 ^ 16) }
     requires good { AreGoodPosts (length samples.now) posts.now }
     requires steady { IsSteady Fits posts.now st.old }
-    requires resumed { st.old.tally.resumed ≤ st.old.tally.moment }
-    requires most { (st.old.tally.moment ≤ last) × (last ≤ 4000000000) }
+    requires resumed { st.old.counts.resumed ≤ st.old.counts.moment }
+    requires most { (st.old.counts.moment ≤ last) × (last ≤ 4000000000) }
     requires waits { waits.old ≤ length samples.now }
-    requires answers { (vec_len answers.old + min waits.old 1 ≤ st.old.tally.next)
+    requires answers { (vec_len answers.old + min waits.old 1 ≤ st.old.counts.next)
         × (length posts.now ≤ vec_capacity answers.old) }
     ensures goes { result ≡ true → (n : ℕ)
-        → with_rest (map answer_seen answers.old.items) st.old.tally
-        (turns_from m.old.flags firmware.now (map input_bytes samples.now) last (suc n) st.old.tally.moment waits.old
-        (drop st.old.tally.next posts.now) m.old.state)
-        ≡ with_rest (map answer_seen answers.new.items) st.new.tally
-        (turns_from m.old.flags firmware.now (map input_bytes samples.now) last n st.new.tally.moment waits.new
-        (drop st.new.tally.next posts.now) m.new.state) }
+        → with_rest (map answer_seen answers.old.items) st.old.counts
+        (turns_from m.old.flags firmware.now (map input_bytes samples.now) last (suc n) st.old.counts.moment waits.old
+        (drop st.old.counts.next posts.now) m.old.state)
+        ≡ with_rest (map answer_seen answers.new.items) st.new.counts
+        (turns_from m.old.flags firmware.now (map input_bytes samples.now) last n st.new.counts.moment waits.new
+        (drop st.new.counts.next posts.now) m.new.state) }
     ensures ends { result ≡ false → (n : ℕ)
-        → with_rest (map answer_seen answers.old.items) st.old.tally
-        (turns_from m.old.flags firmware.now (map input_bytes samples.now) last (suc n) st.old.tally.moment waits.old
-        (drop st.old.tally.next posts.now) m.old.state)
-        ≡ counted_at (map answer_seen answers.new.items) st.new.tally }
+        → with_rest (map answer_seen answers.old.items) st.old.counts
+        (turns_from m.old.flags firmware.now (map input_bytes samples.now) last (suc n) st.old.counts.moment waits.old
+        (drop st.old.counts.next posts.now) m.old.state)
+        ≡ counted_at (map answer_seen answers.new.items) st.new.counts }
     ensures steady { result ≡ true → IsSteady Fits posts.now st.new }
-    ensures resumed { result ≡ true → st.new.tally.resumed ≤ st.new.tally.moment }
-    ensures most { st.new.tally.moment ≤ last }
+    ensures resumed { result ≡ true → st.new.counts.resumed ≤ st.new.counts.moment }
+    ensures most { st.new.counts.moment ≤ last }
     ensures waits { waits.new ≤ length samples.now }
-    ensures answers { result ≡ true → (vec_len answers.new + min waits.new 1 ≤ st.new.tally.next)
+    ensures answers { result ≡ true → (vec_len answers.new + min waits.new 1 ≤ st.new.counts.next)
         × (length posts.now ≤ vec_capacity answers.new) }
     ensures flags { m.new.flags ≡ m.old.flags }
 {
-    let begun = st.tally.moment;
+    let begun = st.counts.moment;
     let form = WithPosts {
         firmware,
         samples,
         begun,
     };
-    let seen = look(m, &form, posts, &mut st.tally, *waits);
-    if is_over(m, firmware, posts, &st.tally) {
+    let seen = look(m, &form, posts, &mut st.counts, *waits);
+    if is_over(m, firmware, posts, &st.counts) {
         return false;
     }
-    let looked = st.tally.next;
+    let looked = st.counts.next;
     if !turn(m, &form, posts, st, last) {
         return false;
     }
@@ -238,9 +243,9 @@ fn next_turn<M: Mem>(
         m,
         firmware,
         samples,
-        &posts[looked..st.tally.next],
+        &posts[looked..st.counts.next],
         begun,
-        &st.tally,
+        &st.counts,
         seen,
         answers,
     );
@@ -253,18 +258,18 @@ pub(crate) fn run_turns<M: Mem>(
     firmware: &Firmware,
     samples: &[Sample],
     posts: &[Post],
-    st: &mut Stand<Room<()>>,
+    st: &mut SampleState<Notes<()>>,
     answers: &mut Vec<Answer>,
     last: u32,
 )
     requires outputs { (firmware.now.outputs ≤ 4) × (firmware.now.memory_map.outputs + 8 < 2 ^ 16) }
     requires good { AreGoodPosts (length samples.now) posts.now }
-    requires begins { (st.old.tally.moment ≡ 0) × (st.old.tally.next ≡ 0) × (st.old.tally.resumed ≡ 0) }
+    requires begins { (st.old.counts.moment ≡ 0) × (st.old.counts.next ≡ 0) × (st.old.counts.resumed ≡ 0) }
     requires steady { IsSteady Fits posts.now st.old }
     requires most { last ≤ 4000000000 }
     requires answers { (vec_len answers.old ≡ 0) × (length posts.now ≤ vec_capacity answers.old) }
-    ensures { counted_at (map answer_seen answers.new.items) st.new.tally
-        ≡ with_rest (map answer_seen answers.old.items) st.old.tally
+    ensures { counted_at (map answer_seen answers.new.items) st.new.counts
+        ≡ with_rest (map answer_seen answers.old.items) st.old.counts
         (turns_from m.old.flags firmware.now (map input_bytes samples.now) last most_turns 0 0 posts.now m.old.state) }
 {
     let mut waits = 0;

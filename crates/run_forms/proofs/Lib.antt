@@ -4,8 +4,8 @@ pub mod Onward
 pub mod Arrivals
 pub mod PlanSlices
 pub mod RowSteps
-pub mod Comings
-pub mod Outlooks
+pub mod SampleRests
+pub mod RunRests
 pub mod NextSamples
 pub mod AtOnce
-pub mod Counts
+pub mod Counting

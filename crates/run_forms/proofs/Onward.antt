@@ -7,15 +7,15 @@ use Rattle.cpu12_parts.specs.State.{State}
 use Rattle.cpu12_emul.specs.{Step.Next, Step.next_of, Step.is_part, Take.FrameSeen, declared.ends.Stepped.Stepped}
 use Rattle.run_law.specs.Forms.{Form, Taking, Ran, takes, one_if, is_empty, resumes, before_rest, stuck, then_rest}
 use Rattle.run_law.specs.Forms.{run_from, ended}
-use Rattle.run_forms.specs.Rest.{Brief, Brought, with_before, brief, after, rest_of}
+use Rattle.run_forms.specs.Rest.{SampleSummary, TakingSummary, with_before, summary, after, rest_of}
 use Rattle.run_forms.specs.Rows.{tellings}
 
 -- what is counted before the rest and in it
 merged : {A B : Type 0} (inside : Bool) (b : Taking A B) (kind : Stepped) (i m r : ℕ) (ts : List B)
     (fs : List (ℕ × FrameSeen)) (k : Ran A B)
-    → after i m r ts fs (brief (before_rest inside b kind k))
+    → after i m r ts fs (summary (before_rest inside b kind k))
     ≡ after (i + one_if (not (is_part kind))) (m + 1) (r + resumes inside b) (ts ++ tellings b.told)
-    (fs ++ b.frames) (brief k)
+    (fs ++ b.frames) (summary k)
 merged {A = A} {B = B} inside b kind i m r ts fs k =
     let e : i + (one_if (not (is_part kind)) + k.instrs) ≡ i + one_if (not (is_part kind)) + k.instrs = omega arith in
     let f : m + suc k.steps ≡ m + 1 + k.steps = omega arith in
@@ -49,9 +49,9 @@ pub onward : {S A B : Type 0} (g : Form S A B) (n m : ℕ) (inside taken : Bool)
 unfolding run_from
 onward {A = A} {B = B} g n m inside taken qs qs2 s t next i j r fs fs2 ts ts2 on te ne ta =
     let b : Taking A B = takes g m qs s in
-    let es : b.state ≡ t = ap (λ (k : Brought A B). k.state) te in
-    let ef : fs ++ b.frames ≡ fs2 = ap (λ (k : Brought A B). k.frames) te in
-    let el : b.left ≡ qs2 = ap (λ (k : Brought A B). k.left) te in
+    let es : b.state ≡ t = ap (λ (k : TakingSummary A B). k.state) te in
+    let ef : fs ++ b.frames ≡ fs2 = ap (λ (k : TakingSummary A B). k.frames) te in
+    let el : b.left ≡ qs2 = ap (λ (k : TakingSummary A B). k.left) te in
     let m1 : suc m ≡ m + 1 = omega arith in
     let rest : Bool → State → Ran A B = λ k u. run_from g n (suc m) k b.left u in
     let one : run_from g (suc n) m inside qs s ≡ then_rest inside b rest (next_of g.flags b.state) = rw on refl in
@@ -61,15 +61,15 @@ onward {A = A} {B = B} g n m inside taken qs qs2 s t next i j r fs fs2 ts ts2 on
     let there : Ran A B = run_from g n (suc m) (is_part next.kind) b.left next.state in
     let same : there ≡ run_from g n (m + 1) (is_part next.kind) qs2 next.state =
     ap₂ (λ (k : ℕ) (l : List A). run_from g n k (is_part next.kind) l next.state) m1 el in
-    let et : ts ++ tellings b.told ≡ ts2 = ap (λ (k : Brought A B). k.told) te in
-    ap (λ (o : Ran A B). after i j r ts fs (brief o)) (one ∙ two)
+    let et : ts ++ tellings b.told ≡ ts2 = ap (λ (k : TakingSummary A B). k.told) te in
+    ap (λ (o : Ran A B). after i j r ts fs (summary o)) (one ∙ two)
     ∙ merged inside b next.kind i j r ts fs there
     ∙ ap₂ (λ (k : ℕ) (l : List (ℕ × FrameSeen)). after (i + one_if (not (is_part next.kind))) (j + 1) (r + k)
-    (ts ++ tellings b.told) l (brief there)) (taken_there inside taken b fs fs2 ef ta) ef
+    (ts ++ tellings b.told) l (summary there)) (taken_there inside taken b fs fs2 ef ta) ef
     ∙ ap (λ (us : List B). after (i + one_if (not (is_part next.kind))) (j + 1) (r + one_if (inside && taken)) us fs2
-    (brief there)) et
+    (summary there)) et
     ∙ ap (λ (o : Ran A B). after (i + one_if (not (is_part next.kind))) (j + 1) (r + one_if (inside && taken)) ts2 fs2
-    (brief o)) same
+    (summary o)) same
 
 -- where no step is defined, the run ends
 pub no_step : {S A B : Type 0} (g : Form S A B) (n m : ℕ) (inside taken : Bool) (qs qs2 : List A) (s t : State)
@@ -90,17 +90,17 @@ pub no_step : {S A B : Type 0} (g : Form S A B) (n m : ℕ) (inside taken : Bool
 unfolding run_from
 no_step {A = A} {B = B} g n m inside taken qs qs2 s t byte i j r fs fs2 ts ts2 on te ne ta =
     let b : Taking A B = takes g m qs s in
-    let es : b.state ≡ t = ap (λ (k : Brought A B). k.state) te in
-    let ef : fs ++ b.frames ≡ fs2 = ap (λ (k : Brought A B). k.frames) te in
+    let es : b.state ≡ t = ap (λ (k : TakingSummary A B). k.state) te in
+    let ef : fs ++ b.frames ≡ fs2 = ap (λ (k : TakingSummary A B). k.frames) te in
     let rest : Bool → State → Ran A B = λ k u. run_from g n (suc m) k b.left u in
     let one : run_from g (suc n) m inside qs s ≡ then_rest inside b rest (next_of g.flags b.state) = rw on refl in
     let two : then_rest inside b rest (next_of g.flags b.state) ≡ stuck inside b =
     ap (then_rest inside b rest) (ap (next_of g.flags) es ∙ ne) in
     let i0 : i + 0 ≡ i = omega arith in
     let j0 : j + 0 ≡ j = omega arith in
-    let et : ts ++ tellings b.told ≡ ts2 = ap (λ (k : Brought A B). k.told) te in
+    let et : ts ++ tellings b.told ≡ ts2 = ap (λ (k : TakingSummary A B). k.told) te in
     let rs = taken_there inside taken b fs fs2 ef ta in
-    ap (λ (o : Ran A B). after i j r ts fs (brief o)) (one ∙ two) ∙ cc
+    ap (λ (o : Ran A B). after i j r ts fs (summary o)) (one ∙ two) ∙ cc
 
 pub at_rest : {S A B : Type 0} (g : Form S A B) (n m : ℕ) (inside : Bool) (qs : List A) (s : State) → g.ends m s ≡ true
     → run_from g n m inside qs s ≡ ended true qs s
@@ -116,7 +116,7 @@ spent g (suc n) m inside qs s z = absurd (omega arith)
 
 counted_there : {A B : Type 0} (arrived : Bool) (qs : List A) (s : State) (i j r : ℕ) (ts : List B)
     (fs : List (ℕ × FrameSeen))
-    → after i j r ts fs (brief (ended {A = A} {B = B} arrived qs s))
+    → after i j r ts fs (summary (ended {A = A} {B = B} arrived qs s))
     ≡ record { arrived = arrived; state = s; instrs = i; steps = j; resumed = r; told = ts; frames = fs }
 counted_there arrived qs s i j r ts fs =
     let i0 : i + 0 ≡ i = omega arith in
@@ -132,7 +132,7 @@ pub rest_at_end : {S A B : Type 0} (g : Form S A B) (n m : ℕ) (inside : Bool) 
     → rest_of g n m inside qs s i j r ts fs
     ≡ record { arrived = true; state = s; instrs = i; steps = j; resumed = r; told = ts; frames = fs }
 rest_at_end {A = A} {B = B} g n m inside qs s i j r ts fs e =
-    ap (λ (o : Ran A B). after i j r ts fs (brief o)) (at_rest g n m inside qs s e)
+    ap (λ (o : Ran A B). after i j r ts fs (summary o)) (at_rest g n m inside qs s e)
     ∙ counted_there true qs s i j r ts fs
 
 pub rest_spent : {S A B : Type 0} (g : Form S A B) (n m : ℕ) (inside : Bool) (qs : List A) (s : State) (i j r : ℕ)
@@ -140,18 +140,18 @@ pub rest_spent : {S A B : Type 0} (g : Form S A B) (n m : ℕ) (inside : Bool) (
     → rest_of g n m inside qs s i j r ts fs
     ≡ record { arrived = g.ends m s; state = s; instrs = i; steps = j; resumed = r; told = ts; frames = fs }
 rest_spent {A = A} {B = B} g n m inside qs s i j r ts fs z =
-    ap (λ (o : Ran A B). after i j r ts fs (brief o)) (spent g n m inside qs s z)
+    ap (λ (o : Ran A B). after i j r ts fs (summary o)) (spent g n m inside qs s z)
     ∙ counted_there (g.ends m s) qs s i j r ts fs
 
 -- with nothing counted before
-pub from_nothing : {B : Type 0} (b : Brief B) → after 0 0 0 [] [] b ≡ b
+pub from_nothing : {B : Type 0} (b : SampleSummary B) → after 0 0 0 [] [] b ≡ b
 from_nothing {B = B} b =
     let i0 : 0 + b.instrs ≡ b.instrs = omega arith in
     let j0 : 0 + b.steps ≡ b.steps = omega arith in
     let r0 : 0 + b.resumed ≡ b.resumed = omega arith in
     ap₂ (λ (k l : ℕ). by k l (0 + b.resumed)) i0 j0 ∙ ap (λ (k : ℕ). by b.instrs b.steps k) r0
   where
-    by : ℕ → ℕ → ℕ → Brief B
+    by : ℕ → ℕ → ℕ → SampleSummary B
     by i j r = record {
       arrived = b.arrived;
       state = b.state;
@@ -174,8 +174,8 @@ pub runs_onward : {S A B : Type 0} (g : Form S A B) (n m : ℕ) (inside : Bool) 
 unfolding run_from
 runs_onward {A = A} {B = B} g n m inside qs qs2 s t next fs fs2 ts ts2 on te ne =
     let b : Taking A B = takes g m qs s in
-    let es : b.state ≡ t = ap (λ (k : Brought A B). k.state) te in
-    let el : b.left ≡ qs2 = ap (λ (k : Brought A B). k.left) te in
+    let es : b.state ≡ t = ap (λ (k : TakingSummary A B). k.state) te in
+    let el : b.left ≡ qs2 = ap (λ (k : TakingSummary A B). k.left) te in
     let m1 : suc m ≡ m + 1 = omega arith in
     let rest : Bool → State → Ran A B = λ k u. run_from g n (suc m) k b.left u in
     let one : run_from g (suc n) m inside qs s ≡ then_rest inside b rest (next_of g.flags b.state) = rw on refl in
@@ -195,8 +195,8 @@ pub runs_stuck : {S A B : Type 0} (g : Form S A B) (n m : ℕ) (inside : Bool) (
 unfolding run_from
 runs_stuck {A = A} {B = B} g n m inside qs qs2 s t byte fs fs2 ts ts2 on te ne =
     let b : Taking A B = takes g m qs s in
-    let es : b.state ≡ t = ap (λ (k : Brought A B). k.state) te in
-    let el : b.left ≡ qs2 = ap (λ (k : Brought A B). k.left) te in
+    let es : b.state ≡ t = ap (λ (k : TakingSummary A B). k.state) te in
+    let el : b.left ≡ qs2 = ap (λ (k : TakingSummary A B). k.left) te in
     let rest : Bool → State → Ran A B = λ k u. run_from g n (suc m) k b.left u in
     let one : run_from g (suc n) m inside qs s ≡ then_rest inside b rest (next_of g.flags b.state) = rw on refl in
     let two : then_rest inside b rest (next_of g.flags b.state) ≡ stuck inside b =

@@ -4,7 +4,7 @@ use Rattle.std.proofs.Common.{length-drop, take, drop, drop-drop, refl, ap, sym,
 use Rattle.std.specs.Prelude.{if◌then◌else◌}
 use Rattle.std.proofs.Math.Seq.{take-length}
 use Rattle.std.proofs.lemmas.List.Sums.{take_while-cons}
-use Rattle.run_forms.specs.{Forms.Notes, Forms.sample_in, Rows.is_of, Rows.of_sample}
+use Rattle.run_forms.specs.{Forms.SeenNotes, Forms.sample_in, Rows.is_of, Rows.of_sample}
 use Rattle.run_forms.specs.Slices.{Follow, requests_first, requests_after, HasRoom, HaveRoom}
 use Rattle.run_forms.proofs.Algebra.{is_other, one_is, other_is, of_here, of_not}
 
@@ -112,7 +112,7 @@ after_more place k (suc n) plan =
     let f : k + suc n ≡ suc k + n = omega arith in
     rw (e, f) (after_more place (suc k) n (drop (length (requests_first place k plan)) plan))
 
-pub room_more : {A U B : Type 0} (fits : U → ℕ → Type 0) (seen : Notes U B) (place : A → ℕ × ℕ) (k n : ℕ) (plan : List A) (rooms : List U) (room : U)
+pub room_more : {A U B : Type 0} (fits : U → ℕ → Type 0) (seen : SeenNotes U B) (place : A → ℕ × ℕ) (k n : ℕ) (plan : List A) (rooms : List U) (room : U)
     → HaveRoom fits seen place k n plan rooms
     → HasRoom fits seen (requests_first place (k + n) (requests_after place k n plan)) room
     → HaveRoom fits seen place k (n + 1) plan (rooms ++ room ∷ [])
@@ -131,7 +131,7 @@ room_more fits seen place k (suc n) plan (first ∷ rooms) room h r =
     (h.0, room_more fits seen place (suc k) n (drop (length (requests_first place k plan)) plan) rooms room h.1 there)
 
 -- the first room, and those that are left
-pub room_first : {A U B : Type 0} (fits : U → ℕ → Type 0) (seen : Notes U B) (place : A → ℕ × ℕ) (k n : ℕ) (plan : List A) (room : U) (rooms : List U)
+pub room_first : {A U B : Type 0} (fits : U → ℕ → Type 0) (seen : SeenNotes U B) (place : A → ℕ × ℕ) (k n : ℕ) (plan : List A) (room : U) (rooms : List U)
     → 0 < n → HaveRoom fits seen place k n plan (room ∷ rooms)
     → HasRoom fits seen (requests_first place k plan) room
     × HaveRoom fits seen place (k + 1) (n - 1) (drop (length (requests_first place k plan)) plan) rooms

@@ -6,7 +6,7 @@ use Rattle.std.proofs.lemmas.Bool.Decides.{nat_tests}
 use Rattle.cpu12_parts.specs.{State.State, Parts.suspended, Parts.wav}
 use Rattle.cpu12_emul.specs.Take.{FrameSeen, frame_of, may_interrupt}
 use Rattle.run_law.specs.Forms.{Form, Taking, takes, taken}
-use Rattle.run_forms.specs.{Rows.tellings, Rest.is_due, Rest.Brought, Rest.with_before}
+use Rattle.run_forms.specs.{Rows.tellings, Rest.is_due, Rest.TakingSummary, Rest.with_before}
 
 -- a request that is due is taken
 pub takes_due : {S A B : Type 0} (g : Form S A B) (m : ℕ) (q : A) (qs : List A) (s : State) (fs : List (ℕ × FrameSeen))
@@ -24,7 +24,7 @@ takes_due {A = A} {B = B} g m q qs s fs ts h =
     sym (append_assoc ts (one ∷ []) (tellings t.told)) in
     rw h (ap₂ (λ (l : List (ℕ × FrameSeen)) (us : List B). by t l us) e f)
   where
-    by : Taking A B → List (ℕ × FrameSeen) → List B → Brought A B
+    by : Taking A B → List (ℕ × FrameSeen) → List B → TakingSummary A B
     by t l us = record { state = t.state; frames = l; told = us; left = t.left }
 
 -- where none is due, none is taken
@@ -41,7 +41,7 @@ takes_end {A = A} {B = B} g m qs s fs ts h =
     ap (with_before fs ts) (takes_none g m qs s h)
     ∙ ap₂ (λ (l : List (ℕ × FrameSeen)) (us : List B). by l us) (append-nil fs) (append-nil ts)
   where
-    by : List (ℕ × FrameSeen) → List B → Brought A B
+    by : List (ℕ × FrameSeen) → List B → TakingSummary A B
     by l us = record { state = s; frames = l; told = us; left = qs }
 
 request_here : {A : Type 0} (qs : List A) (i : ℕ) (d : A) → i < length qs → drop i qs ≡ get_or qs i d ∷ drop (i + 1) qs
@@ -105,8 +105,8 @@ pub next_tells : {S A B : Type 0} (g : Form S A B) (m : ℕ) (qs : List A) (i j 
     → (i ≤ j) × (j ≤ length qs) → nat_lt i j ≡ nat_lt (length fs) (length fs2)
 next_tells {A = A} {B = B} g m qs i j s t fs fs2 us us2 te next =
     let b : Taking A B = takes g m (drop i qs) s in
-    let frames = ap (λ (k : Brought A B). length k.frames) te in
-    let left = ap (λ (k : Brought A B). length k.left) te in
+    let frames = ap (λ (k : TakingSummary A B). length k.frames) te in
+    let left = ap (λ (k : TakingSummary A B). length k.left) te in
     let both = length-append fs b.frames in
     let all = takes_counted g m (drop i qs) s in
     let x = length-drop i qs in

@@ -39,7 +39,7 @@ plan_form flags parts = record {
 }
 
 -- What is seen of the notes U of a sample's interrupts: the frames with their boundaries, and what was told.
-pub record Notes (U B : Type 0) : Type 0 where
+pub record SeenNotes (U B : Type 0) : Type 0 where
   pub frames : U → List (ℕ × FrameSeen)
   pub told : U → List B
 
@@ -49,6 +49,6 @@ pub record Notes (U B : Type 0) : Type 0 where
 pub record Harness (A U R S B T : Type 0) : Type 0 where
   pub samples : List S
   pub parts : FormParts S A B
-  pub notes : Notes U B
+  pub notes : SeenNotes U B
   pub shows : RowSeen S → List B → T
   pub seen : R → T

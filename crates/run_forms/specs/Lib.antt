@@ -3,8 +3,8 @@ pub mod Rows
 pub mod Rest
 pub mod Slices
 pub mod Positions
-pub mod Sessions
-pub mod Outlooks
+pub mod SampleRests
+pub mod RunRests
 pub mod Rooms
 pub mod Showing
 pub mod Arrival

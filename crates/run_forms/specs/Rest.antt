@@ -3,7 +3,7 @@
 use Rattle.std.specs.Prelude.{ℕ, ◌+◌, ◌&&◌, nat_le, Bool, false, List, [], ◌∷◌, ◌++◌, drop}
 use Rattle.cpu12_parts.specs.State.{State}
 use Rattle.cpu12_emul.specs.Take.{FrameSeen, may_interrupt}
-use Rattle.run_forms.specs.{declared.sample.Tally.Tally, Forms.Notes, Rows.tellings}
+use Rattle.run_forms.specs.{declared.sample.Counts.Counts, Forms.SeenNotes, Rows.tellings}
 use Rattle.run_law.specs.Forms.{Form, Taking, Ran, run_from, RowSeen}
 
 -- whether the next request is due at boundary m and may be taken
@@ -12,14 +12,14 @@ is_due moment m [] s = false
 is_due moment m (q ∷ qs) s = may_interrupt s && nat_le (moment q) m
 
 -- what is taken at a boundary, with what was told
-pub record Brought (A B : Type 0) : Type 0 where
+pub record TakingSummary (A B : Type 0) : Type 0 where
   pub state : State
   pub frames : List (ℕ × FrameSeen)
   pub told : List B
   pub left : List A
 
 -- frames and tellings before those of a boundary
-abbrev pub with_before : {A B : Type 0} → List (ℕ × FrameSeen) → List B → Taking A B → Brought A B
+abbrev pub with_before : {A B : Type 0} → List (ℕ × FrameSeen) → List B → Taking A B → TakingSummary A B
 with_before fs told t = record {
   state = t.state;
   frames = fs ++ t.frames;
@@ -28,7 +28,7 @@ with_before fs told t = record {
 }
 
 -- a run without the states at its boundaries: what was counted, and what all its handlers told
-pub record Brief (B : Type 0) : Type 0 where
+pub record SampleSummary (B : Type 0) : Type 0 where
   pub arrived : Bool
   pub state : State
   pub instrs : ℕ
@@ -37,8 +37,8 @@ pub record Brief (B : Type 0) : Type 0 where
   pub told : List B
   pub frames : List (ℕ × FrameSeen)
 
-abbrev pub brief : {A B : Type 0} → Ran A B → Brief B
-brief r = record {
+abbrev pub summary : {A B : Type 0} → Ran A B → SampleSummary B
+summary r = record {
   arrived = r.arrived;
   state = r.state;
   instrs = r.instrs;
@@ -49,7 +49,7 @@ brief r = record {
 }
 
 -- what was counted before, and the rest
-abbrev pub after : {B : Type 0} → ℕ → ℕ → ℕ → List B → List (ℕ × FrameSeen) → Brief B → Brief B
+abbrev pub after : {B : Type 0} → ℕ → ℕ → ℕ → List B → List (ℕ × FrameSeen) → SampleSummary B → SampleSummary B
 after instrs steps resumed told frames r = record {
   arrived = r.arrived;
   state = r.state;
@@ -62,18 +62,18 @@ after instrs steps resumed told frames r = record {
 
 -- the rest of a run, with what was counted before it
 abbrev pub rest_of : {S A B : Type 0} → Form S A B → ℕ → ℕ → Bool → List A → State → ℕ → ℕ → ℕ → List B
-    → List (ℕ × FrameSeen) → Brief B
+    → List (ℕ × FrameSeen) → SampleSummary B
 rest_of g n m inside qs s instrs steps resumed told frames =
-    after instrs steps resumed told frames (brief (run_from g n m inside qs s))
+    after instrs steps resumed told frames (summary (run_from g n m inside qs s))
 
--- the same of a tally, where this is seen of its notes
-abbrev pub rest_at : {S A U B : Type 0} → Notes U B → Form S A B → ℕ → List A → Tally U → State → Brief B
+-- the same of counts, where this is seen of their notes
+abbrev pub rest_at : {S A U B : Type 0} → SeenNotes U B → Form S A B → ℕ → List A → Counts U → State → SampleSummary B
 rest_at seen g n qs t s =
     rest_of g n t.moment t.inside (drop t.next qs) s t.instrs t.moment t.resumed (seen.told t.notes)
     (seen.frames t.notes)
 
--- what a tally says at the end
-abbrev pub counted_at : {U B : Type 0} → Notes U B → Tally U → State → Brief B
+-- what counts say at the end
+abbrev pub counted_at : {U B : Type 0} → SeenNotes U B → Counts U → State → SampleSummary B
 counted_at seen t s = record {
   arrived = t.arrived;
   state = s;
@@ -85,7 +85,7 @@ counted_at seen t s = record {
 }
 
 -- the row of a sample, of which this was counted
-abbrev pub row_by : {S B : Type 0} → (State → List ℕ) → S → Brief B → RowSeen S
+abbrev pub row_by : {S B : Type 0} → (State → List ℕ) → S → SampleSummary B → RowSeen S
 row_by answers x b = record {
   sample = x;
   answers = answers b.state;
@@ -96,5 +96,5 @@ row_by answers x b = record {
 }
 
 -- the same, as it is shown
-abbrev pub shown_by : {S B T : Type 0} → (RowSeen S → List B → T) → (State → List ℕ) → Brief B → S → T
+abbrev pub shown_by : {S B T : Type 0} → (RowSeen S → List B → T) → (State → List ℕ) → SampleSummary B → S → T
 shown_by shows answers b x = shows (row_by answers x b) b.told

@@ -1,21 +1,21 @@
 -- The requests of a plan, sample by sample, and room for what they push and tell.
 -- Beside the promise.
 use Rattle.std.specs.Prelude.{◌≡◌, ◌≤◌, ℕ, zero, suc, List, [], ◌∷◌, length, drop, take_while}
-use Rattle.run_forms.specs.{Forms.Notes, Forms.sample_in, Rows.is_of}
+use Rattle.run_forms.specs.{Forms.SeenNotes, Forms.sample_in, Rows.is_of}
 
 -- the requests of sample k that come first
 abbrev pub requests_first : {A : Type 0} → (A → ℕ × ℕ) → ℕ → List A → List A
 requests_first place k plan = take_while (is_of place k) plan
 
 -- empty, with room for these requests
-pub record HasRoom {A U B : Type 0} (fits : U → ℕ → Type 0) (seen : Notes U B) (requests : List A)
+pub record HasRoom {A U B : Type 0} (fits : U → ℕ → Type 0) (seen : SeenNotes U B) (requests : List A)
     (room : U) : Type 0 where
   pub no_frames : seen.frames room ≡ []
   pub none_told : seen.told room ≡ []
   pub enough : length requests ≤ 10000 → fits room (length requests)
 
 -- a room for each of n samples from number k on
-abbrev pub HaveRoom : {A U B : Type 0} → (U → ℕ → Type 0) → Notes U B → (A → ℕ × ℕ) → ℕ → ℕ → List A → List U
+abbrev pub HaveRoom : {A U B : Type 0} → (U → ℕ → Type 0) → SeenNotes U B → (A → ℕ × ℕ) → ℕ → ℕ → List A → List U
     → Type 0
 HaveRoom fits seen place k zero plan rooms = rooms ≡ []
 HaveRoom fits seen place k (suc n) plan [] = ⊥

@@ -2,26 +2,30 @@
 ghost use Rattle.std.specs.Prelude.{◌≡◌, ◌≤◌, ◌<◌, ◌+◌, ◌^◌, List, drop};
 ghost use Rattle.cpu12_parts.specs.State.{State};
 ghost use Rattle.run_forms.specs.Forms.{moment_in};
-ghost use Rattle.run_forms.specs.Sessions.{after_states, after_takes, after_parts, IsSteady, NoneDue};
+ghost use Rattle.run_forms.specs.SampleRests.{after_states, after_takes, after_parts, IsSteady, NoneDue};
 
-use crate::boundary::Stand;
+use crate::boundary::SampleState;
 use crate::form::SampleForm;
 use cpu12_emul::machine::Machine;
 use cpu12_isa::mem::Mem;
 
 /// How many steps may be done before the next request is due: as many as are left, where none is.
 #[inline(always)]
-fn steps_alone<A, U, R, F: SampleForm<A, U, R>>(form: &F, requests: &[A], st: &Stand<U>) -> u32
+fn steps_alone<A, U, R, F: SampleForm<A, U, R>>(
+    form: &F,
+    requests: &[A],
+    st: &SampleState<U>,
+) -> u32
     ensures left { result ≤ st.now.left }
-    ensures none { NoneDue (moment_in (F.harness form.now).parts.place) st.now.tally.moment result
-        (drop st.now.tally.next requests.now) }
+    ensures none { NoneDue (moment_in (F.harness form.now).parts.place) st.now.counts.moment result
+        (drop st.now.counts.next requests.now) }
 {
-    if st.tally.next < requests.len() {
-        let due = form.place(&requests[st.tally.next]).1;
-        if due <= st.tally.moment {
+    if st.counts.next < requests.len() {
+        let due = form.place(&requests[st.counts.next]).1;
+        if due <= st.counts.moment {
             return 0;
         }
-        let before = due - st.tally.moment - 1;
+        let before = due - st.counts.moment - 1;
         if before < st.left {
             return before;
         }
@@ -31,12 +35,12 @@ fn steps_alone<A, U, R, F: SampleForm<A, U, R>>(form: &F, requests: &[A], st: &S
 
 /// Counts parts at whose ends nothing is taken.
 #[inline(always)]
-fn count_parts<U>(st: &mut Stand<U>, done: u32)
+fn count_parts<U>(st: &mut SampleState<U>, done: u32)
     requires left { done ≤ st.old.left }
-    requires sum { st.old.tally.moment + st.old.left < 2 ^ 32 }
+    requires sum { st.old.counts.moment + st.old.left < 2 ^ 32 }
     ensures { st.new ≡ after_parts done st.old }
 {
-    st.tally.moment += done;
+    st.counts.moment += done;
     st.left -= done;
 }
 
@@ -46,10 +50,10 @@ pub(crate) fn pass_parts<M: Mem, A, U, R, F: SampleForm<A, U, R>>(
     m: &mut Machine<M>,
     form: &F,
     requests: &[A],
-    st: &mut Stand<U>,
+    st: &mut SampleState<U>,
 )
     requires steady { IsSteady F.fits requests.now st.old }
-    ensures coming { (states : List State)
+    ensures rest { (states : List State)
         × (after_takes m.old.flags (F.harness form.now) requests.now st.old m.old.state
         ≡ after_states states (after_takes m.old.flags (F.harness form.now) requests.now st.new m.new.state)) }
     ensures steady { IsSteady F.fits requests.now st.new }
@@ -59,7 +63,7 @@ pub(crate) fn pass_parts<M: Mem, A, U, R, F: SampleForm<A, U, R>>(
     if st.over {
         return;
     }
-    if !st.tally.inside {
+    if !st.counts.inside {
         return;
     }
     if !form.goes_on_here(m) {

@@ -4,18 +4,19 @@ ghost use Rattle.std.specs.Prelude.{ℕ, ◌≡◌, ◌≤◌, ◌<◌, ◌+◌,
 ghost use Rattle.std.specs.Prelude.{◌^◌, All, true, false, Ok, Err, length};
 ghost use Rattle.cpu12_emul.specs.{declared.ends.Stepped.Stepped as Kind, Step.next_of, Step.is_part};
 ghost use Rattle.run_law.specs.Forms.{one_if};
-ghost use Rattle.run_forms.specs.Sessions.{before_takes, after_takes, after_state, at_end, stepped_tally, IsSteady};
+ghost use Rattle.run_forms.specs.SampleRests.{before_takes, after_takes, after_state, at_end, stepped_counts};
+ghost use Rattle.run_forms.specs.SampleRests.{IsSteady};
 
 use crate::form::SampleForm;
-use crate::sample::{Tally, take_due};
+use crate::sample::{Counts, take_due};
 use cpu12_emul::machine::Machine;
 use cpu12_isa::mem::Mem;
 
-/// Where a sample's run stands.
+/// Where a sample's run stands, with what was counted of it.
 #[derive(Drop)]
-pub struct Stand<U> {
+pub struct SampleState<U> {
     /// What was counted.
-    pub tally: Tally<U>,
+    pub counts: Counts<U>,
     /// How many more steps may be done.
     pub left: u32,
     /// Whether the sample is over.
@@ -46,29 +47,30 @@ pub(crate) fn come<M: Mem, A, U, R, F: SampleForm<A, U, R>>(
     m: &mut Machine<M>,
     form: &F,
     requests: &[A],
-    st: &mut Stand<U>,
+    st: &mut SampleState<U>,
 )
     requires served { All (F.serves form.now) requests.now }
-    requires on { (st.old.over ≡ false) × (st.old.tally.arrived ≡ false) }
-    requires next { st.old.tally.next ≤ length requests.now }
-    requires room { F.fits st.old.tally.notes
-        (length requests.now - st.old.tally.next) }
-    requires counts { (st.old.tally.instrs ≤ st.old.tally.moment) × (st.old.tally.resumed ≤ st.old.tally.moment) }
-    requires sum { st.old.tally.moment + st.old.left < 2 ^ 32 }
-    ensures coming { after_takes m.old.flags (F.harness form.now) requests.now st.new m.new.state
+    requires on { (st.old.over ≡ false) × (st.old.counts.arrived ≡ false) }
+    requires next { st.old.counts.next ≤ length requests.now }
+    requires room { F.fits st.old.counts.notes
+        (length requests.now - st.old.counts.next) }
+    requires counts { (st.old.counts.instrs ≤ st.old.counts.moment) × (st.old.counts.resumed ≤ st.old.counts.moment) }
+    requires sum { st.old.counts.moment + st.old.left < 2 ^ 32 }
+    ensures rest { after_takes m.old.flags (F.harness form.now) requests.now st.new m.new.state
         ≡ before_takes m.old.flags (F.harness form.now) requests.now st.old m.old.state }
-    ensures moment { st.new.tally.moment ≡ st.old.tally.moment }
-    ensures next { st.new.tally.next ≤ length requests.now }
-    ensures room { F.fits st.new.tally.notes
-        (length requests.now - st.new.tally.next) }
-    ensures counts { (st.new.tally.instrs ≤ st.new.tally.moment) × (st.new.tally.resumed ≤ st.new.tally.moment + 1) }
-    ensures on { st.new.over ≡ false → (st.new.tally.arrived ≡ false)
-        × (st.new.tally.moment + st.new.left + 1 < 2 ^ 32) }
+    ensures moment { st.new.counts.moment ≡ st.old.counts.moment }
+    ensures next { st.new.counts.next ≤ length requests.now }
+    ensures room { F.fits st.new.counts.notes
+        (length requests.now - st.new.counts.next) }
+    ensures counts { (st.new.counts.instrs ≤ st.new.counts.moment)
+        × (st.new.counts.resumed ≤ st.new.counts.moment + 1) }
+    ensures on { st.new.over ≡ false → (st.new.counts.arrived ≡ false)
+        × (st.new.counts.moment + st.new.left + 1 < 2 ^ 32) }
     ensures noted { m.new.noted ≡ m.old.noted }
     ensures flags { m.new.flags ≡ m.old.flags }
 {
-    if form.ends(m, st.tally.moment) {
-        st.tally.arrived = true;
+    if form.ends(m, st.counts.moment) {
+        st.counts.arrived = true;
         st.over = true;
         return;
     }
@@ -76,40 +78,40 @@ pub(crate) fn come<M: Mem, A, U, R, F: SampleForm<A, U, R>>(
         st.over = true;
         return;
     }
-    let before = st.tally.next;
-    take_due(m, form, requests, &mut st.tally);
-    st.tally.resumed += resumed_here(st.tally.inside, before, st.tally.next);
+    let before = st.counts.next;
+    take_due(m, form, requests, &mut st.counts);
+    st.counts.resumed += resumed_here(st.counts.inside, before, st.counts.next);
     st.left -= 1;
 }
 
 /// Does a step from a boundary. Answers whether one was defined.
 #[inline(always)]
-pub(crate) fn step_on<M: Mem, U>(m: &mut Machine<M>, st: &mut Stand<U>) -> bool
+pub(crate) fn step_on<M: Mem, U>(m: &mut Machine<M>, st: &mut SampleState<U>) -> bool
     requires on { st.old.over ≡ false }
-    requires counts { (st.old.tally.instrs ≤ st.old.tally.moment) × (st.old.tally.moment + 1 < 2 ^ 32) }
+    requires counts { (st.old.counts.instrs ≤ st.old.counts.moment) × (st.old.counts.moment + 1 < 2 ^ 32) }
     ensures goes { result ≡ true → (kind : Kind) × (next_of m.old.flags m.old.state
         ≡ Ok (record { state = m.new.state; kind = kind }))
-        × (st.new ≡ record st.old { tally = stepped_tally st.old.tally (is_part kind) }) }
+        × (st.new ≡ record st.old { counts = stepped_counts st.old.counts (is_part kind) }) }
     ensures stuck { result ≡ false → (byte : ℕ) × (next_of m.old.flags m.old.state ≡ Err byte) }
     ensures same { result ≡ false → (st.new ≡ st.old) × (m.new ≡ m.old) }
     ensures rest { result ≡ true
         → st.new
         ≡ record st.old {
-          tally = record (st.old.tally) {
-            moment = st.old.tally.moment + 1;
-            inside = st.new.tally.inside;
-            instrs = st.new.tally.instrs;
+          counts = record (st.old.counts) {
+            moment = st.old.counts.moment + 1;
+            inside = st.new.counts.inside;
+            instrs = st.new.counts.instrs;
           };
         } }
-    ensures counts { result ≡ true → st.new.tally.instrs ≤ st.new.tally.moment }
+    ensures counts { result ≡ true → st.new.counts.instrs ≤ st.new.counts.moment }
     ensures noted { m.new.noted ≡ m.old.noted }
     ensures flags { m.new.flags ≡ m.old.flags }
 {
     match m.step() {
         Ok(kind) => {
-            st.tally.inside = kind.is_part();
-            st.tally.instrs += one_if(!st.tally.inside);
-            st.tally.moment += 1;
+            st.counts.inside = kind.is_part();
+            st.counts.instrs += one_if(!st.counts.inside);
+            st.counts.moment += 1;
             true
         }
         Err(_) => false,
@@ -122,7 +124,7 @@ pub(crate) fn pass<M: Mem, A, U, R, F: SampleForm<A, U, R>>(
     m: &mut Machine<M>,
     form: &F,
     requests: &[A],
-    st: &mut Stand<U>,
+    st: &mut SampleState<U>,
 ) -> bool
     requires served { All (F.serves form.now) requests.now }
     requires steady { IsSteady F.fits requests.now st.old }
@@ -131,9 +133,9 @@ pub(crate) fn pass<M: Mem, A, U, R, F: SampleForm<A, U, R>>(
         ≡ after_state m.old.state (after_takes m.old.flags (F.harness form.now) requests.now st.new m.new.state) }
     ensures ends { result ≡ false
         → after_takes m.old.flags (F.harness form.now) requests.now st.old m.old.state
-        ≡ at_end (F.harness form.now).notes requests.now st.old.tally m.old.state }
+        ≡ at_end (F.harness form.now).notes requests.now st.old.counts m.old.state }
     ensures same { result ≡ false → (st.new ≡ st.old) × (m.new ≡ m.old) }
-    ensures moment { result ≡ true → st.new.tally.moment ≡ st.old.tally.moment + 1 }
+    ensures moment { result ≡ true → st.new.counts.moment ≡ st.old.counts.moment + 1 }
     ensures steady { IsSteady F.fits requests.now st.new }
     ensures noted { m.new.noted ≡ m.old.noted }
     ensures flags { m.new.flags ≡ m.old.flags }

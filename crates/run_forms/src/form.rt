@@ -5,7 +5,7 @@ ghost use Rattle.cpu12_parts.specs.{Parts.suspended, Parts.wav, State.State};
 ghost use Rattle.cpu12_emul.specs.Take.{may_interrupt, frame_of};
 ghost use Rattle.run_forms.specs.{Forms.Harness, Rest.counted_at, Rest.shown_by};
 
-use crate::sample::Tally;
+use crate::sample::Counts;
 use cpu12_emul::machine::Machine;
 use cpu12_isa::mem::Mem;
 use fz_list::Memory;
@@ -94,11 +94,11 @@ pub trait RunForm<A, U, R>: SampleForm<A, U, R> {
         ensures fits { IfOk result (λ room. count ≤ 10000 → Self.fits room count) };
 
     /// The row of sample `k`, which ends here, and of which this was counted.
-    fn row<M: Mem>(&self, m: &Machine<M>, k: usize, tally: Tally<U>) -> R
+    fn row<M: Mem>(&self, m: &Machine<M>, k: usize, counts: Counts<U>) -> R
         requires sample { k < length (Self.harness self.now).samples }
-        requires few { (n : ℕ) × Self.fits tally.notes n }
+        requires few { (n : ℕ) × Self.fits counts.notes n }
         ensures { (x : Self.Given) → slice_get (Self.harness self.now).samples k ≡ Some x
             → (Self.harness self.now).seen result
             ≡ shown_by (Self.harness self.now).shows (Self.harness self.now).parts.answers
-            (counted_at (Self.harness self.now).notes tally m.now.state) x };
+            (counted_at (Self.harness self.now).notes counts m.now.state) x };
 }

@@ -18,14 +18,14 @@ mod at_once;
 mod boundary;
 mod form;
 pub mod laws;
-mod progress;
+mod run_state;
 mod runs;
 mod sample;
 mod sample_run;
 
-pub use boundary::Stand;
+pub use boundary::SampleState;
 pub use form::{RunForm, SampleForm};
-pub use progress::{Progress, advance, drive, fresh_stand, into_rows};
+pub use run_state::{RunState, advance, drive, fresh_sample, into_rows};
 pub use runs::{Start, begun, room_for, run_form};
-pub use sample::{Room, Tally, take_due};
+pub use sample::{Counts, Notes, take_due};
 pub use sample_run::run_sample;

@@ -3,11 +3,11 @@ ghost use Rattle.std.specs.Prelude.{ℕ, ◌≡◌, ◌≤◌, ◌+◌, [], All,
 ghost use Rattle.cpu12_isa.specs.Watching.{nothing_noted};
 ghost use Rattle.run_forms.specs.Rows.{arrival, arrived_at, frames_seen, harness_rows, shown};
 ghost use Rattle.run_forms.specs.{Rooms.Fits, Slices.HaveRoom, Slices.IsInOrder, Slices.requests_first};
-ghost use Rattle.run_forms.specs.Outlooks.{from_here, shown_run, outlook_at, IsUnderWay};
+ghost use Rattle.run_forms.specs.RunRests.{from_here, shown_run, rest_here, IsUnderWay};
 
 use crate::form::RunForm;
-use crate::progress::{Progress, before_samples, begin, drive, into_rows};
-use crate::sample::Room;
+use crate::run_state::{RunState, before_samples, begin, drive, into_rows};
+use crate::sample::Notes;
 use cpu12_asm::Image;
 use cpu12_emul::machine::Machine;
 use cpu12_isa::mem::Mem;
@@ -45,9 +45,9 @@ pub fn run_form<M: Mem, A, U: Drop, R: Drop, F: RunForm<A, U, R>>(
         ≡ (harness_rows flags (F.harness form.now) start.now.most plan.now
         (arrived_at flags start.now.wait start.now.most start.now.image.now.bytes)).state.mem) }
 {
-    let (mut machine, mut progress) = begun(alloc, form, start, plan, flags)?;
-    drive(&mut machine, form, plan, &mut progress);
-    let rows = into_rows(&mut machine, form, progress);
+    let (mut machine, mut run_state) = begun(alloc, form, start, plan, flags)?;
+    drive(&mut machine, form, plan, &mut run_state);
+    let rows = into_rows(&mut machine, form, run_state);
     Ok((rows, machine.into_mem()))
 }
 
@@ -58,10 +58,10 @@ pub fn begun<M: Mem, A, U: Drop, R: Drop, F: RunForm<A, U, R>>(
     start: &Start,
     plan: &[A],
     flags: u8,
-) -> Result<(Machine<M>, Progress<U, R>), Memory>
+) -> Result<(Machine<M>, RunState<U, R>), Memory>
     requires served { All (F.serves form.now) plan.now }
     requires order { IsInOrder (F.harness form.now).parts.place plan.now }
-    ensures first { IfOk result (λ r. from_here (outlook_at flags (F.harness form.now) plan.now r.1 r.0.state)
+    ensures first { IfOk result (λ r. from_here (rest_here flags (F.harness form.now) plan.now r.1 r.0.state)
         ≡ shown_run (F.harness form.now).shows
         (arrived_at flags start.now.wait start.now.most start.now.image.now.bytes)
         (harness_rows flags (F.harness form.now) start.now.most plan.now
@@ -78,9 +78,9 @@ pub fn begun<M: Mem, A, U: Drop, R: Drop, F: RunForm<A, U, R>>(
     };
     let mut machine = Machine::new(alloc, start.image, flags)?;
     arrive(&mut machine, start.wait, start.most);
-    let mut progress = before_samples(form, start.most, plan, none, rooms, rows);
-    begin(&mut machine, form, plan, &mut progress);
-    Ok((machine, progress))
+    let mut run_state = before_samples(form, start.most, plan, none, rooms, rows);
+    begin(&mut machine, form, plan, &mut run_state);
+    Ok((machine, run_state))
 }
 
 /// Does steps until PC is at LOOP, at most `budget` and as long as one is defined.
@@ -116,7 +116,7 @@ pub(crate) fn count_of<A, U, R, F: RunForm<A, U, R>>(form: &F, requests: &[A], k
 }
 
 /// Room for what so many requests push and tell.
-pub fn room_for<U: Drop>(alloc: Global, count: usize) -> Result<Room<U>, Memory>
+pub fn room_for<U: Drop>(alloc: Global, count: usize) -> Result<Notes<U>, Memory>
     ensures frames { IfOk result (λ room. frames_seen room.frames.items ≡ []) }
     ensures told { IfOk result (λ room. room.told.items ≡ []) }
     ensures fits { IfOk result (λ room. count ≤ 10000 → Fits room count) }
@@ -127,7 +127,7 @@ pub fn room_for<U: Drop>(alloc: Global, count: usize) -> Result<Room<U>, Memory>
     let Ok(told) = Vec::with_capacity(alloc, count) else {
         return Err(Memory);
     };
-    Ok(Room { frames, told })
+    Ok(Notes { frames, told })
 }
 
 /// Room for notes of the requests of each sample.

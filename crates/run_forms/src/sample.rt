@@ -10,9 +10,9 @@ use cpu12_emul::ends::Frame;
 use cpu12_emul::machine::Machine;
 use cpu12_isa::mem::Mem;
 
-/// Room for what the requests of a sample push and tell.
+/// What the requests of a sample push and tell, in room that is taken before its first step.
 #[derive(Drop)]
-pub struct Room<U> {
+pub struct Notes<U> {
     /// What each interrupt pushes, with its boundary.
     pub frames: Vec<(u32, Frame)>,
     /// What each handler tells.
@@ -21,7 +21,7 @@ pub struct Room<U> {
 
 /// What was counted of a sample's run, whose notes are of type `U`.
 #[derive(Drop)]
-pub struct Tally<U> {
+pub struct Counts<U> {
     /// Whether the firmware waited at the end.
     pub arrived: bool,
     /// How many steps were done.
@@ -38,7 +38,7 @@ pub struct Tally<U> {
     pub notes: U,
 }
 
-impl<U> Room<U> {
+impl<U> Notes<U> {
     /// Notes what an interrupt pushed after so many steps, and what its handler tells.
     pub fn put(&mut self, moment: u32, frame: Frame, told: U)
         requires room { (n : ℕ) × Fits self.old (n + 1) }
@@ -58,7 +58,7 @@ fn is_due<M: Mem, A, U, R, F: SampleForm<A, U, R>>(
     m: &Machine<M>,
     form: &F,
     requests: &[A],
-    t: &Tally<U>,
+    t: &Counts<U>,
 ) -> bool
     ensures { result ≡ is_due (moment_in (F.harness form.now).parts.place) t.now.moment
         (drop t.now.next requests.now) m.now.state }
@@ -80,7 +80,7 @@ fn take_next<M: Mem, A, U, R, F: SampleForm<A, U, R>>(
     m: &mut Machine<M>,
     form: &F,
     requests: &[A],
-    t: &mut Tally<U>,
+    t: &mut Counts<U>,
 )
     requires served { All (F.serves form.now) requests.now }
     requires due { is_due (moment_in (F.harness form.now).parts.place) t.old.moment
@@ -110,7 +110,7 @@ pub fn take_due<M: Mem, A, U, R, F: SampleForm<A, U, R>>(
     m: &mut Machine<M>,
     form: &F,
     requests: &[A],
-    t: &mut Tally<U>,
+    t: &mut Counts<U>,
 )
     requires served { All (F.serves form.now) requests.now }
     requires next { t.old.next ≤ length requests.now }

@@ -1,19 +1,19 @@
 -- What is seen of a fast run, by what was counted of it.
-use Rattle.two_level_runs.proofs.Words.{[], ◌-◌, ◌<◌, ◌∙◌, ◌∷◌, ◌≡◌, ap, ap₂, arith, Brief, bytes_at, counted_at}
+use Rattle.two_level_runs.proofs.Words.{[], ◌-◌, ◌<◌, ◌∙◌, ◌∷◌, ◌≡◌, ap, ap₂, arith, bytes_at, counted_at}
 use Rattle.two_level_runs.proofs.Words.{fast_map, fast_run, FastSeen, from, get_or, inner_notes, input_bytes, length}
-use Rattle.two_level_runs.proofs.Words.{length-map, List, map, None, Ran, sample_of, seen_of, slice_get, Some, State}
+use Rattle.two_level_runs.proofs.Words.{length-map, List, map, None, Ran, sample_of, SampleSummary, seen_of, slice_get, Some, State}
 use Rattle.two_level_runs.proofs.Words.{suc, sym, zero, ℕ}
 use Rattle.std.proofs.{Common.Option, Common.Bor}
 use Rattle.std.specs.{Prelude.MatchOption}
 use Rattle.trace_io.specs.{declared.sample.Sample.Sample}
-use Rattle.run_forms.specs.{declared.sample.Tally.Tally, Rest.brief}
+use Rattle.run_forms.specs.{declared.sample.Counts.Counts, Rest.summary}
 use Rattle.two_level_runs.specs.{declared.fast_code.InnerFrame.InnerFrame, InnerNotes.inner_frames_seen}
 use Rattle.std.specs.Slice.{IsItemAt}
 use Rattle.std.proofs.lemmas.Option.{slice_get_past}
 use Rattle.arrayvec.specs.ArrayVec.{ArrayVec}
 
 -- what is seen of a run of which this was counted
-abbrev pub seen : ℕ → List ℕ → Tally (ArrayVec InnerFrame) → FastSeen
+abbrev pub seen : ℕ → List ℕ → Counts (ArrayVec InnerFrame) → FastSeen
 seen number answers c = record {
   number = number;
   answers = answers;
@@ -23,8 +23,8 @@ seen number answers c = record {
   frames = inner_frames_seen c.notes.items;
 }
 
-pub seen_by_counts : (number outputs : ℕ) (c : Tally (ArrayVec InnerFrame)) (s : State) (r : Ran ℕ (Unit {0})) (answers : List ℕ)
-    → counted_at inner_notes c s ≡ brief r
+pub seen_by_counts : (number outputs : ℕ) (c : Counts (ArrayVec InnerFrame)) (s : State) (r : Ran ℕ (Unit {0})) (answers : List ℕ)
+    → counted_at inner_notes c s ≡ summary r
     → answers ≡ bytes_at s.mem (from fast_map.outputs outputs)
     → seen number answers c ≡ seen_of number outputs r
 seen_by_counts number outputs c s r answers e are =
@@ -61,9 +61,9 @@ sample_got samples number (Some s) some got =
     sample_there (map input_bytes samples) number some ∙ bytes_there samples (number - 1) s.now got.3.0 (got.3.1 s.now)
 
 -- a run by equal parts
-pub same_run : (outputs k k2 most most2 : ℕ) (inner : List ℕ) (u u2 : State) (x : Brief (Unit {0}))
-    → x ≡ brief (fast_run k outputs most inner u)
-    → k ≡ k2 → most ≡ most2 → u ≡ u2 → x ≡ brief (fast_run k2 outputs most2 inner u2)
+pub same_run : (outputs k k2 most most2 : ℕ) (inner : List ℕ) (u u2 : State) (x : SampleSummary (Unit {0}))
+    → x ≡ summary (fast_run k outputs most inner u)
+    → k ≡ k2 → most ≡ most2 → u ≡ u2 → x ≡ summary (fast_run k2 outputs most2 inner u2)
 same_run outputs k k2 most most2 inner u u2 x e flags bound state =
-    e ∙ ap₂ (λ (j n : ℕ). brief (fast_run j outputs n inner u)) flags bound
-    ∙ ap (λ (v : State). brief (fast_run k2 outputs most2 inner v)) state
+    e ∙ ap₂ (λ (j n : ℕ). summary (fast_run j outputs n inner u)) flags bound
+    ∙ ap (λ (v : State). summary (fast_run k2 outputs most2 inner v)) state

@@ -52,7 +52,7 @@ pub use Rattle.firmware_runs.specs.{Facts.FactsBeside, Facts.IsStackOfOneCall, P
 pub use Rattle.fuzzy_meaning.specs.{declared.block.Block.Block}
 pub use Rattle.interrupt_plan.specs.{Levels.AreGoodLevels, Levels.IsGoodLevel, Levels.LevelNotAfter}
 pub use Rattle.interrupt_plan.specs.{declared.Request.Request, declared.levels.Level.Level}
-pub use Rattle.run_forms.specs.{Rest.Brief, Rest.counted_at}
+pub use Rattle.run_forms.specs.{Rest.SampleSummary, Rest.counted_at}
 pub use Rattle.run_law.specs.{Moments.TakenAtOnce, Steps.StepLaws}
 pub use Rattle.std.proofs.{lemmas.Bool.Decides.nat_tests, lemmas.Bool.cases_lt, lemmas.Bool.or_parts}
 pub use Rattle.std.proofs.{lemmas.List.Elements.All-cons, lemmas.List.length-map}

@@ -3,7 +3,7 @@
 use Rattle.std.specs.Prelude.{ℕ, Option, None, Some, List, map}
 use Rattle.interrupt_plan.specs.declared.levels.Level.{Level}
 use Rattle.trace_io.specs.declared.sample.Sample.{Sample}
-use Rattle.run_forms.specs.{declared.sample.Room.Room, Forms.Harness, Rooms.room_notes}
+use Rattle.run_forms.specs.{declared.sample.Notes.Notes, Forms.Harness, Rooms.seen_notes}
 use Rattle.alone_runs.specs.Rows as plain
 use Rattle.trace_io.specs.Traces.{input_bytes}
 use Rattle.two_level_code.specs.declared.two.Two.{Two}
@@ -31,11 +31,11 @@ row_seen r = record { row = plain.row_seen r.row; fast = map fast_told r.fast.it
 
 -- the form with its samples
 abbrev pub level_harness : Two → List Sample → List Sample
-    → Harness Level (Room (Option FastRow)) TwoRow (List ℕ) (Option FastSeen) TwoSeen
+    → Harness Level (Notes (Option FastRow)) TwoRow (List ℕ) (Option FastSeen) TwoSeen
 level_harness two slow fast = record {
   samples = map input_bytes slow;
   parts = level_parts two (map input_bytes fast);
-  notes = room_notes fast_told;
+  notes = seen_notes fast_told;
   shows = with_fast;
   seen = row_seen;
 }

@@ -3,7 +3,7 @@
 use Rattle.std.specs.Prelude.{ℕ, List, [], map}
 use Rattle.arrayvec.specs.ArrayVec.{ArrayVec}
 use Rattle.cpu12_emul.specs.Take.{FrameSeen, frame_seen}
-use Rattle.run_forms.specs.Forms.{Notes, Harness}
+use Rattle.run_forms.specs.Forms.{SeenNotes, Harness}
 use Rattle.two_level_runs.specs.{declared.fast_code.InnerFrame.InnerFrame, Runs.fast_parts}
 
 -- a frame with its boundary, as it is seen
@@ -14,7 +14,7 @@ abbrev pub inner_frames_seen : List InnerFrame → List (ℕ × FrameSeen)
 inner_frames_seen fs = map inner_seen fs
 
 -- the frames are noted, and nothing is told
-abbrev pub inner_notes : Notes (ArrayVec InnerFrame) (Unit {0})
+abbrev pub inner_notes : SeenNotes (ArrayVec InnerFrame) (Unit {0})
 inner_notes = record { frames = λ v. inner_frames_seen v.items; told = λ v. map (λ f. tt) v.items }
 
 -- the run of the fast code alone, which has no row

@@ -5,7 +5,7 @@ ghost use Rattle.cpu12_isa.specs.Memory.{from, bytes_at};
 ghost use Rattle.cpu12_emul.specs.Take.{may_interrupt, frame_seen, frame_of};
 ghost use Rattle.two_level_code.specs.MemoryMaps.{fast_map};
 ghost use Rattle.two_level_runs.specs.{Runs.fast_run, Runs.entered, InnerNotes.inner_notes};
-ghost use Rattle.run_forms.specs.Rest.{brief, counted_at};
+ghost use Rattle.run_forms.specs.Rest.{summary, counted_at};
 
 use crate::fast_code::{FastCode, InnerFrame};
 use arrayvec::ArrayVec;
@@ -13,7 +13,7 @@ use cpu12_emul::ends::Frame;
 use cpu12_emul::machine::Machine;
 use cpu12_isa::instr::Write;
 use cpu12_isa::mem::Mem;
-use run_forms::{Tally, fresh_stand, run_sample};
+use run_forms::{Counts, fresh_sample, run_sample};
 use two_level_code::fast_map;
 
 /// Takes an outer interrupt up to the first instruction of the fast code, with a sample's bytes at its inputs.
@@ -44,10 +44,10 @@ pub(crate) fn run_inside<M: Mem>(
     outputs: u8,
     most: u32,
     moments: &[u32],
-) -> Tally<ArrayVec<InnerFrame, 8>>
+) -> Counts<ArrayVec<InnerFrame, 8>>
     requires { length moments.now ≤ 8 }
     ensures counted { counted_at inner_notes result m.new.state
-        ≡ brief (fast_run m.old.flags outputs most moments.now m.old.state) }
+        ≡ summary (fast_run m.old.flags outputs most moments.now m.old.state) }
     ensures noted { m.new.noted ≡ m.old.noted }
     ensures flags { m.new.flags ≡ m.old.flags }
 {
@@ -55,9 +55,9 @@ pub(crate) fn run_inside<M: Mem>(
         entered: m.regs().sp,
         outputs,
     };
-    let mut stand = fresh_stand(most, ArrayVec::new());
-    run_sample(m, &form, moments, &mut stand);
-    stand.tally
+    let mut sample = fresh_sample(most, ArrayVec::new());
+    run_sample(m, &form, moments, &mut sample);
+    sample.counts
 }
 
 /// The answers of the fast code, in the order of the outputs, of which there are at most four.

@@ -11,7 +11,7 @@ use cpu12_isa::mem::Mem;
 use firmware_runs::{answers, copy_of, give, is_busy_here, is_idle};
 use fz_list::{List as Items, Memory};
 use interrupt_plan::Level;
-use run_forms::{Room, RunForm, SampleForm, Tally, room_for};
+use run_forms::{Counts, Notes, RunForm, SampleForm, room_for};
 use std::alloc::Global;
 use trace_io::Sample;
 use two_level_code::Two;
@@ -29,7 +29,7 @@ pub(crate) struct WithLevels<'a> {
     ghost fast_outputs: { two.now.fast.outputs ≤ 4 },
 }
 
-impl<'a> SampleForm<Level, Room<Option<FastRow>>, TwoRow> for WithLevels<'a> {
+impl<'a> SampleForm<Level, Notes<Option<FastRow>>, TwoRow> for WithLevels<'a> {
     ghost Given = { List ℕ };
 
     ghost Told = { Option FastSeen };
@@ -60,14 +60,14 @@ impl<'a> SampleForm<Level, Room<Option<FastRow>>, TwoRow> for WithLevels<'a> {
         m: &mut Machine<M>,
         level: &Level,
         moment: u32,
-        notes: &mut Room<Option<FastRow>>,
+        notes: &mut Notes<Option<FastRow>>,
     ) {
         let (frame, told) = serve(m, self.two, self.fast, level);
         notes.put(moment, frame, told);
     }
 }
 
-impl<'a> RunForm<Level, Room<Option<FastRow>>, TwoRow> for WithLevels<'a> {
+impl<'a> RunForm<Level, Notes<Option<FastRow>>, TwoRow> for WithLevels<'a> {
     fn count(&self) -> usize {
         self.slow.len()
     }
@@ -78,22 +78,27 @@ impl<'a> RunForm<Level, Room<Option<FastRow>>, TwoRow> for WithLevels<'a> {
 
     fn leave<M: Mem>(&self, _m: &mut Machine<M>, _k: usize) {}
 
-    fn room(&self, alloc: Global, count: usize) -> Result<Room<Option<FastRow>>, Memory> {
+    fn room(&self, alloc: Global, count: usize) -> Result<Notes<Option<FastRow>>, Memory> {
         room_for(alloc, count)
     }
 
-    fn row<M: Mem>(&self, m: &Machine<M>, k: usize, tally: Tally<Room<Option<FastRow>>>) -> TwoRow
+    fn row<M: Mem>(
+        &self,
+        m: &Machine<M>,
+        k: usize,
+        counts: Counts<Notes<Option<FastRow>>>,
+    ) -> TwoRow
         requires sample { k < length (level_harness self.now.two.now self.now.slow.now self.now.fast.now).samples }
-        requires few { (n : ℕ) × Fits tally.notes n }
+        requires few { (n : ℕ) × Fits counts.notes n }
         ensures { (x : List ℕ)
             → slice_get (level_harness self.now.two.now self.now.slow.now self.now.fast.now).samples k ≡ Some x
             → (level_harness self.now.two.now self.now.slow.now self.now.fast.now).seen result
             ≡ shown_by (level_harness self.now.two.now self.now.slow.now self.now.fast.now).shows
             (level_harness self.now.two.now self.now.slow.now self.now.fast.now).parts.answers
-            (counted_at (level_harness self.now.two.now self.now.slow.now self.now.fast.now).notes tally
+            (counted_at (level_harness self.now.two.now self.now.slow.now self.now.fast.now).notes counts
             m.now.state) x }
     {
-        let Tally {
+        let Counts {
             arrived: _,
             moment,
             inside: _,
@@ -101,8 +106,8 @@ impl<'a> RunForm<Level, Room<Option<FastRow>>, TwoRow> for WithLevels<'a> {
             instrs,
             resumed,
             notes,
-        } = tally;
-        let Room { frames, told } = notes;
+        } = counts;
+        let Notes { frames, told } = notes;
         let row = Row {
             bytes: copy_of(self.slow[k].bytes.as_slice()),
             answers: answers(&self.two.slow, m),

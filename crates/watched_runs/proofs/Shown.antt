@@ -6,8 +6,8 @@ use Rattle.run_law.specs.Forms.{Form, RowSeen, row_of, rows_from, run_from}
 use Rattle.alone_code.specs.declared.firmware.Firmware.{Firmware}
 use Rattle.eval_code.specs.declared.memory_map.MemoryMap.{MemoryMap}
 use Rattle.watched_code.specs.{Watched.Change, Watched.Watched, Watched.changed, WatchedCode.fault_at}
-use Rattle.run_forms.specs.declared.{sample.Room.Room, sample.Tally.Tally}
-use Rattle.run_forms.specs.{Rooms.room_notes, Rest.counted_at, Rest.shown_by, Rows.frames_seen, Rows.shown}
+use Rattle.run_forms.specs.declared.{sample.Notes.Notes, sample.Counts.Counts}
+use Rattle.run_forms.specs.{Rooms.seen_notes, Rest.counted_at, Rest.shown_by, Rows.frames_seen, Rows.shown}
 use Rattle.firmware_runs.specs.Ports.{given, answers_in}
 use Rattle.watched_runs.specs.{Forms.given_changed, Forms.watched_parts, Rows.FaultSeen, Rows.fault_seen}
 use Rattle.watched_runs.proofs.Answers.{take_answers, fault_behind}
@@ -34,7 +34,7 @@ given_is l x c bytes old mid by_bytes same_bytes same_change =
     ∙ ap (λ (d : Option Change). made d (given l x.bytes old)) same_change
 
 -- a row, by its parts
-row_with : Tally (Room (Unit {0})) → List ℕ → List ℕ → RowSeen (List ℕ)
+row_with : Counts (Notes (Unit {0})) → List ℕ → List ℕ → RowSeen (List ℕ)
 row_with t bytes answers = record {
   sample = bytes;
   answers = answers;
@@ -45,7 +45,7 @@ row_with t bytes answers = record {
 }
 
 -- a row with FAULT is what is shown
-pub row_is : (f : Firmware) (x : Watched) (t : Tally (Room (Unit {0}))) (end : State) (row : RowSeen (List ℕ)) (fault : ℕ)
+pub row_is : (f : Firmware) (x : Watched) (t : Counts (Notes (Unit {0}))) (end : State) (row : RowSeen (List ℕ)) (fault : ℕ)
     → (bytes answers : List ℕ) → row ≡ record {
       sample = bytes;
       answers = answers;
@@ -56,7 +56,7 @@ pub row_is : (f : Firmware) (x : Watched) (t : Tally (Room (Unit {0}))) (end : S
     } → answers ≡ answers_in f end → fault ≡ slice_index end.mem fault_at → bytes ≡ x.bytes
     → ◌≡◌ {A = FaultSeen} (record { row = row; fault = fault })
     (shown_by (λ (r : RowSeen Watched) (told : List (Unit {0})). fault_seen f.outputs r) (watched_parts f).answers
-    (counted_at (room_notes (λ (u : Unit {0}). u)) t end) x)
+    (counted_at (seen_notes (λ (u : Unit {0}). u)) t end) x)
 unfolding row_with
 row_is f x t end row fault bytes answers by_row by_answers by_fault same_bytes =
     let made : RowSeen (List ℕ) → ℕ → FaultSeen = λ r v. record { row = r; fault = v } in

@@ -8,7 +8,7 @@ use Rattle.interrupt_plan.specs.declared.{Request.Request, upsets.Upset.Upset}
 use Rattle.alone_code.specs.declared.firmware.Firmware.{Firmware}
 use Rattle.watched_code.specs.{Watched.Watched, Watched.restored, WatchedCode.fault_at}
 use Rattle.trace_io.specs.declared.sample.Sample.{Sample}
-use Rattle.run_forms.specs.{declared.sample.Room.Room, Rooms.room_notes, Forms.Harness}
+use Rattle.run_forms.specs.{declared.sample.Notes.Notes, Rooms.seen_notes, Forms.Harness}
 use Rattle.alone_runs.specs.Following.{row_of_sample}
 use Rattle.alone_runs.specs.Rows as rows
 use Rattle.alone_runs.specs.Rows.{requests_of, first_state}
@@ -70,11 +70,11 @@ row_seen r = record { row = rows.row_seen r.row; fault = r.fault }
 
 -- a firmware with a trace and upsets: its handlers tell nothing
 abbrev pub watched_harness : Firmware → List Sample → List Upset
-    → Harness Request (Room (Unit {0})) declared.WatchedRow Watched (Unit {0}) FaultSeen
+    → Harness Request (Notes (Unit {0})) declared.WatchedRow Watched (Unit {0}) FaultSeen
 watched_harness f samples upsets = record {
   samples = with_upsets upsets (map input_bytes samples);
   parts = watched_parts f;
-  notes = room_notes (λ u. u);
+  notes = seen_notes (λ u. u);
   shows = λ row told. fault_seen f.outputs row;
   seen = row_seen;
 }

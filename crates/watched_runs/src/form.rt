@@ -13,7 +13,7 @@ use cpu12_isa::mem::Mem;
 use firmware_runs::{answers, give, is_busy_here, is_idle};
 use fz_list::Memory;
 use interrupt_plan::{Request, Upset};
-use run_forms::{Room, RunForm, SampleForm, Tally, room_for};
+use run_forms::{Counts, Notes, RunForm, SampleForm, room_for};
 use std::alloc::Global;
 use trace_io::Sample;
 
@@ -60,7 +60,7 @@ fn number_of(samples: &[Sample], k: usize) -> usize
     k + 1
 }
 
-impl<'a> SampleForm<Request, Room<()>, WatchedRow> for WithUpsets<'a> {
+impl<'a> SampleForm<Request, Notes<()>, WatchedRow> for WithUpsets<'a> {
     ghost Given = { tables.Watched };
 
     ghost Told = { Unit {0} };
@@ -91,14 +91,14 @@ impl<'a> SampleForm<Request, Room<()>, WatchedRow> for WithUpsets<'a> {
         m: &mut Machine<M>,
         request: &Request,
         moment: u32,
-        notes: &mut Room<()>,
+        notes: &mut Notes<()>,
     ) {
         let frame = m.interrupt(request.writes.as_slice());
         notes.put(moment, frame, ());
     }
 }
 
-impl<'a> RunForm<Request, Room<()>, WatchedRow> for WithUpsets<'a> {
+impl<'a> RunForm<Request, Notes<()>, WatchedRow> for WithUpsets<'a> {
     fn count(&self) -> usize {
         self.samples.len()
     }
@@ -116,26 +116,26 @@ impl<'a> RunForm<Request, Room<()>, WatchedRow> for WithUpsets<'a> {
         );
     }
 
-    fn room(&self, alloc: Global, count: usize) -> Result<Room<()>, Memory> {
+    fn room(&self, alloc: Global, count: usize) -> Result<Notes<()>, Memory> {
         room_for(alloc, count)
     }
 
-    fn row<M: Mem>(&self, m: &Machine<M>, k: usize, tally: Tally<Room<()>>) -> WatchedRow
+    fn row<M: Mem>(&self, m: &Machine<M>, k: usize, counts: Counts<Notes<()>>) -> WatchedRow
         requires sample { k
             < length (watched_harness self.now.firmware.now self.now.samples.now self.now.upsets.now).samples }
-        requires few { (n : ℕ) × Fits tally.notes n }
+        requires few { (n : ℕ) × Fits counts.notes n }
         ensures { (x : tables.Watched)
             → slice_get (watched_harness self.now.firmware.now self.now.samples.now self.now.upsets.now).samples k
             ≡ Some x
             → (watched_harness self.now.firmware.now self.now.samples.now self.now.upsets.now).seen result
             ≡ shown_by (watched_harness self.now.firmware.now self.now.samples.now self.now.upsets.now).shows
             (watched_harness self.now.firmware.now self.now.samples.now self.now.upsets.now).parts.answers
-            (counted_at (watched_harness self.now.firmware.now self.now.samples.now self.now.upsets.now).notes tally
+            (counted_at (watched_harness self.now.firmware.now self.now.samples.now self.now.upsets.now).notes counts
             m.now.state) x }
     {
         let answers = answers(self.firmware, m);
         WatchedRow {
-            row: row_of(bytes_of(self.samples, k), answers, tally),
+            row: row_of(bytes_of(self.samples, k), answers, counts),
             fault: m.peek(FAULT),
         }
     }

@@ -5,7 +5,7 @@ use Rattle.debug_script.proofs.debugger.bytes_from.Goals as goal
 
 pub loop-preserved : goal.loop-preserved
 loop-preserved g c =
-    let mem = c.args.session.now.outlook.here.state.mem in
+    let mem = c.args.session.now.rest.here.state.mem in
     let l = c.loop in
     byte_more mem l.bytes.items c.push.new.self.items (bytes_at mem (from c.args.at c.args.count)) l.next
     (c.args.count - (l.counter + 1)) (c.args.count - l.counter) l.invariant (omega (arith, c.loop-test.true))
@@ -13,7 +13,7 @@ loop-preserved g c =
 
 pub returns : goal.returns
 returns g c =
-    let mem = c.args.session.now.outlook.here.state.mem in
+    let mem = c.args.session.now.rest.here.state.mem in
     let l = c.loop in
     let none : 0 ≡ c.args.count - l.counter = omega (arith, c.loop-test.false) in
     sym (append-nil l.bytes.items) ∙ ap (λ (k : ℕ). l.bytes.items ++ bytes_at mem (from l.next k)) none ∙ l.invariant

@@ -12,4 +12,4 @@ invariant-loop-session g l = record {
 }
 
 abbrev pub decreases-loop-session : goal.decreases-loop-session
-decreases-loop-session g l = length l.session.outlook.later
+decreases-loop-session g l = length l.session.rest.later

@@ -13,11 +13,11 @@ loop-left-preserved g c =
     let old = c.loop-left.session in
     let there = c.advance.new.self in
     let new = c.note.new.self in
-    let e : GoesOn old new = goes_on old there new (c.if-not-advance.ensures.goes refl) c.note.ensures.outlook in
+    let e : GoesOn old new = goes_on old there new (c.if-not-advance.ensures.goes refl) c.note.ensures.rest in
     record {
       place = sym (step_more old new c.loop-left.left e c.loop-left-test.true) ∙ c.loop-left.invariant.place;
       leads = leads_more c.args.session.now old new e c.loop-left.invariant.leads;
       notes = λ watches before.
           notes_there watches old there new c.if-not-advance.ensures.noted c.has_all_bytes.ensures
-          c.note.ensures.outlook c.note.ensures.noted (c.loop-left.invariant.notes watches before);
+          c.note.ensures.rest c.note.ensures.noted (c.loop-left.invariant.notes watches before);
     }

@@ -6,7 +6,7 @@ use Rattle.mailbox_runs.proofs.turns.next_turn.Goals as goal
 -- the turn as it begins
 begins_there : (g : Over) (c : After-look-seen g)
     → Begins c.args.m.now.flags c.args.firmware.now (map input_bytes c.args.samples.now) c.args.posts.now
-    c.args.waits.now c.look-seen.result c.args.st.now.tally c.look-seen.new.t c.args.m.now.state c.look-seen.new.m.state
+    c.args.waits.now c.look-seen.result c.args.st.now.counts c.look-seen.new.t c.args.m.now.state c.look-seen.new.m.state
 begins_there g c = record {
   takes_are = c.look-seen.ensures.takes;
   waits = c.look-seen.ensures.waits;
@@ -24,7 +24,7 @@ returns-then-not-turn-clause-ends g c e n =
     let look = c.look-seen in
     let turn = c.turn in
     stuck_here (begins_there g (goal.at.returns-then-not-turn-clause-ends g c).After-look-seen) c.args.last n
-    (map answer_seen c.args.answers.now.items) look.new.m.flags turn.new.st.tally turn.new.m.state
+    (map answer_seen c.args.answers.now.items) look.new.m.flags turn.new.st.counts turn.new.m.state
     (sym c.is_over.ensures ∙ c.if-is_over.false) look.ensures.flags
     (sym turn.ensures.arrived ∙ c.if-not-turn.true) turn.ensures.counted turn.ensures.left
 
@@ -34,7 +34,7 @@ returns-clause-goes g c e n =
     let turn = c.turn in
     let end = c.end_turn in
     turn_here (begins_there g (goal.at.returns-clause-goes g c).After-look-seen) c.args.last n
-    (map answer_seen c.args.answers.now.items) look.new.m.flags turn.new.st.tally turn.new.m.state
+    (map answer_seen c.args.answers.now.items) look.new.m.flags turn.new.st.counts turn.new.m.state
     (map answer_seen end.new.answers.items) end.result (sym c.is_over.ensures ∙ c.if-is_over.false) look.ensures.flags
     (sym turn.ensures.arrived ∙ c.if-not-turn.false) turn.ensures.counted turn.ensures.left
     (turn.ensures.next, (let steady = turn.ensures.steady in steady.next)) end.ensures.answers

@@ -11,8 +11,8 @@ returns-then-not-next_turn g c =
     let some = c.loop-left-test.true in
     let more : suc (l.left - 1) ≡ l.left = omega (arith, some) in
     sym (c.next_turn.ensures.ends c.if-not-next_turn.true (l.left - 1))
-    ∙ ap₂ (λ (k n : ℕ). with_rest (map answer_seen l.answers.items) l.st.tally
-    (turns_from k a.firmware.now samples a.last n l.st.tally.moment l.waits (drop l.st.tally.next a.posts.now) l.m.state))
+    ∙ ap₂ (λ (k n : ℕ). with_rest (map answer_seen l.answers.items) l.st.counts
+    (turns_from k a.firmware.now samples a.last n l.st.counts.moment l.waits (drop l.st.counts.next a.posts.now) l.m.state))
     l.invariant.flags more
     ∙ l.invariant.rest
 
@@ -21,7 +21,7 @@ returns g c =
     let a = c.args in
     let l = c.loop-left in
     let none = c.loop-left-test.false in
-    sym (none_left a.m.now.flags a.firmware.now (map input_bytes a.samples.now) a.last l.left l.st.tally.moment l.waits
-    (drop l.st.tally.next a.posts.now) l.m.state l.st.tally (map answer_seen l.answers.items)
+    sym (none_left a.m.now.flags a.firmware.now (map input_bytes a.samples.now) a.last l.left l.st.counts.moment l.waits
+    (drop l.st.counts.next a.posts.now) l.m.state l.st.counts (map answer_seen l.answers.items)
     (omega (arith, none)))
     ∙ l.invariant.rest

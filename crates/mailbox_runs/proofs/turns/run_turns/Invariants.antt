@@ -1,21 +1,21 @@
 use Rattle.std.proofs.Common.{◌≡◌, ◌≤◌, ◌+◌, min, map, drop, length, vec_len, vec_capacity}
-use Rattle.mailbox_runs.specs.{Runs.input_bytes, Runs.answer_seen, Runs.turns_from, Runs.most_turns, Tallies.with_rest}
-use Rattle.run_forms.specs.{Rooms.Fits, Sessions.IsSteady}
+use Rattle.mailbox_runs.specs.{Runs.input_bytes, Runs.answer_seen, Runs.turns_from, Runs.most_turns, Counts.with_rest}
+use Rattle.run_forms.specs.{Rooms.Fits, SampleRests.IsSteady}
 use Rattle.mailbox_runs.proofs.turns.run_turns.Given as goal
 
 -- what is counted and the turns to come are the whole run
 abbrev pub invariant-loop-left : goal.invariant-loop-left
 invariant-loop-left g l = record {
-  rest : with_rest (map answer_seen l.answers.items) l.st.tally
-      (turns_from l.fn.m.flags l.firmware (map input_bytes l.samples) l.last l.left l.st.tally.moment l.waits
-      (drop l.st.tally.next l.posts) l.m.state)
-      ≡ with_rest (map answer_seen l.fn.answers.items) l.fn.st.tally
+  rest : with_rest (map answer_seen l.answers.items) l.st.counts
+      (turns_from l.fn.m.flags l.firmware (map input_bytes l.samples) l.last l.left l.st.counts.moment l.waits
+      (drop l.st.counts.next l.posts) l.m.state)
+      ≡ with_rest (map answer_seen l.fn.answers.items) l.fn.st.counts
       (turns_from l.fn.m.flags l.firmware (map input_bytes l.samples) l.last most_turns 0 0 l.posts l.fn.m.state);
   steady : IsSteady Fits l.posts l.st;
-  resumed : l.st.tally.resumed ≤ l.st.tally.moment;
-  most : l.st.tally.moment ≤ l.last;
+  resumed : l.st.counts.resumed ≤ l.st.counts.moment;
+  most : l.st.counts.moment ≤ l.last;
   waits : l.waits ≤ length l.samples;
-  answers : (vec_len l.answers + min l.waits 1 ≤ l.st.tally.next) × (length l.posts ≤ vec_capacity l.answers);
+  answers : (vec_len l.answers + min l.waits 1 ≤ l.st.counts.next) × (length l.posts ≤ vec_capacity l.answers);
   flags : l.m.flags ≡ l.fn.m.flags;
 }
 

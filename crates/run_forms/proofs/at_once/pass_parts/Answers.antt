@@ -19,17 +19,17 @@ passes g c =
     c.requires.steady c.steps_alone-most.ensures.left c.steps_alone-most.ensures.none done.ensures.most
     done.ensures.steps c.count_parts.ensures
 
-pub returns-then-st-clause-coming : goal.returns-then-st-clause-coming
-returns-then-st-clause-coming g c = ([], refl)
+pub returns-then-st-clause-rest : goal.returns-then-st-clause-rest
+returns-then-st-clause-rest g c = ([], refl)
 
-pub returns-then-not-st-clause-coming : goal.returns-then-not-st-clause-coming
-returns-then-not-st-clause-coming g c = ([], refl)
+pub returns-then-not-st-clause-rest : goal.returns-then-not-st-clause-rest
+returns-then-not-st-clause-rest g c = ([], refl)
 
-pub returns-then-not-goes_on_here-clause-coming : goal.returns-then-not-goes_on_here-clause-coming
-returns-then-not-goes_on_here-clause-coming g c = ([], refl)
+pub returns-then-not-goes_on_here-clause-rest : goal.returns-then-not-goes_on_here-clause-rest
+returns-then-not-goes_on_here-clause-rest g c = ([], refl)
 
-pub returns-clause-coming : goal.returns-clause-coming
-returns-clause-coming g c = (passes g c).coming
+pub returns-clause-rest : goal.returns-clause-rest
+returns-clause-rest g c = (passes g c).rest
 
 pub returns-clause-steady : goal.returns-clause-steady
 returns-clause-steady g c = (passes g c).steady

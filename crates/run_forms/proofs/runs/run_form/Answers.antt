@@ -1,6 +1,6 @@
 use Rattle.std.proofs.Common.{◌∙◌, ℕ, ap}
 use Rattle.cpu12_parts.specs.State.{State}
-use Rattle.run_forms.specs.Outlooks.{Ahead, outlook_at}
+use Rattle.run_forms.specs.RunRests.{RunRest, rest_here}
 use Rattle.run_forms.proofs.runs.run_form.Goals as goal
 
 pub returns-clause-rows : goal.returns-clause-rows
@@ -10,8 +10,8 @@ returns-clause-rows g c =
     let r = c.in_ok-machine in
     c.into_rows-rows.ensures.rows
     ∙ c.drive.ensures.rows
-    ∙ ap (λ (k : ℕ). (outlook_at k h a.plan.now r.progress r.machine.state).rows) r.ensures.flags
-    ∙ ap (λ (x : Ahead g.F.SampleForm.Shown). x.rows) r.ensures.first
+    ∙ ap (λ (k : ℕ). (rest_here k h a.plan.now r.run_state r.machine.state).rows) r.ensures.flags
+    ∙ ap (λ (x : RunRest g.F.SampleForm.Shown). x.rows) r.ensures.first
 
 pub returns-clause-memory : goal.returns-clause-memory
 returns-clause-memory g c =
@@ -20,11 +20,11 @@ returns-clause-memory g c =
     let r = c.in_ok-machine in
     c.into_mem.ensures.bytes
     ∙ ap (λ (s : State). s.mem) (c.into_rows-rows.ensures.state ∙ c.drive.ensures.state)
-    ∙ ap (λ (k : ℕ). (outlook_at k h a.plan.now r.progress r.machine.state).state.mem) r.ensures.flags
-    ∙ ap (λ (x : Ahead g.F.SampleForm.Shown). x.state.mem) r.ensures.first
+    ∙ ap (λ (k : ℕ). (rest_here k h a.plan.now r.run_state r.machine.state).state.mem) r.ensures.flags
+    ∙ ap (λ (x : RunRest g.F.SampleForm.Shown). x.state.mem) r.ensures.first
 
 pub into_rows-rows-requires-clause-few : goal.into_rows-rows-requires-clause-few
 into_rows-rows-requires-clause-few g c =
     let w = c.drive.ensures.under_way in
-    let stand = w.stand in
-    (_, stand.room)
+    let sample = w.sample in
+    (_, sample.room)

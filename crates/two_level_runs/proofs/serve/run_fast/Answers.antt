@@ -1,5 +1,5 @@
-use Rattle.two_level_runs.proofs.Words.{ap, Brief, counted_at, entered, fast_most, fast_run, FastSeen, inner_notes}
-use Rattle.two_level_runs.proofs.Words.{Some, suspended, wav}
+use Rattle.two_level_runs.proofs.Words.{ap, counted_at, entered, fast_most, fast_run, FastSeen}
+use Rattle.two_level_runs.proofs.Words.{inner_notes, SampleSummary, Some, suspended, wav}
 use Rattle.two_level_runs.proofs.FastRows.{same_run, seen_by_counts}
 use Rattle.two_level_runs.proofs.serve.run_fast.Goals as goal
 
@@ -8,7 +8,7 @@ returns-clause-state g c =
     let a = c.args in
     let f = a.two.now.fast in
     let n = c.enter-frame.new.m in
-    ap (λ (k : Brief (Unit {0})). k.state)
+    ap (λ (k : SampleSummary (Unit {0})). k.state)
     (same_run f.outputs n.flags a.m.now.flags c.fast_step_bound.result (fast_most f.step_bound) a.moments.now n.state
     (entered a.bytes.now (suspended wav a.m.now.state))
     (counted_at inner_notes c.run_inside-counts.result c.run_inside-counts.new.m.state)

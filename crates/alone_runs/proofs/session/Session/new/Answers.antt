@@ -6,7 +6,7 @@ use Rattle.alone_runs.specs.Forms.{place_of, with_writes}
 use Rattle.alone_runs.specs.Rows.{requests_of, first_state, firmware_rows, writes_harness}
 use Rattle.trace_io.specs.Traces.{input_bytes}
 use Rattle.run_forms.specs.{Positions.positions, Slices.IsInOrder, Rooms.Fits}
-use Rattle.run_forms.specs.Outlooks.{Ahead, from_here, outlook_at, shown_run, IsUnderWay}
+use Rattle.run_forms.specs.RunRests.{RunRest, from_here, rest_here, shown_run, IsUnderWay}
 use Rattle.alone_runs.proofs.Requests.{plans_are_in_order}
 use Rattle.alone_runs.proofs.session.Session.new.Goals as goal
 
@@ -22,10 +22,10 @@ pub invariant_of-result : goal.invariant_of-result
 invariant_of-result g c =
     let a = c.args in
     subst (λ (l : List Request). IsUnderWay Fits (writes_harness a.firmware.now a.samples.now) l
-    c.in_ok-machine.progress) c.as_slice.ensures c.in_ok-machine.ensures.under_way
+    c.in_ok-machine.run_state) c.as_slice.ensures c.in_ok-machine.ensures.under_way
 
-pub returns-clause-outlook : goal.returns-clause-outlook
-returns-clause-outlook g c =
+pub returns-clause-rest : goal.returns-clause-rest
+returns-clause-rest g c =
     let a = c.args in
     let f = a.firmware.now in
     let h = writes_harness f a.samples.now in
@@ -34,7 +34,7 @@ returns-clause-outlook g c =
     let r = c.in_ok-machine in
     let same : c.as_slice.result.now ≡ a.plan.now = c.as_slice.ensures in
     let rows : List Request → Rows (List ℕ) Request (Unit {0}) = λ l. firmware_rows f inputs l a.flags in
-    ap₂ (λ (k : ℕ) (l : List Request). from_here (outlook_at k h l r.progress r.machine.state))
+    ap₂ (λ (k : ℕ) (l : List Request). from_here (rest_here k h l r.run_state r.machine.state))
     r.ensures.flags (sym same)
     ∙ r.ensures.first
     ∙ ap (λ (l : List Request). shown_run h.shows first (rows l)) same
@@ -42,5 +42,5 @@ returns-clause-outlook g c =
     (let are = c.rows_are_shown.ensures (with_writes a.flags f) f.step_bound (λ k. requests_of k a.plan.now) 1 inputs
     first in are.rows)
   where
-    with_rows : State → Rows (List ℕ) Request (Unit {0}) → List (RowSeen (List ℕ)) → Ahead (RowSeen (List ℕ))
+    with_rows : State → Rows (List ℕ) Request (Unit {0}) → List (RowSeen (List ℕ)) → RunRest (RowSeen (List ℕ))
     with_rows first all rows = record { left = positions first all; rows = rows; state = all.state }

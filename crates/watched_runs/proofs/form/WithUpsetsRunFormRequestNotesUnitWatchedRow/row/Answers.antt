@@ -1,0 +1,14 @@
+use Rattle.std.proofs.Common.{ℕ, ◌<◌, subst}
+use Rattle.watched_runs.proofs.{Samples.bytes_there, Samples.count_given, Shown.row_is}
+use Rattle.watched_runs.proofs.form.WithUpsetsRunFormRequestNotesUnitWatchedRow.row.Goals as goal
+
+pub bytes_of-requires : goal.bytes_of-requires
+bytes_of-requires g c =
+    let a = c.args in
+    subst (λ (n : ℕ). a.k < n) (count_given a.self.now.upsets.now a.self.now.samples.now) c.requires.sample
+
+pub returns : goal.returns
+returns g c = λ x is.
+    let a = c.args in
+    row_is a.self.now.firmware.now x a.counts a.m.now.state _ _ _ _ c.row_of.ensures c.answers-answers.ensures
+    c.peek.ensures (c.bytes_of.ensures.bytes x.bytes (bytes_there 1 a.self.now.upsets.now _ a.k x is))
