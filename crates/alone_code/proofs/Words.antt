@@ -22,7 +22,7 @@ pub use Rattle.std.proofs.Common.{◌*◌, ◌++◌, ◌+◌, ◌-◌, ◌/◌, 
 pub use Rattle.alone_code.specs.{Answers.AreAnsweredBeside, Answers.FirmwareAnswers, Answers.given, Code.frame_code}
 pub use Rattle.alone_code.specs.{Images.IsImageOf, Images.firmware_items, Images.vector_items, Laws.LowerLaws}
 pub use Rattle.alone_code.specs.{Standing.HasFirmware, declared.firmware.Firmware.Firmware}
-pub use Rattle.byte_scaling.specs.{Widths.places, Widths.width_of, declared.width.Width.TheVariants.Byte}
+pub use Rattle.byte_scaling.specs.{Widths.places, declared.width.Width.TheVariants.Byte}
 pub use Rattle.byte_scaling.specs.{declared.width.Width.TheVariants.Word, declared.width.Width.Width}
 pub use Rattle.cpu12_asm.specs.{Bytes.Holds, Items.IsRising, Items.given_by, declared.items.Item.Item}
 pub use Rattle.cpu12_emul.specs.{Image.image_memory, Step.reset_with}

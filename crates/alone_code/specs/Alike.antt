@@ -12,8 +12,8 @@ ImagesAreOne = (items : List Item) (f g : Image) → IsImageOf items f → IsIma
 
 -- in one width a block has one firmware
 abbrev pub FirmwaresAreOne : Type 0
-FirmwaresAreOne = (b : Block) (f g : Firmware) → f.wide ≡ g.wide → IsFirmwareOf b f → IsFirmwareOf b g → f ≡ g
+FirmwaresAreOne = (b : Block) (f g : Firmware) → f.width ≡ g.width → IsFirmwareOf b f → IsFirmwareOf b g → f ≡ g
 
 -- and in the mailbox form
 abbrev pub MailboxesAreOne : Type 0
-MailboxesAreOne = (b : Block) (f g : Firmware) → f.wide ≡ g.wide → IsMailboxOf b f → IsMailboxOf b g → f ≡ g
+MailboxesAreOne = (b : Block) (f g : Firmware) → f.width ≡ g.width → IsMailboxOf b f → IsMailboxOf b g → f ≡ g

@@ -9,7 +9,7 @@ use Rattle.cpu12_parts.specs.{State.State, Whole.PlainExecution, Executions.Exec
 use Rattle.cpu12_emul.specs.{Image.image_memory, Step.reset_with}
 use Rattle.eval_code.specs.declared.memory_map.MemoryMap.{MemoryMap}
 use Rattle.eval_code.specs.{Widths.answer, Evaluation.put, Evaluation.Reads, Evaluation.Writes, Evaluation.HasAnswers}
-use Rattle.byte_scaling.specs.{declared.width.Width.Width, Widths.width_of}
+use Rattle.byte_scaling.specs.declared.width.Width.{Width}
 use Rattle.eval_code.specs.{Bounds.steps_by, MemoryMaps.main_map, Firing.AreInputBytes}
 use Rattle.alone_code.specs.{declared.firmware.Firmware.Firmware, Firmwares.IsFirmwareOf}
 use Rattle.alone_code.specs.Interruptible.{is_idle, IsInterruptible, IsInterruptibleStep}
@@ -57,7 +57,7 @@ AreAnswered = AreAnsweredBeside is_free
 abbrev pub AnswersFrom : Block → Firmware → Type 0
 AnswersFrom b f = (flags : ℕ) (samples : List (List ℕ)) → flags < 2 ^ 8 → All (AreInputBytes b) samples
     → (s : State) × (IsArrived f.memory_map (image_memory f.image.bytes) flags s
-    × AreAnswered f.memory_map b (width_of f.wide) f.instr_bound (image_memory f.image.bytes) flags (λ o. 0) samples s)
+    × AreAnswered f.memory_map b f.width f.instr_bound (image_memory f.image.bytes) flags (λ o. 0) samples s)
 
 -- The firmware of a block does.
 abbrev pub FirmwareAnswers : Type 0
@@ -82,7 +82,7 @@ abbrev pub AnswersBeside : (ℕ → Bool) → Block → Firmware → Type 0
 AnswersBeside open_to b f =
     (flags : ℕ) (samples : List (List ℕ)) → flags < 2 ^ 8 → All (AreInputBytes b) samples
     → (s : State) × (IsArrivedBeside open_to f.memory_map (image_memory f.image.bytes) flags s
-    × AreAnsweredBeside open_to f.memory_map b (width_of f.wide) f.instr_bound (image_memory f.image.bytes) flags
+    × AreAnsweredBeside open_to f.memory_map b f.width f.instr_bound (image_memory f.image.bytes) flags
     (λ o. 0)
     samples s)
 

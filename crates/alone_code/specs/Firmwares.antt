@@ -4,14 +4,13 @@ use Rattle.std.specs.Prelude.{◌≡◌, length}
 use Rattle.fuzzy_meaning.specs.declared.block.Block.{Block}
 use Rattle.alone_code.specs.{declared.firmware.Firmware.Firmware, Images.firmware_items, Images.IsImageOf}
 use Rattle.eval_code.specs.{MemoryMaps.main_map, Bounds.instruction_bound, Bounds.step_bound}
-use Rattle.byte_scaling.specs.Widths.{width_of}
 
 -- a firmware is a block's, and stands alone: its image has just the bytes of the block's items, its memory map is
 -- theirs, and its counts and bounds are the block's
 pub record IsFirmwareOf (b : Block) (f : Firmware) : Type 0 where
-  pub image : IsImageOf (firmware_items main_map b (width_of f.wide)) f.image
+  pub image : IsImageOf (firmware_items main_map b f.width) f.image
   pub memory_map : f.memory_map ≡ main_map
   pub inputs : f.inputs ≡ length b.inputs
   pub outputs : f.outputs ≡ length b.outputs
-  pub instructions : f.instr_bound ≡ instruction_bound (width_of f.wide) b
-  pub steps : f.step_bound ≡ step_bound (width_of f.wide) b
+  pub instructions : f.instr_bound ≡ instruction_bound f.width b
+  pub steps : f.step_bound ≡ step_bound f.width b

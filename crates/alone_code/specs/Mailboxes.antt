@@ -11,7 +11,7 @@ use Rattle.cpu12_asm.specs.declared.items.Item.{Item}
 use Rattle.alone_code.specs.{declared.firmware.Firmware.Firmware, Images.vector_items, Images.IsImageOf}
 use Rattle.eval_code.specs.declared.memory_map.MemoryMap.{MemoryMap}
 use Rattle.eval_code.specs.{MemoryMaps.main_map, Items.block_items, Bounds.instruction_bound, Bounds.steps_by}
-use Rattle.byte_scaling.specs.{declared.width.Width.Width, Widths.width_of}
+use Rattle.byte_scaling.specs.declared.width.Width.{Width}
 
 -- the mailbox: MAIL, $1020 to $1027, where a handler puts a sample's bytes, and POSTED, $1028, which it sets
 abbrev pub is_mail : ℕ → Bool
@@ -57,12 +57,12 @@ mailbox_bound w b = instruction_bound w b + length b.inputs + 2
 
 -- a firmware is a block's in the mailbox form
 pub record IsMailboxOf (b : Block) (f : Firmware) : Type 0 where
-  pub image : IsImageOf (mailbox_items (mailbox_map (length b.inputs)) b (width_of f.wide)) f.image
+  pub image : IsImageOf (mailbox_items (mailbox_map (length b.inputs)) b f.width) f.image
   pub memory_map : f.memory_map ≡ mailbox_map (length b.inputs)
   pub inputs : f.inputs ≡ length b.inputs
   pub outputs : f.outputs ≡ length b.outputs
-  pub instructions : f.instr_bound ≡ mailbox_bound (width_of f.wide) b
-  pub steps : f.step_bound ≡ steps_by b (mailbox_bound (width_of f.wide) b)
+  pub instructions : f.instr_bound ≡ mailbox_bound f.width b
+  pub steps : f.step_bound ≡ steps_by b (mailbox_bound f.width b)
 
 -- A sample takes it a step at least, and at most 20000.
 abbrev pub MailboxStepsAreFew : Type 0

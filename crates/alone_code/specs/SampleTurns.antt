@@ -9,7 +9,7 @@ use Rattle.alone_code.specs.declared.firmware.Firmware.{Firmware}
 use Rattle.alone_code.specs.Turns.{IsAt, IsLook, IsChoice, IsCopied, IsTurned, IsReady}
 use Rattle.alone_code.specs.{Interruptible.is_idle, Answers.given, Uninterrupted.is_waiting, Mailboxes.IsMailboxOf}
 use Rattle.eval_code.specs.{declared.memory_map.MemoryMap.MemoryMap, Firing.AreInputBytes, Evaluation.HasAnswers}
-use Rattle.byte_scaling.specs.{declared.width.Width.Width, Widths.width_of}
+use Rattle.byte_scaling.specs.declared.width.Width.{Width}
 
 -- A sample that is given in s is seen, copied and answered, and the code waits again in t. These are all instructions
 -- of the turn.
@@ -38,4 +38,4 @@ pub record TakesSamples (l : MemoryMap) (b : Block) (w : Width) (most : ℕ) (im
 abbrev pub MailboxTakesSamples : Type 0
 MailboxTakesSamples =
     (b : Block) (f : Firmware) (flags : ℕ) → IsValid b → IsWithinLimits b → IsMailboxOf b f → flags < 2 ^ 8
-    → TakesSamples f.memory_map b (width_of f.wide) f.instr_bound (image_memory f.image.bytes) flags
+    → TakesSamples f.memory_map b f.width f.instr_bound (image_memory f.image.bytes) flags

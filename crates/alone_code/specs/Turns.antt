@@ -13,7 +13,7 @@ use Rattle.alone_code.specs.Interruptible.{IsSteady, IsShownPlain, IsInterruptib
 use Rattle.alone_code.specs.Mailboxes.{is_mail, is_postable, IsMailboxOf}
 use Rattle.eval_code.specs.{declared.memory_map.MemoryMap.MemoryMap, Widths.answer, Bounds.steps_by}
 use Rattle.eval_code.specs.{Firing.AreInputBytes, Evaluation.HasBytes, Evaluation.HasAnswers}
-use Rattle.byte_scaling.specs.{declared.width.Width.Width, Widths.width_of}
+use Rattle.byte_scaling.specs.declared.width.Width.{Width}
 
 -- PC is at an address before EVAL, nothing is on the stack, and I is 0
 pub record IsAt (image : List ℕ) (at : ℕ) (s : State) : Type 0 where
@@ -95,7 +95,7 @@ pub record TakesTurns (l : MemoryMap) (b : Block) (w : Width) (most : ℕ) (imag
 abbrev pub TakesPosts : Block → Firmware → Type 0
 TakesPosts b f =
     (flags : ℕ) → flags < 2 ^ 8
-    → TakesTurns f.memory_map b (width_of f.wide) f.instr_bound (image_memory f.image.bytes) flags
+    → TakesTurns f.memory_map b f.width f.instr_bound (image_memory f.image.bytes) flags
 
 -- The mailbox firmware of a block does.
 abbrev pub MailboxTakesPosts : Type 0

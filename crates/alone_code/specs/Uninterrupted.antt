@@ -9,7 +9,7 @@ use Rattle.cpu12_parts.specs.{State.State, Executions.IsUntil}
 use Rattle.cpu12_emul.specs.{Image.image_memory, Step.reset_with}
 use Rattle.eval_code.specs.{declared.memory_map.MemoryMap.MemoryMap, Widths.answer, Firing.AreInputBytes}
 use Rattle.byte_scaling.specs.declared.{width.Width.Width, width.Width.TheVariants.Byte, width.Width.TheVariants.Word}
-use Rattle.byte_scaling.specs.Widths.{width_of, places}
+use Rattle.byte_scaling.specs.Widths.{places}
 use Rattle.alone_code.specs.{declared.firmware.Firmware.Firmware, Interruptible.is_idle, Firmwares.IsFirmwareOf}
 use Rattle.alone_code.specs.Answers.{given, IsArrived, AreAnswered}
 
@@ -29,7 +29,7 @@ values_from w mem at (suc n) = value_at w mem at ∷ values_from w mem (at + pla
 
 -- the values of a firmware's outputs
 abbrev pub values_in : Firmware → State → List ℕ
-values_in f s = values_from (width_of f.wide) s.mem f.memory_map.outputs f.outputs
+values_in f s = values_from f.width s.mem f.memory_map.outputs f.outputs
 
 -- PC is where the code waits
 abbrev pub is_waiting : MemoryMap → State → Bool
@@ -79,28 +79,28 @@ AreAnswersOf w b most before (bytes ∷ samples) (a ∷ answers) =
 -- the answers of samples that whole instructions answer where interrupts may come
 abbrev pub answers_by : (b : Block) (f : Firmware) (image : List ℕ) (flags : ℕ) (before : ℕ → ℕ)
     (samples : List (List ℕ)) (s : State)
-    → AreAnswered f.memory_map b (width_of f.wide) f.instr_bound image flags before samples s → List Answer
+    → AreAnswered f.memory_map b f.width f.instr_bound image flags before samples s → List Answer
 answers_by b f image flags before [] s h = []
 answers_by b f image flags before (bytes ∷ samples) s h =
     record { values = values_in f h.0; instructions = length h.1.0.ds }
-    ∷ answers_by b f image flags (λ o. answer (width_of f.wide) b o bytes (before o)) samples h.0 h.1.1
+    ∷ answers_by b f image flags (λ o. answer f.width b o bytes (before o)) samples h.0 h.1.1
 
 -- They are the uninterrupted ones, and the block's, within the firmware's bound.
 abbrev pub AnsweredAreUninterrupted : Type 0
 AnsweredAreUninterrupted =
     (b : Block) (f : Firmware) (flags : ℕ) (samples : List (List ℕ)) (s : State) → f.outputs ≡ length b.outputs
     → IsArrived f.memory_map (image_memory f.image.bytes) flags s
-    → (h : AreAnswered f.memory_map b (width_of f.wide) f.instr_bound (image_memory f.image.bytes) flags
+    → (h : AreAnswered f.memory_map b f.width f.instr_bound (image_memory f.image.bytes) flags
     (λ o. 0) samples s)
     → AreUninterrupted f flags samples (answers_by b f (image_memory f.image.bytes) flags (λ o. 0) samples s h)
-    × AreAnswersOf (width_of f.wide) b f.instr_bound
+    × AreAnswersOf f.width b f.instr_bound
     (λ o. 0) samples (answers_by b f (image_memory f.image.bytes) flags (λ o. 0) samples s h)
 
 -- the uninterrupted answers to every list of samples exist, and are a block's, within the firmware's bound
 abbrev pub AnswersUninterrupted : Block → Firmware → Type 0
 AnswersUninterrupted b f = (flags : ℕ) (samples : List (List ℕ)) → flags < 2 ^ 8 → All (AreInputBytes b) samples
     → (answers : List Answer) × (AreUninterrupted f flags samples answers
-    × AreAnswersOf (width_of f.wide) b f.instr_bound (λ o. 0) samples answers)
+    × AreAnswersOf f.width b f.instr_bound (λ o. 0) samples answers)
 
 -- Those of the firmware of a block do, and are.
 abbrev pub FirmwareIsUninterrupted : Type 0

@@ -1,11 +1,11 @@
 //! Firmware.
-ghost use Rattle.std.specs.Prelude.{◌≡◌, ◌<◌, ◌^◌, length, true, false, IfOk, IfErr, OnOk};
+ghost use Rattle.std.specs.Prelude.{◌≡◌, ◌<◌, ◌^◌, length, IfOk, IfErr, OnOk};
 ghost use Rattle.fuzzy_meaning.specs.Blocks.{IsValid};
 ghost use Rattle.rule_layout.specs.Layouts.{flat_of, IsLaidOut, IsWithinLimits, IsFaultOf};
 ghost use Rattle.cpu12_asm.specs.Items.{IsRising};
 ghost use Rattle.alone_code.specs.{Images.IsImageOf, Firmwares.IsFirmwareOf, Answers.AnswersFrom};
 ghost use Rattle.alone_code.specs.Uninterrupted.{AnswersUninterrupted};
-ghost use Rattle.byte_scaling.specs.Widths.{is_wide};
+ghost use Rattle.byte_scaling.specs.declared.width.Width.TheVariants.{Byte, Word};
 
 use crate::items::firmware_items;
 use crate::laws::{firmware_answers, firmware_is_uninterrupted};
@@ -25,8 +25,8 @@ pub struct Firmware {
     pub memory_map: MemoryMap,
     pub inputs: u8,
     pub outputs: u8,
-    /// Whether an answer has two bytes, the high one first, and not one.
-    pub wide: bool,
+    /// How wide an answer is: a byte, or two, the high one first.
+    pub width: Width,
     /// The most instructions that a sample takes, REV, REVW and WAV counting as one each.
     pub instr_bound: u32,
     /// The most steps that a sample takes: an element of REV, REVW or WAV is a step, as is any
@@ -40,7 +40,7 @@ pub struct Firmware {
 pub fn compile(alloc: Global, block: &Block) -> Result<Firmware, LayoutFault>
     requires { IsValid block.now }
     ensures firmware { IfOk result (IsFirmwareOf block.now) }
-    ensures narrow { IfOk result (λ f. f.wide ≡ false) }
+    ensures narrow { IfOk result (λ f. f.width ≡ Byte) }
 
     // From reset it answers every list of samples, where an interrupt may come at each instruction;
     // without one its answers are the block's over bytes.
@@ -60,7 +60,7 @@ pub fn compile(alloc: Global, block: &Block) -> Result<Firmware, LayoutFault>
 pub fn compile16(alloc: Global, block: &Block) -> Result<Firmware, LayoutFault>
     requires { IsValid block.now }
     ensures firmware { IfOk result (IsFirmwareOf block.now) }
-    ensures wide { IfOk result (λ f. f.wide ≡ true) }
+    ensures wide { IfOk result (λ f. f.width ≡ Word) }
 
     // From reset it answers every list of samples, where an interrupt may come at each instruction;
     // without one its answers are the block's in 16 bits.
@@ -94,7 +94,7 @@ pub fn image_of(alloc: Global, items: &[Item]) -> Result<Image, AllocError>
 pub fn compile_for(alloc: Global, width: Width, block: &Block) -> Result<Firmware, LayoutFault>
     requires { IsValid block.now }
     ensures firmware { IfOk result (IsFirmwareOf block.now) }
-    ensures width { IfOk result (λ f. f.wide ≡ is_wide width) }
+    ensures width { IfOk result (λ f. f.width ≡ width) }
     ensures answers { IfOk result (AnswersFrom block.now) }
     ensures uninterrupted { IfOk result (AnswersUninterrupted block.now) }
     ensures limits { OnOk result (IsWithinLimits block.now) }
@@ -117,7 +117,7 @@ pub fn compile_laid_out(
     requires flat { flat.now ≡ flat_of block.now }
     requires laid_out { IsLaidOut flat.now }
     ensures firmware { IfOk result (IsFirmwareOf block.now) }
-    ensures width { IfOk result (λ f. f.wide ≡ is_wide width) }
+    ensures width { IfOk result (λ f. f.width ≡ width) }
     ensures answers { IfOk result (AnswersFrom block.now) }
     ensures uninterrupted { IfOk result (AnswersUninterrupted block.now) }
 {
@@ -133,7 +133,7 @@ pub fn compile_laid_out(
         memory_map: MemoryMap::MAIN,
         inputs: block.inputs.len() as u8,
         outputs: block.outputs.len() as u8,
-        wide: width.is_wide(),
+        width,
         instr_bound,
         step_bound,
     })

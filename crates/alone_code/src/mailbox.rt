@@ -1,9 +1,10 @@
 //! The mailbox form of the firmware.
-ghost use Rattle.std.specs.Prelude.{◌≡◌, ◌+◌, ◌^◌, ◌<◌, ◌≤◌, ◌++◌, false, length, IfOk, IfErr, OnOk};
+ghost use Rattle.std.specs.Prelude.{◌≡◌, ◌+◌, ◌^◌, ◌<◌, ◌≤◌, ◌++◌, length, IfOk, IfErr, OnOk};
 ghost use Rattle.fuzzy_meaning.specs.Blocks.{IsValid};
 ghost use Rattle.rule_layout.specs.Layouts.{flat_of, IsLaidOut, IsWithinLimits, IsFaultOf};
 ghost use Rattle.alone_code.specs.Mailboxes.{mailbox_map, copy_code, mailbox_code, mailbox_items, mailbox_bound};
 ghost use Rattle.alone_code.specs.Mailboxes.{IsMailboxOf};
+ghost use Rattle.byte_scaling.specs.declared.width.Width.TheVariants.{Byte};
 ghost use Rattle.alone_code.specs.{Turns.TakesPosts, Uninterrupted.AnswersUninterrupted};
 
 use crate::firmware::{Firmware, image_of};
@@ -106,7 +107,7 @@ fn mailbox_items(
 pub fn compile_post(alloc: Global, block: &Block) -> Result<Firmware, LayoutFault>
     requires { IsValid block.now }
     ensures firmware { IfOk result (IsMailboxOf block.now) }
-    ensures narrow { IfOk result (λ f. f.wide ≡ false) }
+    ensures narrow { IfOk result (λ f. f.width ≡ Byte) }
 
     // From reset it takes its turns, from whatever states interrupts leave before a copy; the copy is
     // masked, and from there on the mailbox is neither read nor written.
@@ -141,7 +142,7 @@ pub fn compile_post(alloc: Global, block: &Block) -> Result<Firmware, LayoutFaul
         memory_map,
         inputs,
         outputs: block.outputs.len() as u8,
-        wide: false,
+        width: Width::Byte,
         instr_bound,
         step_bound,
     })

@@ -1,5 +1,5 @@
 -- Where whole instructions answer all samples, so do the rows under every good plan.
-use Rattle.std.proofs.Common.{◌≡◌, ℕ, suc, ◌*◌, ◌^◌, ◌<◌, ◌≤◌, Bool, true, false, List, [], ◌∷◌, length, map}
+use Rattle.std.proofs.Common.{◌≡◌, ℕ, suc, ◌*◌, ◌^◌, ◌<◌, ◌≤◌, Bool, List, [], ◌∷◌, length, map}
 use Rattle.std.proofs.Common.{refl, ap, ap₂, sym, ◌∙◌}
 use Rattle.std.proofs.Common.{subst, arith}
 use Rattle.std.proofs.Common.{nat_le, nat_lt}
@@ -15,7 +15,8 @@ use Rattle.alone_code.specs.{declared.firmware.Firmware.Firmware, Interruptible.
 use Rattle.alone_code.specs.{Interruptible.IsInterruptible}
 use Rattle.eval_code.specs.{declared.memory_map.MemoryMap.MemoryMap, MemoryMaps.main_map, Widths.answer}
 use Rattle.eval_code.specs.Bounds.{instruction_bound, steps_by, step_bound}
-use Rattle.byte_scaling.specs.{declared.width.Width.Width, Widths.width_of}
+use Rattle.byte_scaling.specs.{Widths.places, declared.width.Width.Width, declared.width.Width.TheVariants.Byte}
+use Rattle.byte_scaling.specs.declared.width.Width.TheVariants.{Word}
 use Rattle.alone_code.specs.Answers as answers
 use Rattle.cpu12_isa.specs.{declared.instr.Regs.Regs, Agreement.Agree}
 use Rattle.alone_code.specs.Answers.{LeavesMapped, IsArrivedBeside, FirmwareAnswersBeside, ArrivesAlike}
@@ -26,7 +27,7 @@ use Rattle.alone_code.specs.Uninterrupted.{Answer, values_in, answers_by, AreUni
 use Rattle.eval_code.specs.Firing.{AreInputBytes}
 use Rattle.run_law.specs.{Forms.RowSeen, Forms.rows_from, Uninterrupted.uninterrupted, Uninterrupted.counted}
 use Rattle.run_law.specs.Following.{Completes, AllComplete, AllWithin}
-use Rattle.firmware_runs.specs.Ports.{given, answer_size, answers_in, AnswersAreValues}
+use Rattle.firmware_runs.specs.Ports.{given, answers_in, AnswersAreValues}
 use Rattle.firmware_runs.specs.Facts.{FactsBeside, FactsAlone, WaitsAlone}
 use Rattle.firmware_runs.specs.Instructions.{AreSteps, IsServing}
 use Rattle.alone_runs.specs.{Forms.with_writes, Rows.requests_of, Rows.first_state, Rows.firmware_rows}
@@ -142,14 +143,14 @@ all_answers : Laws
     → (f : Firmware) (n : ℕ) (b : Block) (image : List ℕ) (flags : ℕ) (before : ℕ → ℕ) (plan : List Request) (k : ℕ)
     (samples : List (List ℕ)) (s : State)
     → flags < 2 ^ 8 → AreShort samples → n ≤ 4
-    → (h : AreAnswered main_map b (width_of f.wide) f.instr_bound image flags before samples s)
+    → (h : AreAnswered main_map b f.width f.instr_bound image flags before samples s)
     → map answer_of_row (rows_of_samples flags (alone f n) plan k
-    (numbers is_free b (width_of f.wide) f.instr_bound image flags before samples s h) samples s) ≡ answers_by b
+    (numbers is_free b f.width f.instr_bound image flags before samples s h) samples s) ≡ answers_by b
     (alone f n) image flags before samples s h
 unfolding numbers
 all_answers laws f n b image flags before plan k [] s hf l few h = refl
 all_answers laws f n b image flags before plan k (bytes ∷ samples) s hf l few h =
-    let w = width_of f.wide in
+    let w = f.width in
     let most = f.instr_bound in
     let start = given main_map bytes s in
     let g = went laws.executions is_free b w most image flags before bytes s h.0 hf l.0 h.1.0 in
@@ -202,8 +203,8 @@ first_is : ArrivesPlainly → (open_to : ℕ → Bool) (b : Block) (f : Firmware
 first_is arrives_plainly open_to b f n flags s few h a =
     let start = reset_with (image_memory f.image.bytes) in
     ap (λ (most : ℕ). arrival flags 0xC008 most start) h.steps
-    ∙ arrives_plainly flags 0xC008 3 (step_bound (width_of f.wide) b) start s refl a.execution a.wait
-    (enough_steps (width_of f.wide) b few)
+    ∙ arrives_plainly flags 0xC008 3 (step_bound f.width b) start s refl a.execution a.wait
+    (enough_steps f.width b few)
 
 all_short : (b : Block) (samples : List (List ℕ)) → length b.inputs ≤ 8 → All (AreInputBytes b) samples
     → AreShort samples
@@ -215,12 +216,12 @@ all_short b (bytes ∷ samples) few all = (
 )
 
 -- its bytes from outside stand low
-few_bytes : (wide : Bool) (n : ℕ) → n ≤ 4 → answer_size wide * n ≤ 8
-few_bytes false n l = omega arith
-few_bytes true n l = omega arith
+few_bytes : (w : Width) (n : ℕ) → n ≤ 4 → places w * n ≤ 8
+few_bytes Byte n l = omega arith
+few_bytes Word n l = omega arith
 
 is_low : (f : Firmware) (n : ℕ) → n ≤ 4 → IsLow (alone f n)
-is_low f n few = let bytes = few_bytes f.wide n few in record { ready = omega arith; outputs = omega arith }
+is_low f n few = let bytes = few_bytes f.width n few in record { ready = omega arith; outputs = omega arith }
 
 -- its run beside handlers to which these bytes are open
 beside : ExecutionLaws → (open_to : ℕ → Bool) (b : Block) (f : Firmware) (n flags : ℕ) (samples : List (List ℕ))
@@ -228,12 +229,12 @@ beside : ExecutionLaws → (open_to : ℕ → Bool) (b : Block) (f : Firmware) (
     → flags < 2 ^ 8 → length b.outputs ≤ 4 → n ≤ 4
     → IsFirmwareOf b (alone f n) → AreShort samples
     → IsArrivedBeside open_to main_map (image_memory f.image.bytes) flags s
-    → AreAnsweredBeside open_to main_map b (width_of f.wide) f.instr_bound (image_memory f.image.bytes) flags
+    → AreAnsweredBeside open_to main_map b f.width f.instr_bound (image_memory f.image.bytes) flags
     (λ o. 0) samples s
     → RunsBeside open_to (alone f n) flags samples
 beside laws open_to b f n flags samples s hf few count h short a answered =
     let g = alone f n in
-    let w = width_of f.wide in
+    let w = f.width in
     let image = image_memory f.image.bytes in
     let most = f.instr_bound in
     let first : first_state g flags ≡ s = first_is laws.arrives_plainly open_to b f n flags s few h a in
@@ -254,11 +255,11 @@ under : Laws → (b : Block) (f : Firmware) (n flags : ℕ) (samples : List (Lis
     → flags < 2 ^ 8 → length b.outputs ≤ 4
     → n ≤ 4 → IsFirmwareOf b (alone f n) → AreShort samples → IsGood plan
     → IsArrived main_map (image_memory f.image.bytes) flags s
-    → AreAnswered main_map b (width_of f.wide) f.instr_bound (image_memory f.image.bytes) flags (λ o. 0) samples s
+    → AreAnswered main_map b f.width f.instr_bound (image_memory f.image.bytes) flags (λ o. 0) samples s
     → AnswersUnder b (alone f n) flags samples plan (firmware_rows (alone f n) samples plan flags).rows
 under laws b f n flags samples plan s hf few count h short good a answered =
     let g = alone f n in
-    let w = width_of f.wide in
+    let w = f.width in
     let image = image_memory f.image.bytes in
     let most = f.instr_bound in
     let ns = numbers is_free b w most image flags (λ o. 0) samples s answered in
@@ -327,11 +328,11 @@ first_alike arrives_plainly open_to b f n flags mem few h a =
     first_is arrives_plainly open_to b f n flags a.image_state few h a.image_arrived in
     let at = a.image_arrived in
     let pc : a.state.regs.pc ≡ 0xC008 = ap (λ (r : Regs). r.pc) a.regs ∙ at.wait in
-    let most = step_bound (width_of f.wide) b in
+    let most = step_bound f.width b in
     let here : arrival flags 0xC008 f.step_bound (reset_with mem) ≡ a.state =
     ap (λ (k : ℕ). arrival flags 0xC008 k (reset_with mem)) h.steps
     ∙ arrives_plainly flags 0xC008 3 most (reset_with mem) a.state refl a.execution pc
-    (enough_steps (width_of f.wide) b few) in
+    (enough_steps f.width b few) in
     let there : FirstAlike open_to (alone f n) flags mem a.state = record {
       regs = a.regs ∙ ap (λ (u : State). u.regs) (sym first);
       temps = a.temps ∙ ap (λ (u : State). u.temps) (sym first);

@@ -9,7 +9,6 @@ use Rattle.cpu12_emul.specs.{Image.image_memory, Simulation.Same, Step.reset_wit
 use Rattle.alone_code.specs.{Answers.LeavesMapped, Firmwares.IsFirmwareOf, declared.firmware.Firmware.Firmware}
 use Rattle.alone_code.specs.Uninterrupted.{Answer, AreUninterrupted, AreAnswersOf}
 use Rattle.interrupt_plan.specs.{declared.Request.Request, Plans.IsGood}
-use Rattle.byte_scaling.specs.Widths.{width_of}
 use Rattle.eval_code.specs.{Bounds.step_bound, Firing.AreInputBytes}
 use Rattle.run_law.specs.{Forms.RowSeen, Following.AllComplete, Following.AllWithin}
 use Rattle.alone_runs.specs.{Forms.with_writes, Rows.first_state, Rows.firmware_rows}
@@ -28,8 +27,8 @@ pub record AnswerBlock (b : Block) (f : Firmware) (flags : ℕ) (samples : List 
     (List ℕ))) : Type 0 where
   pub samples_are : map (λ r. r.sample) rows ≡ samples
   pub uninterrupted : AreUninterrupted f flags samples (map answer_of_row rows)
-  pub answers : AreAnswersOf (width_of f.wide) b f.instr_bound (λ o. 0) samples (map answer_of_row rows)
-  pub steps : All (λ r. r.steps ≤ step_bound (width_of f.wide) b) rows
+  pub answers : AreAnswersOf f.width b f.instr_bound (λ o. 0) samples (map answer_of_row rows)
+  pub steps : All (λ r. r.steps ≤ step_bound f.width b) rows
 
 -- What a block's firmware gives under a plan: rows that are the block's answers; the run without interrupts from the
 -- first arrival answers all samples, and its states keep the facts, those in which it waits too; the rows are read

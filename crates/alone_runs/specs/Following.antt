@@ -9,7 +9,8 @@ use Rattle.run_law.specs.Uninterrupted.{uninterrupted, counted, resumed_of, fram
 use Rattle.run_law.specs.Following.{AllComplete, AllWithin, RowsSimulate, last_uninterrupted, RunsFollow}
 use Rattle.interrupt_plan.specs.{declared.Request.Request, Plans.IsGoodRequest, Plans.IsGood}
 use Rattle.alone_code.specs.declared.firmware.Firmware.{Firmware}
-use Rattle.firmware_runs.specs.Ports.{given, answer_size, answers_in}
+use Rattle.byte_scaling.specs.Widths.{places}
+use Rattle.firmware_runs.specs.Ports.{given, answers_in}
 use Rattle.alone_runs.specs.{Forms.with_writes, Rows.requests_of}
 use Rattle.firmware_runs.specs.Facts.{FactsBeside, FactsAlone, WaitsAlone}
 
@@ -43,7 +44,7 @@ AllWait flags f (n ∷ ns) (bytes ∷ rest) s =
 -- the bytes that are read from outside stand below those that plans may write
 pub record IsLow (f : Firmware) : Type 0 where
   pub ready : f.memory_map.ready < free_start
-  pub outputs : f.memory_map.outputs + answer_size f.wide * f.outputs ≤ free_start
+  pub outputs : f.memory_map.outputs + places f.width * f.outputs ≤ free_start
 
 -- the free bytes are open, the bytes below them are not, nor is the stack
 pub record OpensFree (open_to : ℕ → Bool) : Type 0 where

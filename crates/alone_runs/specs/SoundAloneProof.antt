@@ -14,7 +14,9 @@ use Rattle.cpu12_emul.specs.Simulation.{AreOpen, OnStackOnly, Same}
 use Rattle.run_law.specs.Soundness.{Sound, WritesAreQuiet}
 use Rattle.interrupt_plan.specs.Plans.{IsGoodRequest}
 use Rattle.alone_code.specs.{declared.firmware.Firmware.Firmware, Interruptible.is_idle}
-use Rattle.firmware_runs.specs.Ports.{given, answer_size, answer_at, answers_at, answers_in}
+use Rattle.byte_scaling.specs.declared.width.{Width.Width, Width.TheVariants.Byte, Width.TheVariants.Word}
+use Rattle.byte_scaling.specs.Widths.{places}
+use Rattle.firmware_runs.specs.Ports.{given, answer_at, answers_at, answers_in}
 use Rattle.alone_runs.specs.{Forms.with_writes, Following.IsLow, Following.OpensFree, Following.Nothing}
 use Rattle.firmware_runs.specs.Facts.{FactsBeside}
 
@@ -37,7 +39,7 @@ low_shown open_to sp at a h =
 -- the bytes that are read from outside are not open
 pub record LeavesPorts (open_to : ℕ → Bool) (f : Firmware) : Type 0 where
   pub ready : open_to f.memory_map.ready ≡ false
-  pub outputs : (at : ℕ) → f.memory_map.outputs ≤ at → at < f.memory_map.outputs + answer_size f.wide * f.outputs
+  pub outputs : (at : ℕ) → f.memory_map.outputs ≤ at → at < f.memory_map.outputs + places f.width * f.outputs
       → open_to at ≡ false
 
 below : (a b c : ℕ) → a < b → b ≤ c → a < c
@@ -47,7 +49,7 @@ pub low_ports : (open_to : ℕ → Bool) → OpensFree open_to → (f : Firmware
 low_ports open_to opens f low = record {
   ready = opens.low f.memory_map.ready low.ready;
   outputs = λ at from to.
-      opens.low at (below at (f.memory_map.outputs + answer_size f.wide * f.outputs) free_start to low.outputs);
+      opens.low at (below at (f.memory_map.outputs + places f.width * f.outputs) free_start to low.outputs);
 }
 
 pub all_open : (open_to : ℕ → Bool) → OpensFree open_to → (ws : List Write)
@@ -57,28 +59,28 @@ all_open open_to opens (w ∷ ws) g =
     (opens.free w.at (g 0 w (omega arith)), all_open open_to opens ws (λ k x l. g (suc k) x (omega arith)))
 
 -- answers that stand in shown bytes are the same
-same_answer : (hidden : ℕ → Bool) (wide : Bool) (at : ℕ) (m n : List ℕ) → at + answer_size wide ≤ free_start
-    → ((j : ℕ) → at ≤ j → j < at + answer_size wide → hidden j ≡ false) → Agree hidden m n
-    → answer_at wide at m ≡ answer_at wide at n
-same_answer hidden false at m n l h a = a.bytes at (h at (omega arith) (omega arith))
-same_answer hidden true at m n l h a =
+same_answer : (hidden : ℕ → Bool) (w : Width) (at : ℕ) (m n : List ℕ) → at + places w ≤ free_start
+    → ((j : ℕ) → at ≤ j → j < at + places w → hidden j ≡ false) → Agree hidden m n
+    → answer_at w at m ≡ answer_at w at n
+same_answer hidden Byte at m n l h a = a.bytes at (h at (omega arith) (omega arith))
+same_answer hidden Word at m n l h a =
     let high = a.bytes at (h at (omega arith) (omega arith)) in
     ap₂ word_of high (a.bytes (plus at 1) (h (plus at 1) (omega arith) (omega arith)))
 
-same_answers : (hidden : ℕ → Bool) (wide : Bool) (k at : ℕ) (m n : List ℕ) → at + answer_size wide * k ≤ free_start
-    → ((j : ℕ) → at ≤ j → j < at + answer_size wide * k → hidden j ≡ false) → Agree hidden m n
-    → answers_at wide k at m ≡ answers_at wide k at n
-same_answers hidden wide zero at m n l h a = refl
-same_answers hidden false (suc k) at m n l h a =
+same_answers : (hidden : ℕ → Bool) (w : Width) (k at : ℕ) (m n : List ℕ) → at + places w * k ≤ free_start
+    → ((j : ℕ) → at ≤ j → j < at + places w * k → hidden j ≡ false) → Agree hidden m n
+    → answers_at w k at m ≡ answers_at w k at n
+same_answers hidden w zero at m n l h a = refl
+same_answers hidden Byte (suc k) at m n l h a =
     let next : plus at 1 ≡ at + 1 = omega arith in
     ap₂ (λ (x : ℕ) (xs : List ℕ). x ∷ xs)
-    (same_answer hidden false at m n (omega arith) (λ j from to. h j from (omega arith)) a)
-    (same_answers hidden false k (plus at 1) m n (omega arith) (λ j from to. h j (omega arith) (omega arith)) a)
-same_answers hidden true (suc k) at m n l h a =
+    (same_answer hidden Byte at m n (omega arith) (λ j from to. h j from (omega arith)) a)
+    (same_answers hidden Byte k (plus at 1) m n (omega arith) (λ j from to. h j (omega arith) (omega arith)) a)
+same_answers hidden Word (suc k) at m n l h a =
     let next : plus at 2 ≡ at + 2 = omega arith in
     ap₂ (λ (x : ℕ) (xs : List ℕ). x ∷ xs)
-    (same_answer hidden true at m n (omega arith) (λ j from to. h j from (omega arith)) a)
-    (same_answers hidden true k (plus at 2) m n (omega arith) (λ j from to. h j (omega arith) (omega arith)) a)
+    (same_answer hidden Word at m n (omega arith) (λ j from to. h j from (omega arith)) a)
+    (same_answers hidden Word k (plus at 2) m n (omega arith) (λ j from to. h j (omega arith) (omega arith)) a)
 
 -- samples are given, answers read and ends seen alike
 pub given_alike : WritesAgree → (open_to : ℕ → Bool) (f : Firmware) (x : List ℕ) (w s : State) → Same open_to w s
@@ -91,9 +93,9 @@ given_alike agree open_to f x w s l =
 pub answered_alike : (open_to : ℕ → Bool) (f : Firmware) → LeavesPorts open_to f → IsLow f → (w s : State)
     → Same open_to w s → answers_in f w ≡ answers_in f s
 answered_alike open_to f ports low w s l =
-    same_answers (is_hidden open_to s.regs.sp) f.wide f.outputs f.memory_map.outputs w.mem s.mem low.outputs
+    same_answers (is_hidden open_to s.regs.sp) f.width f.outputs f.memory_map.outputs w.mem s.mem low.outputs
     (λ j from to. low_shown open_to s.regs.sp j (ports.outputs j from to)
-    (below j (f.memory_map.outputs + answer_size f.wide * f.outputs) free_start to low.outputs)) l.mem
+    (below j (f.memory_map.outputs + places f.width * f.outputs) free_start to low.outputs)) l.mem
 
 pub ended_alike : (open_to : ℕ → Bool) (f : Firmware) → LeavesPorts open_to f → IsLow f → (w s : State)
     → Same open_to w s → is_idle f.memory_map w ≡ is_idle f.memory_map s

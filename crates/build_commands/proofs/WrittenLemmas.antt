@@ -1,11 +1,10 @@
 -- Images and firmware that are written, or want of memory.
 use Rattle.std.proofs.Common.{◌≡◌, ◌∙◌, ℕ, List, ap, ap₂, length, sym, subst}
-use Rattle.std.specs.Prelude.{Bool, IfErr, IfOk, Result, Ok, Err}
+use Rattle.std.specs.Prelude.{IfErr, IfOk, Result, Ok, Err}
 use Rattle.cpu12_asm.specs.declared.image.Image.{Image}
 use Rattle.fuzzy_meaning.specs.declared.block.Block.{Block}
 use Rattle.eval_code.specs.Bounds.{instruction_bound, step_bound, steps_by}
-use Rattle.byte_scaling.specs.{Widths.width_of, declared.width.Width.TheVariants.Byte}
-use Rattle.byte_scaling.specs.{declared.width.Width.TheVariants.Word}
+use Rattle.byte_scaling.specs.declared.width.Width.{Width}
 use Rattle.alone_code.specs.{Mailboxes.mailbox_bound, declared.firmware.Firmware.Firmware}
 use Rattle.command_parts.specs.{Firmwares.IsOfForm, declared.firmware.Form.Form}
 use Rattle.command_parts.specs.declared.firmware.Form.TheVariants.{Alone, Mailbox, Watched}
@@ -47,14 +46,12 @@ module _ (makes : Result SeenOutput Status → Type 0) (Gives : Block → Firmwa
 -- ---- the bounds of each form
 
 pub instructions_are : (form : Form) (b : Block) (f : Firmware) → IsOfForm form b f → f.instr_bound ≡ bound_of form b
-instructions_are (Alone Byte) b f is = is.0.instructions ∙ ap (λ (w : Bool). instruction_bound (width_of w) b) is.1
-instructions_are (Alone Word) b f is = is.0.instructions ∙ ap (λ (w : Bool). instruction_bound (width_of w) b) is.1
-instructions_are Mailbox b f is = is.0.instructions ∙ ap (λ (w : Bool). mailbox_bound (width_of w) b) is.1
+instructions_are (Alone width) b f is = is.0.instructions ∙ ap (λ (w : Width). instruction_bound w b) is.1
+instructions_are Mailbox b f is = is.0.instructions ∙ ap (λ (w : Width). mailbox_bound w b) is.1
 instructions_are Watched b f is = is.instructions
 
 pub steps_are : (form : Form) (b : Block) (f : Firmware) → IsOfForm form b f
     → f.step_bound ≡ steps_by b (bound_of form b)
-steps_are (Alone Byte) b f is = is.0.steps ∙ ap (λ (w : Bool). step_bound (width_of w) b) is.1
-steps_are (Alone Word) b f is = is.0.steps ∙ ap (λ (w : Bool). step_bound (width_of w) b) is.1
-steps_are Mailbox b f is = is.0.steps ∙ ap (λ (w : Bool). steps_by b (mailbox_bound (width_of w) b)) is.1
+steps_are (Alone width) b f is = is.0.steps ∙ ap (λ (w : Width). step_bound w b) is.1
+steps_are Mailbox b f is = is.0.steps ∙ ap (λ (w : Width). steps_by b (mailbox_bound w b)) is.1
 steps_are Watched b f is = is.steps

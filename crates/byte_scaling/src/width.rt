@@ -1,6 +1,6 @@
 //! How wide answers are.
 ghost use Rattle.std.specs.Prelude.{◌≡◌, ◌≤◌};
-ghost use Rattle.byte_scaling.specs.Widths.{width_of, is_wide, parts, places};
+ghost use Rattle.byte_scaling.specs.Widths.{parts, places};
 
 /// How many bits an answer has.
 #[derive(Clone, Copy, Debug, PartialEq, Eq)]
@@ -13,23 +13,6 @@ pub enum Width {
 }
 
 impl Width {
-    /// The width of a firmware's answers, from its `wide`.
-    pub fn of(wide: bool) -> Width
-        ensures { result ≡ width_of wide }
-    {
-        if wide { Width::Word } else { Width::Byte }
-    }
-
-    /// Whether an answer has 16 bits.
-    pub fn is_wide(self) -> bool
-        ensures { result ≡ is_wide self }
-    {
-        match self {
-            Width::Byte => false,
-            Width::Word => true,
-        }
-    }
-
     /// How many bytes an answer takes.
     pub fn places(self) -> u16
         ensures value { result ≡ places self }

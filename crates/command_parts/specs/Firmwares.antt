@@ -1,11 +1,11 @@
 -- The block and the firmware of a text.
 -- Beside the promise.
-use Rattle.std.specs.Prelude.{◌≡◌, ℕ, false, List}
+use Rattle.std.specs.Prelude.{◌≡◌, ℕ, List}
 use Rattle.fuzzy_meaning.specs.declared.block.Block.{Block}
+use Rattle.byte_scaling.specs.declared.width.Width.TheVariants.{Byte}
 use Rattle.rule_layout.specs.Layouts.{IsWithinLimits, IsFaultOf as IsLayoutFault}
 use Rattle.alone_code.specs.{Firmwares.IsFirmwareOf, Mailboxes.IsMailboxOf, declared.firmware.Firmware.Firmware}
 use Rattle.watched_code.specs.Watched.{IsWatchedFirmwareOf}
-use Rattle.byte_scaling.specs.Widths.{is_wide}
 use Rattle.fcl_syntax.specs.Text.{IsFirstFault}
 use Rattle.fcl_check.specs.Texts.{SpellsBlock, HasLoadFault}
 use Rattle.command_parts.specs.declared.firmware.{Form.Form, Form.TheVariants.Alone, Form.TheVariants.Mailbox}
@@ -21,8 +21,8 @@ pub record GivesBlock (text : List ℕ) (block : Block) : Type 0 where
 
 -- the firmware is the block's, of this form
 abbrev pub IsOfForm : Form → Block → Firmware → Type 0
-IsOfForm (Alone width) block firmware = IsFirmwareOf block firmware × (firmware.wide ≡ is_wide width)
-IsOfForm Mailbox block firmware = IsMailboxOf block firmware × (firmware.wide ≡ false)
+IsOfForm (Alone width) block firmware = IsFirmwareOf block firmware × (firmware.width ≡ width)
+IsOfForm Mailbox block firmware = IsMailboxOf block firmware × (firmware.width ≡ Byte)
 IsOfForm Watched block firmware = IsWatchedFirmwareOf block firmware
 
 -- the block is the text's, it can be laid out, and the firmware is the block's, of this form

@@ -1,7 +1,9 @@
 -- How a firmware is given samples, and where its answers are read.
 -- Reached by the promise.
-use Rattle.std.specs.Prelude.{◌≡◌, ℕ, zero, suc, ◌+◌, ◌*◌, ◌≤◌, Bool, true, false, List, [], ◌∷◌, ◌++◌, length}
+use Rattle.std.specs.Prelude.{◌≡◌, ℕ, zero, suc, ◌+◌, ◌*◌, ◌≤◌, List, [], ◌∷◌, ◌++◌, length}
 use Rattle.std.specs.Prelude.{slice_index}
+use Rattle.byte_scaling.specs.declared.width.{Width.Width, Width.TheVariants.Byte, Width.TheVariants.Word}
+use Rattle.byte_scaling.specs.Widths.{places}
 use Rattle.cpu12_isa.specs.{Act.write_all, Memory.plus, Memory.placed, Memory.word_of}
 use Rattle.cpu12_parts.specs.State.{State}
 use Rattle.alone_code.specs.Answers as answers
@@ -12,22 +14,18 @@ use Rattle.eval_code.specs.declared.memory_map.MemoryMap.{MemoryMap}
 abbrev pub given : MemoryMap → List ℕ → State → State
 given l bytes s = record s { mem = write_all (placed l.samples bytes ++ (l.ready, 1) ∷ []) s.mem }
 
--- an answer has one byte, or two where answers are wide, and the high one is the first
-abbrev pub answer_size : Bool → ℕ
-answer_size false = 1
-answer_size true = 2
-
-abbrev pub answer_at : Bool → ℕ → List ℕ → ℕ
-answer_at false at mem = slice_index mem at
-answer_at true at mem = word_of (slice_index mem at) (slice_index mem (plus at 1))
+-- an answer has one byte, or two, and the high one is the first
+abbrev pub answer_at : Width → ℕ → List ℕ → ℕ
+answer_at Byte at mem = slice_index mem at
+answer_at Word at mem = word_of (slice_index mem at) (slice_index mem (plus at 1))
 
 -- n answers, one after the other
-abbrev pub answers_at : Bool → ℕ → ℕ → List ℕ → List ℕ
-answers_at wide zero at mem = []
-answers_at wide (suc n) at mem = answer_at wide at mem ∷ answers_at wide n (plus at (answer_size wide)) mem
+abbrev pub answers_at : Width → ℕ → ℕ → List ℕ → List ℕ
+answers_at w zero at mem = []
+answers_at w (suc n) at mem = answer_at w at mem ∷ answers_at w n (plus at (places w)) mem
 
 abbrev pub answers_in : Firmware → State → List ℕ
-answers_in f s = answers_at f.wide f.outputs f.memory_map.outputs s.mem
+answers_in f s = answers_at f.width f.outputs f.memory_map.outputs s.mem
 
 -- Bytes that end in memory are given as whole instructions are.
 abbrev pub GivenIsPut : Type 0

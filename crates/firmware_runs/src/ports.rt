@@ -2,10 +2,11 @@
 ghost use Rattle.std.specs.Prelude.{◌≡◌, ◌≤◌, true, false, length};
 ghost use Rattle.cpu12_parts.specs.State.{State};
 ghost use Rattle.alone_code.specs.Interruptible.{is_idle};
-ghost use Rattle.firmware_runs.specs.Ports.{given, answer_size, answer_at, answers_in};
+ghost use Rattle.firmware_runs.specs.Ports.{given, answer_at, answers_in};
 
 use alone_code::Firmware;
 use arrayvec::ArrayVec;
+use byte_scaling::Width;
 use cpu12_emul::machine::Machine;
 use cpu12_isa::mem::{Mem, word_of};
 use eval_code::MemoryMap;
@@ -39,22 +40,14 @@ pub fn give<M: Mem>(memory_map: &MemoryMap, m: &mut Machine<M>, bytes: &[u8])
     m.poke(memory_map.ready, 1);
 }
 
-/// How many bytes an answer has.
-fn answer_size(wide: bool) -> u16
-    ensures { result ≡ answer_size wide }
-{
-    if wide { 2 } else { 1 }
-}
-
 /// The answer that stands at an address.
-fn answer_at<M: Mem>(m: &Machine<M>, wide: bool, at: u16) -> u16
-    ensures { result ≡ answer_at wide at m.now.state.mem }
+fn answer_at<M: Mem>(m: &Machine<M>, width: Width, at: u16) -> u16
+    ensures { result ≡ answer_at width at m.now.state.mem }
 {
     let first = m.peek(at);
-    if wide {
-        word_of(first, m.peek(at.wrapping_add(1)))
-    } else {
-        u16::from(first)
+    match width {
+        Width::Byte => u16::from(first),
+        Width::Word => word_of(first, m.peek(at.wrapping_add(1))),
     }
 }
 
@@ -67,8 +60,8 @@ pub fn answers<M: Mem>(firmware: &Firmware, m: &Machine<M>) -> ArrayVec<u16, 4>
     let mut at = firmware.memory_map.outputs;
     let mut left = firmware.outputs;
     while left > 0 {
-        answers.push(answer_at(m, firmware.wide, at));
-        at = at.wrapping_add(answer_size(firmware.wide));
+        answers.push(answer_at(m, firmware.width, at));
+        at = at.wrapping_add(firmware.width.places());
         left -= 1;
     }
     answers

@@ -14,7 +14,7 @@ use Rattle.run_reports.specs.PostedRun.{AcceptsPosted, PostedReport, PostedRun, 
 use Rattle.std.proofs.{Common.◌≢◌, Common.Bool, Common.false}
 use Rattle.std.specs.{Prelude.if◌then◌else◌, Prelude.nat_le, Prelude.◌==◌}
 use Rattle.cpu12_emul.specs.{Take.FrameSeen}
-use Rattle.byte_scaling.specs.{Widths.width_of, declared.width.Width.Width}
+use Rattle.byte_scaling.specs.declared.width.Width.{Width}
 use Rattle.std.proofs.lemmas.Bool.Decides.{nat_tests}
 use Rattle.cpu12_parts.specs.State.{State}
 use Rattle.interrupt_plan.specs.{Posts.AreGoodPosts, declared.Post.Post}
@@ -140,8 +140,8 @@ module _ (keep : AnswersKeepTheBound) (fit : SpelledBytesFit) (near : PostedAnsw
   under : AnswersUnderPosts block firmware flags bytes posts (run_of report)
   under = subst (λ (r : RunSeen). AnswersUnderPosts block firmware flags bytes posts r) (sym ran) defined
 
-  width : width_of firmware.wide ≡ Byte
-  width = ap width_of a.compiled.compiled.1
+  width : firmware.width ≡ Byte
+  width = a.compiled.compiled.1
 
   of_turns : answered_samples report ≡ samples_of under.turns
   of_turns =

@@ -4,7 +4,7 @@ use Rattle.mailbox_runs.proofs.Words.{answer_of, answers, ap, AreOfSize, AreTurn
 use Rattle.mailbox_runs.proofs.Words.{ended, false, Firmware, frames_in, idle, inl, inr, IsBox, IsGoodPost, length}
 use Rattle.mailbox_runs.proofs.Words.{List, min, nat_le, nat_tests, over, places, Post, Ran, refl, resumed_in}
 use Rattle.mailbox_runs.proofs.Words.{run_of_turns, RunsAreTurns, RunSeen, State, subst, suc, sym, taken_from, true}
-use Rattle.mailbox_runs.proofs.Words.{Turn, turn_from, TurnLaws, turns_from, uninterrupted, up_to, waiting, width_of}
+use Rattle.mailbox_runs.proofs.Words.{Turn, turn_from, TurnLaws, turns_from, uninterrupted, up_to, waiting}
 use Rattle.mailbox_runs.proofs.Words.{zero, ℕ}
 use Rattle.mailbox_runs.specs.{Answering.SimulateTurns}
 use Rattle.mailbox_runs.proofs.{TakenLists.Rise, TakenLists.rise_behind, AnswerRuns.good_behind}
@@ -29,7 +29,7 @@ came_near k n g w (p ∷ ps) good r z some = (let own = good.0 in let m = own.mo
 
 module _ (laws : TurnLaws) (flags : ℕ) (f : Firmware) (samples : List (List ℕ)) (n : ℕ) (box : IsBox f.memory_map n)
     (size : AreOfSize n samples) (last : ℕ)
-    (outputs : f.memory_map.outputs + places (width_of f.wide) * f.outputs ≤ 0x1020) (inputs : f.inputs ≡ n) (bound : ℕ)
+    (outputs : f.memory_map.outputs + places f.width * f.outputs ≤ 0x1020) (inputs : f.inputs ≡ n) (bound : ℕ)
     (bound_is : bound ≡ f.step_bound) (some_bound : 1 ≤ bound) (room : 1000000 + 2 * bound ≤ last) where
   abbrev Here : ℕ → ℕ → List Post → State → State → Type 0
   Here = Begins laws flags f samples n box size last

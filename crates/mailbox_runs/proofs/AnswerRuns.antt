@@ -9,7 +9,7 @@ use Rattle.mailbox_runs.proofs.Words.{OnStackOnly, or_parts, Orcc, part_form, pl
 use Rattle.mailbox_runs.proofs.Words.{posted_by, Ran, ran_from, refl, Regs, resumed_of, run_from, Same, State}
 use Rattle.mailbox_runs.proofs.Words.{stepped, Stepping, subst, suc, sym, TakenAtFirstOpen, takes, true, turn_form}
 use Rattle.mailbox_runs.proofs.Words.{TurnEnds, TurnForm, TurnLaws, uninterrupted, uninterrupted_add, up_to, waiting}
-use Rattle.mailbox_runs.proofs.Words.{width_of, Writing, zero, ℕ}
+use Rattle.mailbox_runs.proofs.Words.{Writing, zero, ℕ}
 use Rattle.run_law.specs.{Uninterrupted.taken_at, Following.onto, Following.Completes}
 use Rattle.run_law.proofs.{Algebra.counted_add}
 use Rattle.mailbox_runs.specs.{PostedTurns.PostedTurnsFollow}
@@ -102,7 +102,7 @@ module _ (opens : TakenAtFirstOpen) (flags n all g : ℕ) (u : State) (run : IsC
 
 module _ (laws : TurnLaws) (flags : ℕ) (f : Firmware) (samples : List (List ℕ)) (n g : ℕ) (box : IsBox f.memory_map n)
     (size : AreOfSize n samples)
-    (outputs : f.memory_map.outputs + places (width_of f.wide) * f.outputs ≤ 0x1020) (inputs : f.inputs ≡ n) where
+    (outputs : f.memory_map.outputs + places f.width * f.outputs ≤ 0x1020) (inputs : f.inputs ≡ n) where
   abbrev image : List ℕ
   image = image_memory f.image.bytes
 

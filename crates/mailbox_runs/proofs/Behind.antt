@@ -7,7 +7,7 @@ use Rattle.mailbox_runs.proofs.Words.{IsBox, IsGoodPost, IsShownStep, IsWritten,
 use Rattle.mailbox_runs.proofs.Words.{min, nat_le, nat_lt, nat_tests, Next, next_of, not, not_mail, Ok, OnStackOnly}
 use Rattle.mailbox_runs.proofs.Words.{or_parts, outcome, part_form, placed, places, plus, Post, post_writes}
 use Rattle.mailbox_runs.proofs.Words.{posted_by, refl, Regs, Result, State, state_by, step_act, stepped, Stepping}
-use Rattle.mailbox_runs.proofs.Words.{subst, suc, suspended, sym, Temps, true, wav, Width, width_of, Word, write_all}
+use Rattle.mailbox_runs.proofs.Words.{subst, suc, suspended, sym, Temps, true, wav, Width, Word, write_all}
 use Rattle.mailbox_runs.proofs.Words.{zero, ℕ}
 use Rattle.std.specs.{Prelude.◌==◌}
 use Rattle.std.proofs.{lemmas.Bool.and_parts}
@@ -179,7 +179,7 @@ begun_room r (Running p w) lo hi = (omega arith, omega arith)
 
 module _ (laws : Stepping) (flags : ℕ) (f : Firmware) (samples : List (List ℕ)) (n g : ℕ) (copied : List ℕ)
     (box : IsBox f.memory_map n) (size : AreOfSize n samples)
-    (outputs : f.memory_map.outputs + places (width_of f.wide) * f.outputs ≤ 0x1020) where
+    (outputs : f.memory_map.outputs + places f.width * f.outputs ≤ 0x1020) where
   abbrev Holds : List (Post × Unit {0}) → State → Type 0
   Holds = HoldsMail f.memory_map samples copied
 
@@ -222,7 +222,7 @@ module _ (laws : Stepping) (flags : ℕ) (f : Firmware) (samples : List (List �
     shown = λ s p. (let facts = p.facts in facts.shown);
     gives = λ x w s l. l;
     leaves = λ x w s l. l;
-    answers = λ w s l. values_alike (width_of f.wide) w.mem s.mem s.regs.sp f.memory_map.outputs f.outputs l.mem
+    answers = λ w s l. values_alike f.width w.mem s.mem s.regs.sp f.memory_map.outputs f.outputs l.mem
         outputs;
     ends = λ m w s l. ap (λ (r : Regs). nat_lt g (g + m) && (r.pc == f.memory_map.wait)) l.regs;
     quiet = λ done a v s good p may begins own.

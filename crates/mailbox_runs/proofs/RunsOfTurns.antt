@@ -5,7 +5,7 @@ use Rattle.mailbox_runs.proofs.Words.{bytes_of, false, Firmware, Free, HasSteps,
 use Rattle.mailbox_runs.proofs.Words.{image_memory, InstructionsAreSteps, is_waiting, IsUntil, length, List}
 use Rattle.mailbox_runs.proofs.Words.{MailboxRunsTurns, map, MemoryMap, nat_tests, Plain, PlainIsOneStep, refl}
 use Rattle.mailbox_runs.proofs.Words.{run_of_turns, samples_of, State, state_by, steps_by, steps_of, subst, suc, sym}
-use Rattle.mailbox_runs.proofs.Words.{true, Turn, uninterrupted, Width, width_of, zero, ℕ}
+use Rattle.mailbox_runs.proofs.Words.{true, Turn, uninterrupted, Width, zero, ℕ}
 use Rattle.cpu12_parts.specs.{Whole.PlainExecution}
 use Rattle.cpu12_emul.specs.{Step.reset_with}
 use Rattle.alone_code.specs.{Mailboxes.mailbox_bound, Uninterrupted.UninterruptedAreOne}
@@ -85,7 +85,7 @@ pub record Laws : Type 0 where
 pub mailbox_runs_turns : Laws → MailboxRunsTurns
 mailbox_runs_turns laws b f flags samples turns v limits h fits all have =
     let image = image_memory f.image.bytes in
-    let w = width_of f.wide in
+    let w = f.width in
     let first = (arrival f samples flags).state in
     let takes = laws.takes_samples b f flags v limits h fits in
     let ready = takes.ready in

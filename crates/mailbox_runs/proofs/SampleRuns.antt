@@ -4,7 +4,7 @@ use Rattle.mailbox_runs.proofs.Words.{arith, Before, Beq, Block, Firmware, Free,
 use Rattle.mailbox_runs.proofs.Words.{InstructionsAreSteps, is_idle, is_postable, IsAnswerRun, IsAt, IsChoice, IsLook}
 use Rattle.mailbox_runs.proofs.Words.{IsMailboxOf, IsServing, IsUntil, LdaaExtended, length, List, MemoryMap, next_of}
 use Rattle.mailbox_runs.proofs.Words.{Ok, Orcc, Plain, PlainIsOneStep, State, state_by, steps_by, subst, suc, sym}
-use Rattle.mailbox_runs.proofs.Words.{true, uninterrupted, uninterrupted_add, width_of, ℕ}
+use Rattle.mailbox_runs.proofs.Words.{true, uninterrupted, uninterrupted_add, ℕ}
 use Rattle.alone_code.specs.{SampleTurns.IsSampleTurn, Turns.IsCopied, Turns.call_of}
 use Rattle.mailbox_runs.proofs.WholeTurns.{IsBusy, one_step, steps_append, steps_on, masked_steps, masked_count}
 use Rattle.mailbox_runs.proofs.Serving.{IsServed, served, busy_by, facts_by}
@@ -142,7 +142,7 @@ answer_run f flags n m g looked chosen called e = subst by e
 pub sample_run : PlainIsOneStep → InstructionsAreSteps
     → (b : Block) (f : Firmware) (flags : ℕ) (before : ℕ → ℕ) (bytes : List ℕ) (s t : State)
     → IsMailboxOf b f → flags < 2 ^ 8 → s.temps ≡ Free
-    → (turn : IsSampleTurn f.memory_map b (width_of f.wide) f.instr_bound
+    → (turn : IsSampleTurn f.memory_map b f.width f.instr_bound
     (image_memory f.image.bytes) flags before bytes s t)
     → IsSampleRun f flags (given f.memory_map bytes s) turn.looked t
 sample_run law steps b f flags before bytes s t h fits free turn =

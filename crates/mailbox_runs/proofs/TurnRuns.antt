@@ -5,7 +5,7 @@ use Rattle.mailbox_runs.proofs.Words.{AreInputBytes, arith, arrival, begun, Bloc
 use Rattle.mailbox_runs.proofs.Words.{FactsBeside, false, Firmware, given, HasSteps, HaveSteps, if◌then◌else◌, inl}
 use Rattle.mailbox_runs.proofs.Words.{inr, is_postable, IsAnswerRun, IsIdleRun, length, List, map, nat_tests, refl}
 use Rattle.mailbox_runs.proofs.Words.{run_of_turns, samples_of, State, steps_of, subst, suc, sym, true, Turn}
-use Rattle.mailbox_runs.proofs.Words.{uninterrupted, values_in, width_of, zero, ℕ}
+use Rattle.mailbox_runs.proofs.Words.{uninterrupted, values_in, zero, ℕ}
 use Rattle.mailbox_runs.specs.{Runs.steps_from, Answering.AllKeepFacts, UninterruptedTurns.IsTurnRun}
 use Rattle.alone_code.specs.{Uninterrupted.AreAnswersTo}
 use Rattle.mailbox_runs.proofs.Looking.{AreAlike, alike_self}
@@ -131,7 +131,7 @@ put_answer b flags f samples before t ts s u some h a r =
     (subst (λ (ys : List AnswerSeen). Answers flags f samples ts u (k ∷ samples_of ts) ys (ended flags f samples t s))
     (sym told)
     (subst (λ (v : State). Answers flags f samples ts u (k ∷ samples_of ts) (seen ∷ []) v) (sym at) rest)) in
-    let turn = turn_run b f flags samples before (λ o. answer (width_of f.wide) b o (bytes_of samples k) (before o)) t s
+    let turn = turn_run b f flags samples before (λ o. answer f.width b o (bytes_of samples k) (before o)) t s
     s2 h a.waits at
     (λ z. absurd (omega (arith, z, some))) (λ ne. run) in
     record {
@@ -160,7 +160,7 @@ pub record Stands (b : Block) (f : Firmware) (flags : ℕ) (samples : List (List
 answered_stands : (b : Block) (f : Firmware) (flags : ℕ) (samples : List (List ℕ)) (before : ℕ → ℕ) (done : List ℕ)
     (k n : ℕ) (s : State)
     → Answered b f flags samples before k s (chain flags f samples (arrival f samples flags).state done) n
-    → Stands b f flags samples (λ o. answer (width_of f.wide) b o (bytes_of samples k) (before o)) (done ++ k ∷ [])
+    → Stands b f flags samples (λ o. answer f.width b o (bytes_of samples k) (before o)) (done ++ k ∷ [])
     (uninterrupted flags n (given f.memory_map (bytes_of samples k) s))
 answered_stands b f flags samples before done k n s a =
     let first = (arrival f samples flags).state in
@@ -169,7 +169,7 @@ answered_stands b f flags samples before done k n s a =
     sym a.state ∙ sym (chain_more flags f samples first done k) in
     record {
       waits = a.waits;
-      there = subst (Waits b f (λ o. answer (width_of f.wide) b o (bytes_of samples k) (before o))) is a.waits;
+      there = subst (Waits b f (λ o. answer f.width b o (bytes_of samples k) (before o))) is a.waits;
       alike = subst (AreAlike s2) is (alike_self s2);
     }
 
@@ -227,7 +227,7 @@ all_run b f flags samples before done (t ∷ ts) s x h have =
           let one : Answered b f flags samples before k s u t.steps =
           subst (Answered b f flags samples before k s u) steps a.1 in
           let s2 = uninterrupted flags t.steps (given f.memory_map (bytes_of samples k) s) in
-          let later = all_run b f flags samples (λ o. answer (width_of f.wide) b o (bytes_of samples k) (before o))
+          let later = all_run b f flags samples (λ o. answer f.width b o (bytes_of samples k) (before o))
           (done ++ k ∷ []) ts s2 x
           (answered_stands b f flags samples before done k t.steps s one) (subst rest e have.1) in
           put_answer b flags f samples before t ts s u some h.waits one

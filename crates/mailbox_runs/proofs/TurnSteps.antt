@@ -5,7 +5,7 @@ use Rattle.mailbox_runs.proofs.Words.{get_or, given, has, if◌then◌else◌, i
 use Rattle.mailbox_runs.proofs.Words.{is_part, IsAnswerRun, IsAt, IsIdleRun, IsLook, IsMailboxOf, IsUntil, kind_by}
 use Rattle.mailbox_runs.proofs.Words.{LdaaExtended, length, List, nat_tests, Next, next_of, not, Ok, one_if, Plain}
 use Rattle.mailbox_runs.proofs.Words.{PlainIsOneStep, Result, State, state_by, subst, suc, sym, true, uninterrupted}
-use Rattle.mailbox_runs.proofs.Words.{values_in, width_of, zero_result, ℕ}
+use Rattle.mailbox_runs.proofs.Words.{values_in, zero_result, ℕ}
 use Rattle.alone_code.specs.{SampleTurns.TakesSamples, Uninterrupted.IsAnswerTo}
 use Rattle.eval_code.specs.{Evaluation.HasAnswers}
 use Rattle.alone_code.specs.{Turns.TakesTurns}
@@ -18,15 +18,15 @@ pub record Setting (b : Block) (f : Firmware) (flags : ℕ) (samples : List (Lis
   pub instructions_are_steps : InstructionsAreSteps
   pub mailbox : IsMailboxOf b f
   pub fits : flags < 2 ^ 8
-  pub turns : TakesTurns f.memory_map b (width_of f.wide) f.instr_bound (image_memory f.image.bytes) flags
-  pub takes : TakesSamples f.memory_map b (width_of f.wide) f.instr_bound (image_memory f.image.bytes) flags
+  pub turns : TakesTurns f.memory_map b f.width f.instr_bound (image_memory f.image.bytes) flags
+  pub takes : TakesSamples f.memory_map b f.width f.instr_bound (image_memory f.image.bytes) flags
   pub bytes : All (AreInputBytes b) samples
 
 -- the code waits, no sample is posted, and the outputs are the answers before
 pub record Waits (b : Block) (f : Firmware) (before : ℕ → ℕ) (s : State) : Type 0 where
   pub at : IsAt (image_memory f.image.bytes) f.memory_map.wait s
   pub cleared : get_or s.mem f.memory_map.ready 0 ≡ 0
-  pub outputs : HasAnswers f.memory_map b (width_of f.wide) before s.mem
+  pub outputs : HasAnswers f.memory_map b f.width before s.mem
 
 -- an idle turn
 pub record Idled (b : Block) (f : Firmware) (flags : ℕ) (before : ℕ → ℕ) (s t : State) : Type 0 where
@@ -70,7 +70,7 @@ idled b f flags samples before s x h =
         waits = record {
           at = back;
           cleared = ap (λ (m : List ℕ). get_or m l.ready 0) mem ∙ h.cleared;
-          outputs = subst (HasAnswers l b (width_of f.wide) before) (sym mem) h.outputs;
+          outputs = subst (HasAnswers l b f.width before) (sym mem) h.outputs;
         };
         alike = λ u same. idle_alike l image flags s looked t u look.1 choice.1 fit.ccr (back.pc ∙ sym at.pc) same;
       },
@@ -83,7 +83,7 @@ pub record Answered (b : Block) (f : Firmware) (flags : ℕ) (samples : List (Li
   pub steps : (answered_alone flags f samples k u).steps ≡ n
   pub state : (answered_alone flags f samples k u).state
       ≡ uninterrupted flags n (given f.memory_map (bytes_of samples k) s)
-  pub waits : Waits b f (λ o. answer (width_of f.wide) b o (bytes_of samples k) (before o))
+  pub waits : Waits b f (λ o. answer f.width b o (bytes_of samples k) (before o))
       (uninterrupted flags n (given f.memory_map (bytes_of samples k) s))
   pub answer_is : IsAnswerTo f flags (bytes_of samples k) u (answered_alone flags f samples k u).state (record {
     values = values_in f (uninterrupted flags n (given f.memory_map (bytes_of samples k) s));
@@ -102,7 +102,7 @@ record Single (b : Block) (f : Firmware) (flags : ℕ) (samples : List (List ℕ
   goes : uninterrupted flags (suc (all_steps ds)) (given f.memory_map (bytes_of samples k) s) ≡ t
   run : IsAnswerRun f flags (suc (all_steps ds)) (given f.memory_map (bytes_of samples k) s)
   until : IsUntil (is_idle f.memory_map) flags (0 ∷ ds) (given f.memory_map (bytes_of samples k) s) t
-  waits : Waits b f (λ o. answer (width_of f.wide) b o (bytes_of samples k) (before o)) t
+  waits : Waits b f (λ o. answer f.width b o (bytes_of samples k) (before o)) t
   ran : IsAlone flags (suc (all_steps ds)) (given f.memory_map (bytes_of samples k) s)
       (answered_alone flags f samples k s)
 
@@ -180,7 +180,7 @@ answered b f flags samples before k s u x i hs hu alike =
         run = run;
         steps = steps;
         state = state;
-        waits = subst (Waits b f (λ o. answer (width_of f.wide) b o bytes (before o))) (sym a.goes) a.waits;
+        waits = subst (Waits b f (λ o. answer f.width b o bytes (before o))) (sym a.goes) a.waits;
         answer_is = record {
           ds = 0 ∷ c.ds;
           until = subst (IsUntil (is_idle f.memory_map) flags (0 ∷ c.ds) (given f.memory_map bytes u)) end c.until;

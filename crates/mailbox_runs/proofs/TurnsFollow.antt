@@ -10,7 +10,7 @@ use Rattle.mailbox_runs.proofs.Words.{nat_le, nat_lt, nat_tests, no_turn, None, 
 use Rattle.mailbox_runs.proofs.Words.{places, plain_frame, Post, posted, Ran, refl, resumed_in, resumed_of, run_from}
 use Rattle.mailbox_runs.proofs.Words.{run_of_turns, RunSeen, Same, State, subst, suc, sym, taken_from, takes}
 use Rattle.mailbox_runs.proofs.Words.{then_turns, true, Turn, turn_form, turn_from, TurnEnds, TurnLaws, turns_from}
-use Rattle.mailbox_runs.proofs.Words.{uninterrupted, up_to, values_in, waiting, waits_by, width_of, zero, ℕ}
+use Rattle.mailbox_runs.proofs.Words.{uninterrupted, up_to, values_in, waiting, waits_by, zero, ℕ}
 use Rattle.std.specs.{Prelude.◌==◌}
 use Rattle.mailbox_runs.specs.{Answering.SimulatesTurn}
 use Rattle.mailbox_runs.proofs.{Posting.waits_within, Running.run_over, Running.run_on, Running.waits_behind}
@@ -273,7 +273,7 @@ module _ (laws : TurnLaws) (flags : ℕ) (f : Firmware) (samples : List (List �
   nonzero k h = grind (arith, nat_tests)
 
   -- a turn that answers
-  module _ (outputs : f.memory_map.outputs + places (width_of f.wide) * f.outputs ≤ 0x1020) (inputs : f.inputs ≡ n)
+  module _ (outputs : f.memory_map.outputs + places f.width * f.outputs ≤ 0x1020) (inputs : f.inputs ≡ n)
       (m g w all : ℕ) (posts : List Post) (s v : State)
       (h : Begins g w posts s v) (at : IsAt image f.memory_map.wait s) (bound : g + all ≤ last)
       (waits : waiting w (up_to g posts) ≢ 0) where
@@ -391,7 +391,7 @@ module _ (laws : TurnLaws) (flags : ℕ) (f : Firmware) (samples : List (List �
         let k_is : waiting v0 (up_to (g + 2) ts) ≡ k0 = ap (waiting v0) first ∙ waiting_append v0 a1 a2 ∙ early in
         let same = res.same in
         let values : values_in f res.last ≡ values_in f (uninterrupted flags all u) =
-        values_alike (width_of f.wide) res.last.mem (uninterrupted flags all u).mem
+        values_alike f.width res.last.mem (uninterrupted flags all u).mem
         (uninterrupted flags all u).regs.sp f.memory_map.outputs f.outputs same.mem outputs in
         let ans : answers_by f samples g v0 ts (g + all) (counted flags all u) res.last ≡ seen_from u ∷ [] =
         answered_by v0 ts (counted flags all u) res.last (nonzero v0 some)

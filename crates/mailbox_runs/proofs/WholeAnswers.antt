@@ -4,7 +4,7 @@ use Rattle.mailbox_runs.proofs.Words.{AreAnswersOf, AreInputBytes, AreOfSize, Ar
 use Rattle.mailbox_runs.proofs.Words.{Ascend, Byte, bytes_of, is_free, is_hidden, IsBox, IsGoodPost, length, List}
 use Rattle.mailbox_runs.proofs.Words.{MailboxRunsTurns, map, MemoryMap, most_turns, places, Post, PostsHaveTurns}
 use Rattle.mailbox_runs.proofs.Words.{refl, run_of_turns, RunsAreTurns, RunSeen, samples_of, State, steps_of, subst}
-use Rattle.mailbox_runs.proofs.Words.{suc, sym, TurnsHaveSteps, Width, width_of, Word, ℕ}
+use Rattle.mailbox_runs.proofs.Words.{suc, sym, TurnsHaveSteps, Width, Word, ℕ}
 use Rattle.interrupt_plan.specs.{Posts.NoLater}
 use Rattle.alone_code.specs.{Mailboxes.MailboxStepsAreFew}
 use Rattle.mailbox_runs.specs.{Runs.run_under_posts, Runs.last_boundary, Answering.AnswersUnderAllPosts}
@@ -50,7 +50,7 @@ answers_under have count runs are few_steps f flags samples posts hf good b vali
     let at_outputs : f.memory_map.outputs ≡ 0x1010 = ap (λ (l : MemoryMap). l.outputs) h.memory_map in
     let outs = h.outputs in
     let few_outs = valid.few_outputs in
-    let wide = few_places (width_of f.wide) f.outputs (omega (arith, outs, few_outs)) in
+    let wide = few_places f.width f.outputs (omega (arith, outs, few_outs)) in
     let steps = steps_of flags f samples in
     let turns = have n (length samples) steps posts good in
     let r = runs b f flags samples turns.0 valid limits h hf all
@@ -72,7 +72,7 @@ answers_under have count runs are few_steps f flags samples posts hf good b vali
       uninterrupted = subst
           (λ (x : RunSeen). AreUninterrupted f flags (map (bytes_of samples) (samples_of turns.0))
           (map answer_in x.answers)) (sym run_is) r.answers_are;
-      of_block = subst (λ (x : RunSeen). AreAnswersOf (width_of f.wide) b f.instr_bound (λ o. 0)
+      of_block = subst (λ (x : RunSeen). AreAnswersOf f.width b f.instr_bound (λ o. 0)
           (map (bytes_of samples) (samples_of turns.0)) (map answer_in x.answers)) (sym run_is) r.of_block;
       facts = r.facts;
       simulate = both.1;

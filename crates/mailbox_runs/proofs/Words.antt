@@ -27,7 +27,7 @@ pub use Rattle.std.proofs.Common.{◌++◌, ◌+◌, ◌-◌, ◌<◌, ◌==◌,
 pub use Rattle.alone_code.specs.{Answers.given, Interruptible.is_idle, Mailboxes.IsMailboxOf, Mailboxes.is_mail}
 pub use Rattle.alone_code.specs.{Mailboxes.is_postable, declared.firmware.Firmware.Firmware}
 pub use Rattle.alone_runs.specs.{Rows.bytes_of}
-pub use Rattle.byte_scaling.specs.{Widths.places, Widths.width_of, declared.width.Width.TheVariants.Byte}
+pub use Rattle.byte_scaling.specs.{Widths.places, declared.width.Width.TheVariants.Byte}
 pub use Rattle.byte_scaling.specs.{declared.width.Width.TheVariants.Word, declared.width.Width.Width}
 pub use Rattle.cpu12_emul.specs.{Image.image_memory, declared.ends.Stepped.TheVariants.Plain}
 pub use Rattle.cpu12_isa.proofs.{Algebra.agree_self, Algebra.agree_with}

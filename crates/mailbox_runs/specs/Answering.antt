@@ -14,7 +14,6 @@ use Rattle.alone_code.specs.declared.firmware.Firmware.{Firmware}
 use Rattle.alone_code.specs.Uninterrupted.{Answer, values_in, AreUninterrupted, AreAnswersOf}
 use Rattle.alone_code.specs.{Answers.given, Mailboxes.is_postable, Mailboxes.IsMailboxOf}
 use Rattle.eval_code.specs.Firing.{AreInputBytes}
-use Rattle.byte_scaling.specs.Widths.{width_of}
 use Rattle.firmware_runs.specs.Facts.{FactsBeside}
 use Rattle.mailbox_runs.specs.Turns.{Turn, AreTurns, samples_of}
 use Rattle.mailbox_runs.specs.Runs.{AnswerSeen, RunSeen, no_turn, before_turns, turn_from, arrival, steps_of}
@@ -103,7 +102,7 @@ pub record AnswersUnderPosts (b : Block) (f : Firmware) (flags : ℕ) (samples :
   pub arrived : (arrival f samples flags).arrived ≡ true
   pub run_is : run ≡ run_of_turns flags f samples turns (arrival f samples flags).state
   pub uninterrupted : AreUninterrupted f flags (map (bytes_of samples) (samples_of turns)) (map answer_in run.answers)
-  pub of_block : AreAnswersOf (width_of f.wide) b f.instr_bound (λ o. 0) (map (bytes_of samples) (samples_of turns))
+  pub of_block : AreAnswersOf f.width b f.instr_bound (λ o. 0) (map (bytes_of samples) (samples_of turns))
       (map answer_in run.answers)
   pub facts : AllKeepFacts flags f samples turns (arrival f samples flags).state
   pub simulate : SimulateTurns flags f samples (last_boundary f) turns posts (arrival f samples flags).state

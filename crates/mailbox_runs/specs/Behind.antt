@@ -8,7 +8,7 @@ use Rattle.run_law.specs.{Soundness.Sound, Soundness.WritesAreQuiet, Following.R
 use Rattle.interrupt_plan.specs.{declared.Post.Post, Posts.IsGoodPost}
 use Rattle.alone_code.specs.{declared.firmware.Firmware.Firmware, Mailboxes.is_mail, Mailboxes.is_postable}
 use Rattle.eval_code.specs.declared.memory_map.MemoryMap.{MemoryMap}
-use Rattle.byte_scaling.specs.Widths.{width_of, places}
+use Rattle.byte_scaling.specs.Widths.{places}
 use Rattle.firmware_runs.specs.Facts.{FactsBeside}
 use Rattle.mailbox_runs.specs.{Runs.TurnForm, Runs.turn_form, Shifts.counted_from}
 use Rattle.mailbox_runs.specs.Postings.{mailed, last_of, IsBox, AreOfSize}
@@ -49,6 +49,6 @@ pub record Copied : Type 0 where
 abbrev pub FollowsBehind : Type 0
 FollowsBehind = (flags : ℕ) (f : Firmware) (samples : List (List ℕ)) (n begin : ℕ) (copied : List ℕ)
     → IsBox f.memory_map n
-    → AreOfSize n samples → f.memory_map.outputs + places (width_of f.wide) * f.outputs ≤ 0x1020
+    → AreOfSize n samples → f.memory_map.outputs + places f.width * f.outputs ≤ 0x1020
     → RunFollows OnStackOnly is_postable (part_form flags f samples begin) (FactsBeside is_postable flags f)
     (IsGoodPost (length samples)) (HoldsMail f.memory_map samples copied)

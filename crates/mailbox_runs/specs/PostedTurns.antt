@@ -9,7 +9,7 @@ use Rattle.run_law.specs.Soundness.{AllSimulate, AllGood, Ascend}
 use Rattle.run_law.specs.Uninterrupted.{uninterrupted, counted, taken_at, resumed_of, frames_after}
 use Rattle.interrupt_plan.specs.{declared.Post.Post, Posts.IsGoodPost}
 use Rattle.alone_code.specs.{declared.firmware.Firmware.Firmware, Mailboxes.is_postable, Turns.IsAt}
-use Rattle.byte_scaling.specs.Widths.{width_of, places}
+use Rattle.byte_scaling.specs.Widths.{places}
 use Rattle.mailbox_runs.specs.{Turns.up_to, Turns.behind, Turns.waiting, Runs.turn_form, Shifts.frames_from}
 use Rattle.mailbox_runs.specs.Postings.{posted, IsBox, AreOfSize}
 use Rattle.mailbox_runs.specs.UninterruptedTurns.{IsAnswerRun, IsIdleRun}
@@ -80,7 +80,7 @@ pub record FollowsTurn (flags : ℕ) (f : Firmware) (samples : List (List ℕ)) 
 abbrev pub PostedTurnsFollow : Type 0
 PostedTurnsFollow =
     (flags : ℕ) (f : Firmware) (samples : List (List ℕ)) (n g most all w last : ℕ) (s v : State) (qs : List Post)
-    → IsBox f.memory_map n → AreOfSize n samples → f.memory_map.outputs + places (width_of f.wide) * f.outputs ≤ 0x1020
+    → IsBox f.memory_map n → AreOfSize n samples → f.memory_map.outputs + places f.width * f.outputs ≤ 0x1020
     → f.inputs ≡ n → all ≤ most → IsAt (image_memory f.image.bytes) f.memory_map.wait s
     → 1 ≤ w → w ≤ length samples → 1 ≤ last → last ≤ length samples
     → last ≡ waiting (waiting w (second g qs)) (third g qs)

@@ -13,7 +13,6 @@ use Rattle.alone_code.specs.Turns.{IsAt, IsLook, IsChoice, IsCopied}
 use Rattle.alone_code.specs.Uninterrupted.{AreUninterrupted, AreAnswersOf}
 use Rattle.alone_code.specs.{Answers.given, Mailboxes.is_postable, Mailboxes.IsMailboxOf}
 use Rattle.eval_code.specs.Firing.{AreInputBytes}
-use Rattle.byte_scaling.specs.Widths.{width_of}
 use Rattle.firmware_runs.specs.Facts.{FactsBeside}
 use Rattle.mailbox_runs.specs.{Turns.Turn, Turns.AreTurns, Turns.samples_of, Runs.arrival, Runs.steps_of}
 use Rattle.mailbox_runs.specs.Answering.{ended, run_of_turns, answer_in, AllKeepFacts}
@@ -88,7 +87,7 @@ pub record RunsTurns (b : Block) (f : Firmware) (flags : ℕ) (samples : List (L
   pub runs : AllTurnRuns f flags samples turns (arrival f samples flags).state
   pub answers_are : AreUninterrupted f flags (map (bytes_of samples) (samples_of turns))
       (map answer_in (run_of_turns flags f samples turns (arrival f samples flags).state).answers)
-  pub of_block : AreAnswersOf (width_of f.wide) b f.instr_bound (λ o. 0) (map (bytes_of samples) (samples_of turns))
+  pub of_block : AreAnswersOf f.width b f.instr_bound (λ o. 0) (map (bytes_of samples) (samples_of turns))
       (map answer_in (run_of_turns flags f samples turns (arrival f samples flags).state).answers)
   pub facts : AllKeepFacts flags f samples turns (arrival f samples flags).state
 

@@ -7,7 +7,7 @@ use Rattle.cpu12_emul.specs.Simulation.{Same}
 use Rattle.run_law.specs.Soundness.{AllGood, Ascend}
 use Rattle.interrupt_plan.specs.{declared.Post.Post, Posts.IsGoodPost}
 use Rattle.alone_code.specs.declared.firmware.Firmware.{Firmware}
-use Rattle.byte_scaling.specs.Widths.{width_of, places}
+use Rattle.byte_scaling.specs.Widths.{places}
 use Rattle.mailbox_runs.specs.{Turns.Turn, Turns.AreTurns, Runs.turns_from, Answering.run_of_turns}
 use Rattle.mailbox_runs.specs.{Answering.SimulateTurns, UninterruptedTurns.AllTurnRuns}
 use Rattle.mailbox_runs.specs.Postings.{posted, IsBox, AreOfSize}
@@ -19,7 +19,7 @@ abbrev pub RunsAreTurns : Type 0
 RunsAreTurns =
     (flags : ℕ) (f : Firmware) (samples : List (List ℕ)) (n : ℕ) (steps : List ℕ → ℕ) (last most g w : ℕ)
     (done : List ℕ) (posts : List Post) (turns : List Turn) (s v : State)
-    → IsBox f.memory_map n → AreOfSize n samples → f.memory_map.outputs + places (width_of f.wide) * f.outputs ≤ 0x1020
+    → IsBox f.memory_map n → AreOfSize n samples → f.memory_map.outputs + places f.width * f.outputs ≤ 0x1020
     → f.inputs ≡ n → 1 ≤ f.step_bound → 1000000 + 2 * f.step_bound ≤ last
     → AreTurns n steps g w done posts turns → AllTurnRuns f flags samples turns s
     → w ≤ length samples → AllGood (IsGoodPost (length samples)) posts → Ascend (λ p. p.moment) g posts

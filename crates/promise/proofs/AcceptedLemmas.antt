@@ -6,8 +6,7 @@ use Rattle.cpu12_asm.specs.declared.image.Image.{Image}
 use Rattle.alone_code.specs.{Firmwares.IsFirmwareOf, Images.IsImageOf, Images.firmware_items}
 use Rattle.alone_code.specs.declared.firmware.Firmware.{Firmware}
 use Rattle.eval_code.specs.{Bounds.instruction_bound, Bounds.step_bound, MemoryMaps.main_map}
-use Rattle.byte_scaling.specs.Widths.{is_wide}
-use Rattle.byte_scaling.specs.declared.{width.Width.Width, width.Width.TheVariants.Byte, width.Width.TheVariants.Word}
+use Rattle.byte_scaling.specs.declared.width.Width.{Width}
 use Rattle.box_tree.specs.declared.cert.CertKind.{CertKind}
 use Rattle.run_reports.specs.{RowLines.run_lines}
 use Rattle.run_reports.specs.declared.files.RunFiles.{RunFiles}
@@ -23,16 +22,14 @@ firmware_with width b image = record {
   memory_map = main_map;
   inputs = length b.inputs;
   outputs = length b.outputs;
-  wide = is_wide width;
+  width = width;
   instr_bound = instruction_bound width b;
   step_bound = step_bound width b;
 }
 
 is_firmware : (width : Width) (b : Block) (image : Image) → IsImageOf (firmware_items main_map b width) image
     → IsFirmwareOf b (firmware_with width b image)
-is_firmware Byte b image is =
-    record { image = is; memory_map = refl; inputs = refl; outputs = refl; instructions = refl; steps = refl }
-is_firmware Word b image is =
+is_firmware width b image is =
     record { image = is; memory_map = refl; inputs = refl; outputs = refl; instructions = refl; steps = refl }
 
 accepts : (kind : CertKind) (width : Width) (files : RunFiles) (a : AreAccepted kind width files)

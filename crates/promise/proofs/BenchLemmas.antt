@@ -1,12 +1,12 @@
 -- A firmware on the bench.
 use Rattle.std.proofs.Common.{◌≡◌, ◌<◌, ◌∙◌, ℕ, zero, suc, List, [], ◌∷◌, refl, sym, ap, subst, arith}
-use Rattle.std.specs.Prelude.{false, not, ◌≢◌, Bool}
+use Rattle.std.specs.Prelude.{false, not, ◌≢◌}
 use Rattle.cpu12_parts.specs.{State.State, Whole.IsPlainStep, Whole.PlainExecution}
 use Rattle.cpu12_parts.specs.declared.temps.Temps.TheVariants.{Free}
 use Rattle.cpu12_emul.specs.Take.{framed}
 use Rattle.alone_code.specs.{declared.firmware.Firmware.Firmware, Interruptible.is_idle}
 use Rattle.eval_code.specs.{MemoryMaps.main_map, declared.memory_map.MemoryMap.MemoryMap}
-use Rattle.byte_scaling.specs.{Widths.is_wide, declared.width.Width.Width}
+use Rattle.byte_scaling.specs.declared.width.Width.{Width}
 use Rattle.firmware_runs.specs.Ports.{answers_at, given}
 use Rattle.interrupt_plan.specs.declared.Request.{Request}
 use Rattle.cpu12_isa.specs.Flags.{has, interrupts_masked}
@@ -20,24 +20,24 @@ use Rattle.promise.specs.Bench.{AreReadOff, EndsAfter, bench, requests_in}
 -- ---- the form of a firmware that stands alone is the bench's
 
 -- the form of firmware by what it has of it
-abbrev form_by : ℕ → MemoryMap → Bool → ℕ → Form (List ℕ) Request (Unit {0})
-form_by flags map wide outputs = record {
+abbrev form_by : ℕ → MemoryMap → Width → ℕ → Form (List ℕ) Request (Unit {0})
+form_by flags map width outputs = record {
   flags = flags;
   give = given map;
   leave = λ bytes s. s;
   ends = λ m s. is_idle map s;
-  answers = λ s. answers_at wide outputs map.outputs s.mem;
+  answers = λ s. answers_at width outputs map.outputs s.mem;
   moment = λ r. r.moment;
   handle = λ r s. framed r.writes s;
   tells = λ r s. tt;
 }
 
 pub bench_is : (flags : ℕ) (f : Firmware) (width : Width) (outputs : ℕ) → f.memory_map ≡ main_map
-    → f.wide ≡ is_wide width → f.outputs ≡ outputs → with_writes flags f ≡ bench width outputs flags
-bench_is flags f width outputs map wide count =
-    ap (λ (m : MemoryMap). form_by flags m f.wide f.outputs) map
-    ∙ (ap (λ (w : Bool). form_by flags main_map w f.outputs) wide
-    ∙ ap (λ (n : ℕ). form_by flags main_map (is_wide width) n) count)
+    → f.width ≡ width → f.outputs ≡ outputs → with_writes flags f ≡ bench width outputs flags
+bench_is flags f width outputs map same count =
+    ap (λ (m : MemoryMap). form_by flags m f.width f.outputs) map
+    ∙ (ap (λ (w : Width). form_by flags main_map w f.outputs) same
+    ∙ ap (λ (n : ℕ). form_by flags main_map width n) count)
 
 -- ---- rows that are read off
 

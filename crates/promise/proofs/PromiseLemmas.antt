@@ -14,7 +14,7 @@ use Rattle.cpu12_emul.specs.{Image.image_memory, Step.reset_with}
 use Rattle.alone_code.specs.{Answers.FirmwareAnswers, Firmwares.IsFirmwareOf, declared.firmware.Firmware.Firmware}
 use Rattle.eval_code.specs.Bounds.{BoundsAreFew, instruction_bound, step_bound, steps_by}
 use Rattle.eval_code.specs.declared.memory_map.MemoryMap.{MemoryMap}
-use Rattle.byte_scaling.specs.{Widths.is_wide, Widths.width_of, declared.width.Width.Width}
+use Rattle.byte_scaling.specs.declared.width.Width.{Width}
 use Rattle.interrupt_plan.specs.declared.Request.{Request}
 use Rattle.run_law.specs.Forms.{Form, RowSeen}
 use Rattle.run_forms.specs.Arrival.{ArrivesPlainly, PlainIsOneStep}
@@ -34,7 +34,7 @@ enough_steps w b few = omega arith
 module _ (answers : FirmwareAnswers) (one : PlainIsOneStep) (arrives : ArrivesPlainly) (width : Width) (flags : ℕ)
     (b : Block) (f : Firmware) (bytes : List (List ℕ)) (plan : List Request) (rows : List (RowSeen (List ℕ)))
     (byte : flags < 2 ^ 8) (valid : IsValid b) (limits : IsWithinLimits b) (compiled : IsFirmwareOf b f)
-    (wide : f.wide ≡ is_wide width) (r : AnswersUnder b f flags bytes plan rows) where
+    (same : f.width ≡ width) (r : AnswersUnder b f flags bytes plan rows) where
   abbrev start : State
   start = reset_with (image_memory f.image.bytes)
 
@@ -42,7 +42,7 @@ module _ (answers : FirmwareAnswers) (one : PlainIsOneStep) (arrives : ArrivesPl
   first = first_state f flags
 
   form : with_writes flags f ≡ bench width (length b.outputs) flags
-  form = bench_is flags f width (length b.outputs) compiled.memory_map wide compiled.outputs
+  form = bench_is flags f width (length b.outputs) compiled.memory_map same compiled.outputs
 
   waits : IsFirstAtLoop flags f.image first
   waits =
@@ -50,7 +50,7 @@ module _ (answers : FirmwareAnswers) (one : PlainIsOneStep) (arrives : ArrivesPl
       let arrived = from_reset.1.0 in
       let wait = f.memory_map.wait in
       let enough : 3 ≤ f.step_bound =
-      subst (λ (n : ℕ). 3 ≤ n) (sym compiled.steps) (enough_steps (width_of f.wide) b valid.few_outputs) in
+      subst (λ (n : ℕ). 3 ≤ n) (sym compiled.steps) (enough_steps f.width b valid.few_outputs) in
       let there : first ≡ from_reset.0 =
       arrives flags wait 3 f.step_bound start from_reset.0 refl arrived.execution arrived.wait enough in
       let at_loop : wait ≡ loop = ap (λ (m : MemoryMap). m.wait) compiled.memory_map in
@@ -84,8 +84,8 @@ module _ (answers : FirmwareAnswers) (one : PlainIsOneStep) (arrives : ArrivesPl
   served = record { first = first; waits = waits; last = last; ran = ran; without = without }
 
 pub answers_serve : FirmwareAnswers → PlainIsOneStep → ArrivesPlainly → AnswersServe
-answers_serve answers one arrives = λ width flags b f bytes plan rows byte valid limits compiled wide r.
-    served answers one arrives width flags b f bytes plan rows byte valid limits compiled wide r
+answers_serve answers one arrives = λ width flags b f bytes plan rows byte valid limits compiled same r.
+    served answers one arrives width flags b f bytes plan rows byte valid limits compiled same r
 
 -- ---- the printed numbers are small
 

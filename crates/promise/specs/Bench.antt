@@ -6,7 +6,7 @@ use Rattle.cpu12_asm.specs.declared.image.Image.{Image}
 use Rattle.cpu12_isa.specs.{Act.write_all, Memory.placed}
 use Rattle.cpu12_parts.specs.State.{State}
 use Rattle.cpu12_emul.specs.{Image.image_memory, Step.reset_with, Take.framed}
-use Rattle.byte_scaling.specs.{Widths.is_wide, declared.width.Width.Width}
+use Rattle.byte_scaling.specs.declared.width.Width.{Width}
 use Rattle.firmware_runs.specs.Ports.{answers_at}
 use Rattle.interrupt_plan.specs.declared.Request.{Request}
 use Rattle.run_law.specs.Forms.{Form, RowSeen, rows_from}
@@ -35,7 +35,7 @@ bench width outputs flags = record {
   give = λ bytes s. record s { mem = write_all (placed inputs_from bytes ++ (ready, 1) ∷ []) s.mem };
   leave = λ bytes s. s;
   ends = λ m s. (s.regs.pc == loop) && (slice_index s.mem ready == 0);
-  answers = λ s. answers_at (is_wide width) outputs outputs_from s.mem;
+  answers = λ s. answers_at width outputs outputs_from s.mem;
   moment = λ r. r.moment;
   handle = λ r s. framed r.writes s;
   tells = λ r s. tt;

@@ -6,7 +6,7 @@ use Rattle.alone_code.specs.{Firmwares.IsFirmwareOf, Images.IsImageOf, Images.fi
 use Rattle.alone_code.specs.declared.firmware.Firmware.{Firmware}
 use Rattle.cpu12_asm.specs.declared.image.Image.{Image}
 use Rattle.eval_code.specs.MemoryMaps.{main_map}
-use Rattle.byte_scaling.specs.{Widths.is_wide, declared.width.Width.Width}
+use Rattle.byte_scaling.specs.declared.width.Width.{Width}
 use Rattle.fcl_check.specs.Texts.{SpellsBlock}
 use Rattle.fuzzy_meaning.specs.{Blocks.IsValid, declared.block.Block.Block}
 use Rattle.interrupt_plan.specs.{Plans.Spells as SpellsPlan, declared.Request.Request}
@@ -26,7 +26,7 @@ use Rattle.trace_io.specs.{Traces.Spells as SpellsTrace, declared.sample.Sample.
 abbrev pub AnswersServe : Type 0
 AnswersServe = (width : Width) (flags : ℕ) (block : Block) (firmware : Firmware) (samples : List (List ℕ))
     (plan : List Request) (rows : List (RowSeen (List ℕ))) → flags < 2 ^ 8 → IsValid block → IsWithinLimits block
-    → IsFirmwareOf block firmware → firmware.wide ≡ is_wide width
+    → IsFirmwareOf block firmware → firmware.width ≡ width
     → AnswersUnder block firmware flags samples plan rows
     → Serves width (length block.outputs) flags firmware.image samples plan rows
 

@@ -1,7 +1,8 @@
 //! The command `gen NUMBER`: a run of a workload, made of its number and certified, that is large enough to
 //! measure by.
-ghost use Rattle.std.specs.Prelude.{◌≡◌, ◌≤◌, false, length, map, sum, IfOk};
+ghost use Rattle.std.specs.Prelude.{◌≡◌, ◌≤◌, length, map, sum, IfOk};
 ghost use Rattle.fuzzy_meaning.specs.Blocks.{IsValid};
+ghost use Rattle.byte_scaling.specs.declared.width.Width.TheVariants.{Byte};
 ghost use Rattle.rule_layout.specs.Layouts.{IsWithinLimits};
 ghost use Rattle.alone_code.specs.Firmwares.{IsFirmwareOf};
 ghost use Rattle.alone_runs.specs.Rows.{row_seen};
@@ -85,7 +86,7 @@ fn compiled(alloc: Global, block: &Block) -> Result<Firmware, AllocError>
     requires valid { IsValid block.now }
     requires limits { IsWithinLimits block.now }
     ensures firmware { IfOk result (IsFirmwareOf block.now) }
-    ensures narrow { IfOk result (λ f. f.wide ≡ false) }
+    ensures narrow { IfOk result (λ f. f.width ≡ Byte) }
 {
     limits_have_no_fault();
     match compile(alloc, block) {

@@ -8,7 +8,7 @@ use Rattle.std.proofs.lemmas.List.Elements.{All-cons, All-take}
 use Rattle.fz_num.specs.{declared.dec.Dec.Dec, Decimals.distance, Fractions.IsClose}
 use Rattle.fuzzy_meaning.specs.declared.{block.Block.Block, block.Input.Input}
 use Rattle.fuzzy_meaning.specs.{Blocks.AreInputs, Blocks.IsValid, Blocks.IsWithin, Meaning.exact_answer}
-use Rattle.byte_scaling.specs.{Cells.bytes_of, Cells.value_in, Widths.parts, Widths.width_of}
+use Rattle.byte_scaling.specs.{Cells.bytes_of, Cells.value_in, Widths.parts}
 use Rattle.byte_scaling.specs.declared.{width.Width.Width, width.Width.TheVariants.Byte, width.Width.TheVariants.Word}
 use Rattle.point_slope.specs.Bytes.{answer_in}
 use Rattle.box_tree.specs.declared.cert.Cert.{Cert}
@@ -116,7 +116,7 @@ near_answers near w b most cert errors xs answers valid inputs are accepted k a 
 -- the rows of a trace
 pub within_errors : AcceptedAnswersAreNear → AnswersAreWithinErrors
 within_errors near b f flags cert errors trace samples rows valid spells block accepted k row row_is =
-    let w = width_of f.wide in
+    let w = f.width in
     let xs = numbers_of samples in
     let answers : AreAnswersOf w b f.instr_bound (λ n. 0) (map (bytes_of b.inputs) xs) (map answer_of_row rows) =
     subst (λ (l : List (List ℕ)). AreAnswersOf w b f.instr_bound (λ n. 0) l (map answer_of_row rows))

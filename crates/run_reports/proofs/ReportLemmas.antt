@@ -5,8 +5,8 @@ use Rattle.std.proofs.lemmas.List.Elements.{All-cons, All-nil}
 use Rattle.fz_num.specs.declared.dec.Dec.{Dec}
 use Rattle.fuzzy_meaning.specs.declared.{block.Block.Block, block.Input.Input}
 use Rattle.box_tree.specs.declared.cert.Cert.{Cert}
-use Rattle.byte_scaling.specs.{Cells.byte_of, Cells.bytes_of, Widths.is_wide, Widths.parts, Widths.width_of}
-use Rattle.byte_scaling.specs.declared.{width.Width.Width, width.Width.TheVariants.Byte, width.Width.TheVariants.Word}
+use Rattle.byte_scaling.specs.{Cells.byte_of, Cells.bytes_of, Widths.parts}
+use Rattle.byte_scaling.specs.declared.width.Width.{Width}
 use Rattle.cert_check.specs.Acceptance.{IsAccepted}
 use Rattle.eval_code.specs.{Bounds.instruction_bound, Firing.AreInputBytes}
 use Rattle.eval_code.specs.Widths.{answer}
@@ -68,18 +68,14 @@ instructions_within w b most before (bytes ∷ samples) (a ∷ answers) each =
     All-cons (λ q. q.instructions ≤ most) a answers each.0.instructions
     (instructions_within w b most (λ o. answer w b o bytes (before o)) samples answers each.1)
 
-width_again : (w : Width) → width_of (is_wide w) ≡ w
-width_again Byte = refl
-width_again Word = refl
-
 -- what a run answers of a block's samples is its report
 module _ (near : AnswersAreWithinErrors) (w : Width) (flags : ℕ) (text : List ℕ) (block : Block) (firmware : Firmware)
     (cert : Cert) (errors trace : List ℕ) (samples : List Sample) (plan : List Request) (rows : List (RowSeen (List ℕ)))
     (gives : GivesFirmware (Alone w) text block firmware) (accepted : IsAccepted block (parts w) cert errors)
     (in_range : Spells block.inputs trace samples)
     (answers : AnswersItsBlock firmware flags (map input_bytes samples) plan rows) where
-  width : width_of firmware.wide ≡ w
-  width = ap width_of gives.compiled.1 ∙ width_again w
+  width : firmware.width ≡ w
+  width = gives.compiled.1
 
   under : AnswersUnder block firmware flags (map input_bytes samples) plan rows
   under = answers block gives.spelled.valid gives.limits gives.compiled.0
@@ -97,7 +93,7 @@ module _ (near : AnswersAreWithinErrors) (w : Width) (flags : ℕ) (text : List 
     within = within;
     bound = gives.compiled.0.instructions ∙ ap (λ (v : Width). instruction_bound v block) width;
     instructions = of_seen (λ a. a.instructions ≤ firmware.instr_bound) answer_of_row rows
-        (instructions_within (width_of firmware.wide) block firmware.instr_bound (λ o. 0) (map input_bytes samples)
+        (instructions_within firmware.width block firmware.instr_bound (λ o. 0) (map input_bytes samples)
         (map answer_of_row rows) under.answers.answers);
     follows = under;
   }

@@ -4,7 +4,7 @@ use Rattle.std.specs.Prelude.{◌≡◌, ℕ, ◌+◌, ◌-◌, ◌≤◌, List,
 use Rattle.fz_num.specs.{declared.dec.Dec.Dec, Decimals.distance, Fractions.IsClose}
 use Rattle.fuzzy_meaning.specs.declared.{block.Block.Block, block.Output.Output}
 use Rattle.fuzzy_meaning.specs.{Blocks.IsValid, Blocks.output_at, Meaning.exact_answer}
-use Rattle.byte_scaling.specs.{Cells.value_in, Widths.parts, Widths.width_of}
+use Rattle.byte_scaling.specs.{Cells.value_in, Widths.parts}
 use Rattle.box_tree.specs.declared.cert.Cert.{Cert}
 use Rattle.cert_check.specs.Acceptance.{IsAccepted}
 use Rattle.alone_code.specs.declared.firmware.Firmware.{Firmware}
@@ -35,5 +35,5 @@ abbrev pub AnswersAreWithinErrors : Type 0
 AnswersAreWithinErrors = (b : Block) (f : Firmware) (flags : ℕ) (cert : Cert) (errors trace : List ℕ)
     (samples : List Sample) (rows : List (RowSeen (List ℕ)))
     → IsValid b → Spells b.inputs trace samples → AnswerBlock b f flags (map input_bytes samples) rows
-    → IsAccepted b (parts (width_of f.wide)) cert errors
-    → AreWithinErrors (parts (width_of f.wide)) b errors samples rows
+    → IsAccepted b (parts f.width) cert errors
+    → AreWithinErrors (parts f.width) b errors samples rows

@@ -3,7 +3,7 @@ ghost use Rattle.std.specs.Prelude.{◌≤◌};
 ghost use Rattle.fuzzy_meaning.specs.Blocks.{IsValid};
 
 use byte_scaling::Width;
-use codegen::{Firmware, compile, compile16};
+use codegen::{Firmware, compile_for};
 use fcl_check::load;
 use fcl_syntax::parse;
 use fuzzy_meaning::Block;
@@ -117,11 +117,7 @@ fn firmware_of(rt: &impl Abort, alloc: Global, width: Width, block: &Block) -> F
     requires { IsValid block.now }
     ensures { result.outputs ≤ 4 }
 {
-    let firmware = match width {
-        Width::Byte => compile(alloc, block),
-        Width::Word => compile16(alloc, block),
-    };
-    let Ok(firmware) = firmware else {
+    let Ok(firmware) = compile_for(alloc, width, block) else {
         panic!(rt; "no firmware");
     };
     firmware

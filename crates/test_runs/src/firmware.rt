@@ -1,4 +1,5 @@
 //! The code of the heater in 16 bits, byte by byte.
+use byte_scaling::Width;
 use codegen::compile16;
 use fuzzy_meaning::heater;
 use std::test::Fail;
@@ -21,7 +22,7 @@ fn code_of_the_heater_in_16_bits(rt: HostRuntime) -> Result<(), Fail> {
     for (at, byte) in (0xC03D..=0xFFFF).zip(WORD_CODE) {
         assert!(rt; bytes.get(at) == Some(byte));
     }
-    assert!(rt; firmware.wide);
+    assert!(rt; firmware.width == Width::Word);
     assert!(rt; (firmware.instr_bound, firmware.step_bound) == (31, 39));
     Ok(())
 }

@@ -18,7 +18,7 @@ use Rattle.cpu12_emul.specs.Image.{byte_or_zero, image_memory, HoldsImage}
 use Rattle.eval_code.specs.declared.memory_map.MemoryMap.{MemoryMap}
 use Rattle.eval_code.specs.{MemoryMaps.main_map, Code.code_bytes, Items.block_items}
 use Rattle.eval_code.specs.Placed.{BlockStaysInside, GivesBehind, GiveBytes, BlockGivesBytes}
-use Rattle.byte_scaling.specs.{declared.width.Width.TheVariants.Byte, Widths.width_of}
+use Rattle.byte_scaling.specs.{declared.width.Width.Width, declared.width.Width.TheVariants.Byte}
 use Rattle.eval_code.specs.{Evaluation.HasAnswers, Evaluation.Reads, Evaluation.Writes, Standing.ImageIsBytes}
 use Rattle.alone_code.specs.{Code.frame_code, Images.vector_items, Images.firmware_items}
 use Rattle.alone_code.specs.Answers.{LeavesMapped, FirmwareAnswersBeside, FirmwareArrivesAlike}
@@ -161,8 +161,8 @@ byte_alone : HoldsImage → (slow fast : Block) (two : Two) (at : ℕ) → IsTwo
 byte_alone holds slow fast two at h lt =
     let alone = h.slow_alone in
     let image = alone.firmware.image in
-    let items : firmware_items main_map slow (width_of two.slow.wide) ≡ slow_block slow ++ vector_items main_map =
-    ap (λ (w : Bool). firmware_items main_map slow (width_of w)) alone.narrow in
+    let items : firmware_items main_map slow two.slow.width ≡ slow_block slow ++ vector_items main_map =
+    ap (λ (w : Width). firmware_items main_map slow w) alone.narrow in
     (holds two.slow.image.bytes).1 at lt
     ∙ ap byte_or_zero (image.bytes.bytes at ∙ ap (λ (xs : List Item). byte_at (given_by xs) at) items)
 

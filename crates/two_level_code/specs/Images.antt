@@ -1,6 +1,6 @@
 -- The image of a slow firmware with a fast block.
 -- Beside the promise.
-use Rattle.std.specs.Prelude.{◌≡◌, ℕ, ◌-◌, false, List, [], ◌∷◌, ◌++◌}
+use Rattle.std.specs.Prelude.{◌≡◌, ℕ, ◌-◌, List, [], ◌∷◌, ◌++◌}
 use Rattle.fuzzy_meaning.specs.declared.block.Block.{Block}
 use Rattle.cpu12_isa.specs.declared.instr.Instr.TheVariants.{Rts}
 use Rattle.cpu12_asm.specs.declared.items.Item.{Item}
@@ -26,7 +26,7 @@ two_items slow fast = fast_items fast ++ slow_items slow
 -- a block's firmware that answers bytes and stands alone
 pub record IsAlone (b : Block) (f : Firmware) : Type 0 where
   pub firmware : IsFirmwareOf b f
-  pub narrow : f.wide ≡ false
+  pub narrow : f.width ≡ Byte
 
 -- the bounds of a firmware are the block's, for answers of bytes
 pub record HasByteBounds (b : Block) (f : Firmware) : Type 0 where

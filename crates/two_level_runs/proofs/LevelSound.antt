@@ -1,12 +1,12 @@
 -- A slow firmware whose interrupts serve levels is a sound form.
-use Rattle.two_level_runs.proofs.Words.{◌*◌, ◌+◌, ◌<◌, ◌∙◌, ◌≡◌, ◌≤◌, ap, AreBytes, AreOpenAlike, arith, Bool}
-use Rattle.two_level_runs.proofs.Words.{FactsBeside, false, FastSeen, FastStands, fitted, fitted_form, given, inl}
+use Rattle.two_level_runs.proofs.Words.{◌*◌, ◌+◌, ◌<◌, ◌∙◌, ◌≡◌, ◌≤◌, ap, AreBytes, AreOpenAlike, arith}
+use Rattle.two_level_runs.proofs.Words.{FactsBeside, FastSeen, FastStands, fitted, fitted_form, given, inl}
 use Rattle.two_level_runs.proofs.Words.{is_open_to_fast, IsGoodLevel, length, Level, List, MemoryMap, OnStackOrNone}
 use Rattle.two_level_runs.proofs.Words.{Simulates, Sound, State, stepped, subst, suspended, sym, wav, WritesAgree}
 use Rattle.two_level_runs.proofs.Words.{WritesAreQuiet, ℕ}
 use Rattle.std.proofs.{Common.Option}
 use Rattle.eval_code.specs.{MemoryMaps.main_map}
-use Rattle.firmware_runs.specs.{Ports.answer_size}
+use Rattle.byte_scaling.specs.{declared.width.Width.Width, declared.width.Width.TheVariants.Byte, Widths.places}
 use Rattle.alone_runs.specs.{Following.IsLow, OpenBytes.StepLeavesOpen}
 use Rattle.alone_code.specs.Answers.{LeavesMapped}
 use Rattle.alone_runs.specs.SoundAloneProof.{LeavesPorts, given_alike, answered_alike, ended_alike}
@@ -18,8 +18,8 @@ use Rattle.two_level_runs.proofs.LevelServing.{LevelLaws, Given, few_outputs, se
 map_is : (x : Given) → x.two.slow.memory_map ≡ main_map
 map_is x = let is = x.is_two in let alone = is.slow_alone in let firmware = alone.firmware in firmware.memory_map
 
-wide_is : (x : Given) → x.two.slow.wide ≡ false
-wide_is x = let is = x.is_two in let alone = is.slow_alone in alone.narrow
+width_is : (x : Given) → x.two.slow.width ≡ Byte
+width_is x = let is = x.is_two in let alone = is.slow_alone in alone.narrow
 
 outputs_few : (x : Given) → x.two.slow.outputs ≤ 4
 outputs_few x =
@@ -35,8 +35,8 @@ ports_of x leaves = record {
   ready = ap (λ (l : MemoryMap). is_open_to_fast l.ready) (map_is x) ∙ leaves.ready;
   outputs = λ at from to. leaves.writes at (inl (
     subst (λ (l : MemoryMap). l.outputs ≤ at) (map_is x) from,
-    end at (subst (λ (wide : Bool). at < main_map.outputs + answer_size wide * x.two.slow.outputs) (wide_is x)
-        (subst (λ (l : MemoryMap). at < l.outputs + answer_size x.two.slow.wide * x.two.slow.outputs) (map_is x) to)),
+    end at (subst (λ (w : Width). at < main_map.outputs + places w * x.two.slow.outputs) (width_is x)
+        (subst (λ (l : MemoryMap). at < l.outputs + places x.two.slow.width * x.two.slow.outputs) (map_is x) to)),
   ));
 }
   where

@@ -114,7 +114,7 @@ pub fn compile_scrub(alloc: Global, block: &Block) -> Result<Firmware, LayoutFau
         memory_map,
         inputs: block.inputs.len() as u8,
         outputs: block.outputs.len() as u8,
-        wide: false,
+        width: Width::Byte,
         instr_bound,
         step_bound,
     })

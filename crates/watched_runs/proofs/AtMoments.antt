@@ -38,8 +38,8 @@ module _ (flags : ℕ) (f : Firmware) (qs : List Request) (n : ℕ) (x : Watched
 
   row_is : row_by (λ r. r.moment) ≡ row_of_watched flags f qs n x u
   unfolding end fault row_by seen_with
-  row_is = ap₂ seen_with (take_answers f.wide f.outputs f.memory_map.outputs end.mem fault)
-      (fault_behind f.wide f.outputs f.memory_map.outputs end.mem fault)
+  row_is = ap₂ seen_with (take_answers f.width f.outputs f.memory_map.outputs end.mem fault)
+      (fault_behind f.width f.outputs f.memory_map.outputs end.mem fault)
 
 pub same_rows : TakenAtOnce → (flags : ℕ) (f : Firmware) (plan : List Request) (k : ℕ) (ns : List ℕ)
     (xs : List Watched) (s : State) → AllComplete (FactsWatched flags) (watched_form flags f) ns xs s

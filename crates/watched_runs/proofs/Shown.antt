@@ -62,8 +62,8 @@ row_is f x t end row fault bytes answers by_row by_answers by_fault same_bytes =
     let made : RowSeen (List ℕ) → ℕ → FaultSeen = λ r v. record { row = r; fault = v } in
     let here = slice_index end.mem fault_at in
     let all = answers_in f end ++ here ∷ [] in
-    let taken = take_answers f.wide f.outputs f.memory_map.outputs end.mem here in
-    let behind = fault_behind f.wide f.outputs f.memory_map.outputs end.mem here in
+    let taken = take_answers f.width f.outputs f.memory_map.outputs end.mem here in
+    let behind = fault_behind f.width f.outputs f.memory_map.outputs end.mem here in
     ap (λ (r : RowSeen (List ℕ)). made r fault) by_row
     ∙ ap (made (row_with t bytes answers)) (by_fault ∙ sym behind)
     ∙ ap (λ (ys : List ℕ). made (row_with t bytes ys) (slice_index all f.outputs)) (by_answers ∙ sym taken)

@@ -1,5 +1,5 @@
 -- Where whole instructions answer all samples with their upsets, so do the rows under every good plan.
-use Rattle.std.proofs.Common.{◌≡◌, ℕ, suc, ◌+◌, ◌-◌, ◌*◌, ◌^◌, ◌<◌, ◌≤◌, Bool, false, List, [], ◌∷◌, ◌++◌, length, map}
+use Rattle.std.proofs.Common.{◌≡◌, ℕ, suc, ◌+◌, ◌-◌, ◌*◌, ◌^◌, ◌<◌, ◌≤◌, List, [], ◌∷◌, ◌++◌, length, map}
 use Rattle.std.proofs.Common.{take, refl}
 use Rattle.std.proofs.Common.{ap, sym, ◌∙◌, subst, arith, inl, inr, ◌⊎◌}
 use Rattle.std.specs.Prelude.{All, slice_index}
@@ -14,13 +14,14 @@ use Rattle.interrupt_plan.specs.{Plans.IsGood, Upsets.IsGoodUpset}
 use Rattle.alone_code.specs.{declared.firmware.Firmware.Firmware, Answers.IsArrived, Interruptible.is_idle}
 use Rattle.eval_code.specs.declared.memory_map.MemoryMap.{MemoryMap}
 use Rattle.eval_code.specs.{Bounds.steps_by, Bounds.instruction_bound, Firing.AreInputBytes}
+use Rattle.byte_scaling.specs.{declared.width.Width.Width, declared.width.Width.TheVariants.Byte, Widths.places}
 use Rattle.watched_code.specs.Watched.{Watched, changed, restored, upset_given, watched_answer, IsTableChange}
 use Rattle.watched_code.specs.Watched.{IsGoodSample, IsWatchAnswered, AreWatchAnswered, IsWatchedFirmwareOf}
 use Rattle.watched_code.specs.Watched.{watched_bound}
 use Rattle.watched_code.specs.WatchedCode.{fault_at, watched_map}
 use Rattle.run_law.specs.{Forms.rows_from, Uninterrupted.uninterrupted}
 use Rattle.run_law.specs.Following.{Completes, AllComplete, AllWithin, AllFollow, expected_row, expected_rows}
-use Rattle.firmware_runs.specs.Ports.{answer_size, answers_at, answers_in}
+use Rattle.firmware_runs.specs.Ports.{answers_at, answers_in}
 use Rattle.alone_runs.specs.{Rows.requests_of, Rows.first_state, Following.IsLow, Following.Nothing}
 use Rattle.firmware_runs.specs.Facts.{HasImageBytes, WaitsAlone}
 use Rattle.firmware_runs.specs.Instructions.{AreSteps, IsServing}
@@ -40,7 +41,7 @@ record HasPorts (b : Block) (f : Firmware) : Type 0 where
   low : IsLow f
   few : length b.outputs ≤ 4
   outputs : f.outputs ≡ length b.outputs
-  narrow : f.wide ≡ false
+  narrow : f.width ≡ Byte
   steps : f.step_bound ≡ steps_by b f.instr_bound
   enough : 3 ≤ f.step_bound
 
@@ -176,7 +177,7 @@ value_is b f p t o a from to e =
     let few = p.few in
     let room = p.answers in
     let at : f.memory_map.outputs + (o - 1) ≡ f.memory_map.outputs + 1 * (o - 1) = omega arith in
-    ap (λ (wide : Bool). slice_index (answers_at wide f.outputs f.memory_map.outputs t.mem) (o - 1)) p.narrow
+    ap (λ (w : Width). slice_index (answers_at w f.outputs f.memory_map.outputs t.mem) (o - 1)) p.narrow
     ∙ answer_there f.outputs f.memory_map.outputs t.mem (o - 1) (omega (arith, n, from, to))
     (omega (arith, n, few, room))
     ∙ ap (λ (i : ℕ). slice_index t.mem i) at ∙ e
@@ -191,14 +192,14 @@ row_is b f p flags before x s t qs a g =
     let at = f.memory_map.outputs in
     let fault = slice_index end.mem fault_at in
     let seen : take f.outputs (answers_in f end ++ fault ∷ []) ≡ answers_in f t =
-    take_answers f.wide f.outputs at end.mem fault ∙ ap (answers_in f) g.goes in
+    take_answers f.width f.outputs at end.mem fault ∙ ap (answers_in f) g.goes in
     record {
       sample = refl;
       values = λ o from to.
           (let there = a.answers o from to in
           ap (λ (vs : List ℕ). slice_index vs (o - 1)) seen ∙ value_is b f p t o (next b f x before o) from to there.0);
-      count = ap length seen ∙ length_answers f.wide f.outputs at t.mem ∙ p.outputs;
-      fault = fault_behind f.wide f.outputs at end.mem fault ∙ ap (λ (u : State). slice_index u.mem fault_at) g.goes
+      count = ap length seen ∙ length_answers f.width f.outputs at t.mem ∙ p.outputs;
+      fault = fault_behind f.width f.outputs at end.mem fault ∙ ap (λ (u : State). slice_index u.mem fault_at) g.goes
           ∙ a.fault;
       instructions = subst (λ (n : ℕ). n ≤ f.instr_bound) (sym g.counts) a.instructions;
       steps = subst (λ (n : ℕ). all_steps a.ds ≤ n) (sym p.steps) a.steps;
@@ -299,9 +300,9 @@ enough_steps : (b : Block) → length b.outputs ≤ 4 → 3 ≤ steps_by b (watc
 unfolding steps_by instruction_bound watched_bound
 enough_steps b few = omega arith
 
-few_answers : (wide : Bool) (n : ℕ) → wide ≡ false → n ≤ 4 → answer_size wide * n ≤ 4
-few_answers wide n e few =
-    subst (λ (k : ℕ). k * n ≤ 4) (sym (ap answer_size e)) (let one : 1 * n ≤ 4 = omega arith in one)
+few_answers : (w : Width) (n : ℕ) → w ≡ Byte → n ≤ 4 → places w * n ≤ 4
+few_answers w n e few =
+    subst (λ (k : ℕ). k * n ≤ 4) (sym (ap places e)) (let one : 1 * n ≤ 4 = omega arith in one)
 
 ports : (b : Block) (f : Firmware) → length b.outputs ≤ 4 → IsWatchedFirmwareOf b f → HasPorts b f
 ports b f few h =
@@ -310,7 +311,7 @@ ports b f few h =
     let outputs : f.memory_map.outputs ≡ 0x1010 = at (λ l. l.outputs) in
     let ready : f.memory_map.ready ≡ 0x1000 = at (λ l. l.ready) in
     let n = h.outputs in
-    let size = few_answers f.wide f.outputs h.narrow (omega (arith, n, few)) in
+    let size = few_answers f.width f.outputs h.narrow (omega (arith, n, few)) in
     let steps : f.step_bound ≡ steps_by b f.instr_bound = h.steps ∙ sym (ap (steps_by b) h.instructions) in
     record {
       samples = omega (arith, samples);

@@ -5,7 +5,7 @@ use Rattle.alone_code.proofs.Words.{firmware_items, FirmwareAnswers, FitCode, fr
 use Rattle.alone_code.proofs.Words.{HasFirmware, Holds, image_memory, inl, inr, instruction_bound, is_free, IsApart}
 use Rattle.alone_code.proofs.Words.{IsFramed, IsInCode, IsInOrder, IsRising, IsShut, IsStarted, IsValid}
 use Rattle.alone_code.proofs.Words.{IsWithinLimits, length, List, LowerLaws, main_map, MemoryMap, nat_tests, Reads}
-use Rattle.alone_code.proofs.Words.{refl, Rts, Setting, start_code, State, subst, sym, Width, width_of, Writes, ℕ}
+use Rattle.alone_code.proofs.Words.{refl, Rts, Setting, start_code, State, subst, sym, Width, Writes, ℕ}
 use Rattle.alone_code.specs.{Answers.IsArrivedBeside, Answers.LeavesMapped, Frames.Arrived}
 use Rattle.alone_code.specs.Answers.{FreeBytesLeave, FirmwareAnswersBeside, ArrivesAlike, FirmwareArrivesAlike}
 use Rattle.alone_code.proofs.runs.Stepping.{interruptible_of}
@@ -173,7 +173,7 @@ from_arrival c b w samples h all =
 
 pub firmware_answers_beside : LowerLaws → FirmwareAnswersBeside
 firmware_answers_beside laws open_to b f leaves v limits h flags samples fits all =
-    let w = width_of f.wide in
+    let w = f.width in
     let image = image_memory f.image.bytes in
     let mine : LeavesMapped open_to main_map = subst (λ (l : MemoryMap). LeavesMapped open_to l) h.memory_map leaves in
     let c = over_main laws open_to mine image flags fits in
@@ -205,7 +205,7 @@ alike c b w mem h started reset agree =
 
 pub firmware_arrives_alike : LowerLaws → FirmwareArrivesAlike
 firmware_arrives_alike laws open_to b f mem flags fits leaves v limits h agree =
-    let w = width_of f.wide in
+    let w = f.width in
     let image = image_memory f.image.bytes in
     let mine : LeavesMapped open_to main_map = subst (λ (l : MemoryMap). LeavesMapped open_to l) h.memory_map leaves in
     let c = over_main laws open_to mine image flags fits in

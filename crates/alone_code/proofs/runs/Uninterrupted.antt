@@ -4,7 +4,7 @@ use Rattle.alone_code.proofs.Words.{AreAnswersTo, arith, Block, Bool, Byte, byte
 use Rattle.alone_code.proofs.Words.{FirmwareAnswers, get_or, given, HasBytes, image_memory, inl, inr, is_free}
 use Rattle.alone_code.proofs.Words.{is_idle, IsInterruptibleStep, IsShownInstruction, IsStepBefore, length, List}
 use Rattle.alone_code.proofs.Words.{MemoryMap, nat_tests, places, PlainExecution, refl, reset_with, State, subst, suc}
-use Rattle.alone_code.proofs.Words.{sym, true, values_in, Width, width_of, Word, zero, ℕ}
+use Rattle.alone_code.proofs.Words.{sym, true, values_in, Width, Word, zero, ℕ}
 use Rattle.alone_code.specs.Uninterrupted.{value_at, values_from, is_waiting, UninterruptedAreOne, answers_by}
 use Rattle.alone_code.specs.Uninterrupted.{AnsweredAreUninterrupted}
 use Rattle.cpu12_isa.specs.{Memory.word_of}
@@ -100,12 +100,12 @@ value_from w m at (suc n) (suc k) v lt h =
 -- the answers of samples that are answered
 seen : (b : Block) (f : Firmware) (image : List ℕ) (flags : ℕ) (before : ℕ → ℕ) (samples : List (List ℕ)) (s : State)
     → f.outputs ≡ length b.outputs
-    → (h : AreAnswered f.memory_map b (width_of f.wide) f.instr_bound image flags before samples s)
+    → (h : AreAnswered f.memory_map b f.width f.instr_bound image flags before samples s)
     → AreAnswersTo f flags samples (answers_by b f image flags before samples s h) s
-    × AreAnswersOf (width_of f.wide) b f.instr_bound before samples (answers_by b f image flags before samples s h)
+    × AreAnswersOf f.width b f.instr_bound before samples (answers_by b f image flags before samples s h)
 seen b f image flags before [] s e h = (tt, tt)
 seen b f image flags before (bytes ∷ samples) s e h =
-    let w = width_of f.wide in
+    let w = f.width in
     let one = h.1.0 in
     let rest = seen b f image flags (λ o. answer w b o bytes (before o)) samples h.0 e h.1.1 in
     let until : IsUntil (is_idle f.memory_map) flags one.ds (given f.memory_map bytes s) h.0 =

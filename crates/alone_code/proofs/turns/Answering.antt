@@ -7,7 +7,7 @@ use Rattle.alone_code.proofs.Words.{HasBytes, if◌then◌else◌, image_memory,
 use Rattle.alone_code.proofs.Words.{IsChoice, IsCopied, IsLook, IsMaskedStep, IsStepBefore, IsValid, LdaaExtended}
 use Rattle.alone_code.proofs.Words.{length, length-append, length-put, List, mailbox_map, MailboxTakesPosts}
 use Rattle.alone_code.proofs.Words.{MemoryMap, nat_tests, Orcc, places, put, refl, reset_with, same_bytes, State}
-use Rattle.alone_code.proofs.Words.{StaysFit, subst, suc, sym, TakesTurns, values_in, Width, width_of, zero, ℕ}
+use Rattle.alone_code.proofs.Words.{StaysFit, subst, suc, sym, TakesTurns, values_in, Width, zero, ℕ}
 use Rattle.eval_code.proofs.{Algebra.bytes_by}
 use Rattle.alone_code.specs.Turns.{MailboxIsUninterrupted, call_of}
 use Rattle.alone_code.specs.SampleTurns.{IsSampleTurn, TakesSamples, MailboxTakesSamples}
@@ -185,7 +185,7 @@ takes_samples p b w most turns v =
 pub mailbox_takes_samples : StaysFit → DecodesWhereItStands → MailboxTakesPosts → MailboxTakesSamples
 mailbox_takes_samples stays_fit decodes law b f flags v limits h fits =
     let image = image_memory f.image.bytes in
-    let w = width_of f.wide in
+    let w = f.width in
     let p : Post = record {
       stays_fit = stays_fit;
       decodes = decodes;
@@ -204,15 +204,15 @@ mailbox_takes_samples stays_fit decodes law b f flags v limits h fits =
 -- a list of samples
 abbrev Both : Firmware → Block → ℕ → (ℕ → ℕ) → List (List ℕ) → State → List Answer → Type 0
 Both f b flags before samples s answers =
-    AreAnswersTo f flags samples answers s × AreAnswersOf (width_of f.wide) b f.instr_bound before samples answers
+    AreAnswersTo f flags samples answers s × AreAnswersOf f.width b f.instr_bound before samples answers
 
 more : (f : Firmware) (b : Block) (flags : ℕ) (before : ℕ → ℕ) (bytes : List ℕ) (samples : List (List ℕ)) (s t : State)
     → f.outputs ≡ length b.outputs
-    → IsSampleTurn f.memory_map b (width_of f.wide) f.instr_bound (image_memory f.image.bytes) flags before bytes s t
-    → (rest : List Answer) → Both f b flags (λ o. answer (width_of f.wide) b o bytes (before o)) samples t rest
+    → IsSampleTurn f.memory_map b f.width f.instr_bound (image_memory f.image.bytes) flags before bytes s t
+    → (rest : List Answer) → Both f b flags (λ o. answer f.width b o bytes (before o)) samples t rest
     → (answers : List Answer) × Both f b flags before (bytes ∷ samples) s answers
 more f b flags before bytes samples s t e one rest both =
-    let w = width_of f.wide in
+    let w = f.width in
     let copy = one.copy in
     let turned = one.turned in
     let ds : List ℕ = 0 ∷ 0 ∷ 0 ∷ (copy.ds ++ turned.ds) in (
@@ -234,15 +234,15 @@ more f b flags before bytes samples s t e one rest both =
 
 all_answered : (f : Firmware) (b : Block) (flags : ℕ) (before : ℕ → ℕ) (samples : List (List ℕ)) (s : State)
     → f.outputs ≡ length b.outputs
-    → TakesSamples f.memory_map b (width_of f.wide) f.instr_bound (image_memory f.image.bytes) flags
+    → TakesSamples f.memory_map b f.width f.instr_bound (image_memory f.image.bytes) flags
     → All (AreInputBytes b) samples
-    → IsAt (image_memory f.image.bytes) f.memory_map.wait s → HasAnswers f.memory_map b (width_of f.wide) before s.mem
+    → IsAt (image_memory f.image.bytes) f.memory_map.wait s → HasAnswers f.memory_map b f.width before s.mem
     → (answers : List Answer) × Both f b flags before samples s answers
 all_answered f b flags before [] s e takes all at outs = ([], (tt, tt))
 all_answered f b flags before (bytes ∷ samples) s e takes all at outs =
     let one = takes.answers before bytes s (all 0 bytes (omega arith)) at outs in
     let turned = one.1.turned in
-    let rest = all_answered f b flags (λ o. answer (width_of f.wide) b o bytes (before o)) samples one.0 e takes
+    let rest = all_answered f b flags (λ o. answer f.width b o bytes (before o)) samples one.0 e takes
     (λ k d lt. all (suc k) d (omega arith)) turned.at turned.answers in
     more f b flags before bytes samples s one.0 e one.1 rest.0 rest.1
 

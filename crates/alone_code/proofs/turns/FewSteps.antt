@@ -1,11 +1,11 @@
 -- How many steps a sample takes the mailbox firmware at most.
-use Rattle.alone_code.proofs.Words.{arith, mailbox_bound, width_of}
+use Rattle.alone_code.proofs.Words.{arith, mailbox_bound}
 use Rattle.alone_code.specs.{Mailboxes.MailboxStepsAreFew}
 use Rattle.eval_code.specs.Bounds.{BoundsAreFew}
 
 pub steps_are_few : BoundsAreFew → MailboxStepsAreFew
 steps_are_few few b f valid limits h =
-    let w = width_of f.wide in
+    let w = f.width in
     let bound = few b w (mailbox_bound w b) valid limits in
     let steps = h.steps in
     let inputs = valid.few_inputs in

@@ -2,7 +2,7 @@
 use Rattle.alone_code.proofs.Words.{◌<◌, ◌^◌, ◌≤◌, arith, Block, given_by, HasFirmware, Holds, image_memory, IsValid}
 use Rattle.alone_code.proofs.Words.{IsWithinLimits, length, List, LowerLaws, mailbox_bound, mailbox_code}
 use Rattle.alone_code.proofs.Words.{mailbox_items, mailbox_map, MailboxTakesPosts, MemoryMap, refl, subst, sym}
-use Rattle.alone_code.proofs.Words.{TakesTurns, Width, width_of, ℕ}
+use Rattle.alone_code.proofs.Words.{TakesTurns, Width, ℕ}
 use Rattle.alone_code.proofs.{runs.Arriving.arrive, runs.Standing.has_firmware, turns.Copying.copies_run}
 use Rattle.alone_code.proofs.turns.Posting.{Post, post_ctx, at_of}
 use Rattle.alone_code.proofs.turns.Looking.{look_run, choose_run}
@@ -85,7 +85,7 @@ with_items laws b w image flags fits v limits h =
 pub mailbox_takes_posts : LowerLaws → MailboxTakesPosts
 mailbox_takes_posts laws b f v limits h flags fits =
     let l = mailbox_map (length b.inputs) in
-    let w = width_of f.wide in
+    let w = f.width in
     let image = image_memory f.image.bytes in
     let takes = with_items laws b w f.image.bytes flags fits v limits h.image.bytes in
     subst (λ (k : MemoryMap). TakesTurns k b w f.instr_bound image flags) (sym h.memory_map)

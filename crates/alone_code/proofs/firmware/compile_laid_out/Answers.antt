@@ -1,13 +1,7 @@
-use Rattle.alone_code.proofs.Words.{◌<◌, ◌^◌, ◌∙◌, ◌≡◌, ap, Bool, Byte, firmware_items, instruction_bound, IsImageOf}
-use Rattle.alone_code.proofs.Words.{IsRising, Item, length, List, main_map, refl, rules, steps_by, subst, sym, Width}
-use Rattle.alone_code.proofs.Words.{width_of, Word}
-use Rattle.byte_scaling.specs.{Widths.is_wide}
+use Rattle.alone_code.proofs.Words.{◌<◌, ◌^◌, ◌∙◌, ap, IsImageOf, IsRising, Item, length, List, refl, rules}
+use Rattle.alone_code.proofs.Words.{steps_by, subst, sym}
 use Rattle.alone_code.proofs.runs.Law.{main_rises, length-main_items}
 use Rattle.alone_code.proofs.firmware.compile_laid_out.Goals as goal
-
-width_back : (w : Width) (wide : Bool) → wide ≡ is_wide w → w ≡ width_of wide
-width_back Byte wide e = ap width_of (sym e)
-width_back Word wide e = ap width_of (sym e)
 
 pub image_of-requires-clause-few : goal.image_of-requires-clause-few
 image_of-requires-clause-few c =
@@ -24,20 +18,14 @@ image_of-requires-clause-rising c =
 pub returns-clause-firmware : goal.returns-clause-firmware
 returns-clause-firmware c =
     let b = c.args.block.now in
-    let w = c.args.width in
-    let same = width_back w c.is_wide.result c.is_wide.ensures in
     let e = c.as_slice.ensures.value ∙ c.in_ok-items.ensures in
     record {
-      image =
-          subst (λ (k : Width). IsImageOf (firmware_items main_map b k) c.in_ok-image.image) same
-          (subst (λ (xs : List Item). IsImageOf xs c.in_ok-image.image) e c.in_ok-image.ensures);
+      image = subst (λ (xs : List Item). IsImageOf xs c.in_ok-image.image) e c.in_ok-image.ensures;
       memory_map = refl;
       inputs = search rules;
       outputs = search rules;
-      instructions = c.instruction_bound-instr_bound.ensures.value ∙ ap (λ (k : Width). instruction_bound k b) same;
-      steps = c.steps_by-step_bound.ensures
-          ∙ ap (steps_by b) (c.instruction_bound-instr_bound.ensures.value
-          ∙ ap (λ (k : Width). instruction_bound k b) same);
+      instructions = c.instruction_bound-instr_bound.ensures.value;
+      steps = c.steps_by-step_bound.ensures ∙ ap (steps_by b) c.instruction_bound-instr_bound.ensures.value;
     }
 
 pub returns-clause-answers : goal.returns-clause-answers

@@ -10,9 +10,9 @@ loop-left-preserved g c =
     let f = c.args.firmware.now in
     let l = c.loop-left in
     record {
-      answers = ap₂ (λ (vs : List ℕ) (at : ℕ). vs ++ answers_at f.wide (l.left - 1) at mem)
+      answers = ap₂ (λ (vs : List ℕ) (at : ℕ). vs ++ answers_at f.width (l.left - 1) at mem)
           (c.push.ensures.items ∙ ap (λ (v : ℕ). l.answers.items ++ v ∷ []) c.answer_at.ensures)
-          (ap (λ (k : ℕ). plus l.at k) c.answer_size-at.ensures)
-          ∙ answer_more f.wide mem l.at l.left l.answers.items (omega arith) ∙ l.invariant.answers;
+          (ap (λ (k : ℕ). plus l.at k) c.places-at.ensures.value)
+          ∙ answer_more f.width mem l.at l.left l.answers.items (omega arith) ∙ l.invariant.answers;
       room = omega arith;
     }

@@ -6,7 +6,7 @@ use Rattle.firmware_runs.proofs.ports.answers.Given as goal
 -- what is there and what is to come are all the answers
 abbrev pub invariant-loop-left : goal.invariant-loop-left
 invariant-loop-left g l = record {
-  answers : l.answers.items ++ answers_at l.firmware.wide l.left l.at l.m.state.mem ≡ answers_at l.firmware.wide
+  answers : l.answers.items ++ answers_at l.firmware.width l.left l.at l.m.state.mem ≡ answers_at l.firmware.width
       l.firmware.outputs l.firmware.memory_map.outputs l.m.state.mem;
   room : array_vec_len l.answers + l.left ≡ l.firmware.outputs;
 }
