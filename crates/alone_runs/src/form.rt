@@ -3,6 +3,11 @@ ghost use Rattle.std.specs.Prelude.{ℕ, ◌≡◌, ◌<◌, ◌≤◌, Some, Li
 ghost use Rattle.run_law.specs.Forms.{RowSeen};
 ghost use Rattle.run_forms.specs.{Rest.counted_at, Rest.shown_by, Rooms.Fits};
 ghost use Rattle.alone_runs.specs.Rows.{writes_harness};
+ghost use Rattle.cpu12_emul.specs.Simulation.{OnStackOnly};
+ghost use Rattle.interrupt_plan.specs.Plans.{IsGoodRequest};
+ghost use Rattle.interrupt_plan.specs.declared.Request as plan;
+ghost use Rattle.alone_runs.specs.{Forms.with_writes, Following.Alone, Following.Nothing, SoundAloneProof.sound};
+ghost use Rattle.firmware_runs.specs.Facts.{FactsBeside};
 
 use crate::rows::{Row, row_of};
 use alone_code::Firmware;
@@ -12,12 +17,14 @@ use firmware_runs::{answers, give, is_busy_here, is_idle};
 use fz_list::Memory;
 use interrupt_plan::Request;
 use run_forms::{Counts, Notes, RunForm, SampleForm, room_for};
+use run_law::laws::SoundForm;
 use std::alloc::Global;
 use trace_io::Sample;
 
-/// A firmware that stands alone, with a trace. Its handler does the writes that a request lists.
+/// A firmware that stands alone, with a trace. Its handler does the writes that a request lists, to free bytes, whatever
+/// more is open.
 #[derive(Drop)]
-pub struct WithWrites<'a> {
+pub struct AloneForm<'a> {
     /// The firmware, of at most four outputs.
     pub firmware: &'a Firmware,
     /// The trace.
@@ -25,7 +32,7 @@ pub struct WithWrites<'a> {
     ghost outputs: { firmware.now.outputs ≤ 4 },
 }
 
-impl<'a> SampleForm<Request, Notes<()>, Row> for WithWrites<'a> {
+impl<'a> SampleForm<Request, Notes<()>, Row> for AloneForm<'a> {
     ghost Given = { List ℕ };
 
     ghost Told = { Unit {0} };
@@ -63,7 +70,7 @@ impl<'a> SampleForm<Request, Notes<()>, Row> for WithWrites<'a> {
     }
 }
 
-impl<'a> RunForm<Request, Notes<()>, Row> for WithWrites<'a> {
+impl<'a> RunForm<Request, Notes<()>, Row> for AloneForm<'a> {
     fn count(&self) -> usize {
         self.samples.len()
     }
@@ -95,4 +102,28 @@ impl<'a> RunForm<Request, Notes<()>, Row> for WithWrites<'a> {
         let bytes = self.samples[k].bytes.as_slice();
         row_of(bytes, answers(self.firmware, m), counts)
     }
+}
+
+impl<'a> SoundForm for AloneForm<'a> {
+    ghost Setting = { Alone };
+
+    ghost Sample = { List ℕ };
+
+    ghost Request = { plan.Request };
+
+    ghost Told = { Unit {0} };
+
+    ghost form = { λ x. with_writes x.flags x.firmware };
+
+    ghost marks = { OnStackOnly };
+
+    ghost open_to = { λ x. x.open_to };
+
+    ghost holds = { λ x. FactsBeside x.open_to x.flags x.firmware };
+
+    ghost good = { λ _. IsGoodRequest };
+
+    ghost own = { λ _. Nothing };
+
+    ghost sound = { λ x agree quiet. sound x.open_to x.opens x.flags x.firmware x.low agree quiet };
 }

@@ -4,7 +4,7 @@ ghost use Rattle.alone_runs.specs.Following.{RunsFollowAlone, RunsFollowBeside};
 ghost use Rattle.alone_runs.specs.Given.{PlansAreInOrder, RequestsAreGood};
 ghost use Rattle.alone_runs.specs.OpenBytes.{GivenLeavesOpen, StepsLeaveOpen};
 
-use crate::alone::StandAlone;
+use crate::form::AloneForm;
 use alone_code::laws::{
     answered_are_uninterrupted, firmware_answers, firmware_answers_beside, firmware_arrives_alike,
 };
@@ -34,7 +34,7 @@ pub fn runs_follow_alone()
 pub fn runs_follow_beside()
     ensures { RunsFollowBeside }
 {
-    runs_follow::<StandAlone>();
+    runs_follow::<AloneForm>();
 }
 
 /// The firmware of a block, of either width, answers every list of samples under every good plan as

@@ -11,11 +11,10 @@
 //! is taken before the first step. [`run_on`] is a [`Session`] driven to its end: a run that stops at
 //! each boundary.
 //!
-//! Both are runs of one form of firmware, [`form::WithWrites`], by the loop that runs any other
+//! Both are runs of one form of firmware, [`form::AloneForm`], by the loop that runs any other
 //! ([`run_forms::run_form`]).
 #![tactic(auto)]
 
-pub mod alone;
 pub mod form;
 pub mod laws;
 mod rows;

@@ -7,7 +7,7 @@ ghost use Rattle.alone_runs.specs.Rows.{row_seen, first_state, firmware_rows};
 ghost use Rattle.trace_io.specs.Traces.{input_bytes};
 ghost use Rattle.run_forms.specs.RunRests.{from_here, at_position, of_run};
 
-use crate::form::WithWrites;
+use crate::form::AloneForm;
 use crate::rows::Row;
 use alone_code::Firmware;
 use cpu12_emul::machine::Machine;
@@ -29,7 +29,7 @@ use trace_io::Sample;
 #[derive(Drop)]
 pub struct Session<'a, M: Mem> {
     machine: Machine<M>,
-    form: WithWrites<'a>,
+    form: AloneForm<'a>,
     plan: &'a Plan,
     run_state: RunState<Notes<()>, Row>,
 }
@@ -68,8 +68,8 @@ impl<'a, M: Mem> Session<'a, M> {
             (firmware_rows firmware.now (map input_bytes samples.now) plan.now flags)) }
         ensures noted { IfOk result (λ s. s.noted ≡ nothing_noted) }
     {
-        rows_are_shown::<Request, Notes<()>, Row, WithWrites>();
-        let form = WithWrites { firmware, samples };
+        rows_are_shown::<Request, Notes<()>, Row, AloneForm>();
+        let form = AloneForm { firmware, samples };
         let start = Start {
             image: &firmware.image,
             wait: firmware.memory_map.wait,

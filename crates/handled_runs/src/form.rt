@@ -3,6 +3,12 @@ ghost use Rattle.std.specs.Prelude.{ℕ, ◌≡◌, ◌≤◌, ◌<◌, List, So
 ghost use Rattle.run_forms.specs.{Rest.counted_at, Rest.shown_by, Rooms.Fits};
 ghost use Rattle.handled_runs.specs.Forms.{HandledSeen, code_harness, steps_of};
 ghost use Rattle.handled_runs.specs.declared.back.HandlerEnd as end;
+ghost use Rattle.cpu12_emul.specs.Simulation.{OnStackOnly};
+ghost use Rattle.interrupt_plan.specs.Plans.{IsGoodRequest};
+ghost use Rattle.interrupt_plan.specs.declared.Request as plan;
+ghost use Rattle.firmware_runs.specs.Facts.{FactsBeside};
+ghost use Rattle.handled_runs.specs.{Open.is_open_to_code, Forms.with_code};
+ghost use Rattle.handled_runs.specs.SoundHandledProof.{Handled, HandlerStands, sound};
 
 use crate::back::{HandlerEnd, until_rti};
 use crate::rows::HandledRow;
@@ -14,12 +20,14 @@ use firmware_runs::{answers, give, is_busy_here, is_idle};
 use fz_list::Memory;
 use interrupt_plan::Request;
 use run_forms::{Counts, Notes, RunForm, SampleForm, room_for};
+use run_law::laws::SoundForm;
 use std::alloc::Global;
 use trace_io::Sample;
 
-/// A firmware that stands alone beside a handler in memory, with a trace.
+/// A firmware that stands alone beside a handler in memory, with a trace. Where the handler is accepted it is a sound
+/// form.
 #[derive(Drop)]
-pub(crate) struct WithCode<'a> {
+pub(crate) struct HandledForm<'a> {
     /// The firmware, of at most four outputs.
     pub(crate) firmware: &'a Firmware,
     /// The trace.
@@ -35,7 +43,7 @@ fn steps_in(told: &[HandlerEnd]) -> u32
     told.iter().map(|end| u32::from(end.steps)).sum()
 }
 
-impl<'a> SampleForm<Request, Notes<HandlerEnd>, HandledRow> for WithCode<'a> {
+impl<'a> SampleForm<Request, Notes<HandlerEnd>, HandledRow> for HandledForm<'a> {
     ghost Given = { List ℕ };
 
     ghost Told = { end.HandlerEnd };
@@ -74,7 +82,7 @@ impl<'a> SampleForm<Request, Notes<HandlerEnd>, HandledRow> for WithCode<'a> {
     }
 }
 
-impl<'a> RunForm<Request, Notes<HandlerEnd>, HandledRow> for WithCode<'a> {
+impl<'a> RunForm<Request, Notes<HandlerEnd>, HandledRow> for HandledForm<'a> {
     fn count(&self) -> usize {
         self.samples.len()
     }
@@ -109,4 +117,28 @@ impl<'a> RunForm<Request, Notes<HandlerEnd>, HandledRow> for WithCode<'a> {
         let row = row_of(bytes, answers(self.firmware, m), counts);
         HandledRow { row, handler }
     }
+}
+
+impl<'a> SoundForm for HandledForm<'a> {
+    ghost Setting = { Handled };
+
+    ghost Sample = { List ℕ };
+
+    ghost Request = { plan.Request };
+
+    ghost Told = { end.HandlerEnd };
+
+    ghost form = { λ x. with_code x.flags x.firmware };
+
+    ghost marks = { OnStackOnly };
+
+    ghost open_to = { λ _. is_open_to_code };
+
+    ghost holds = { λ x. FactsBeside is_open_to_code x.flags x.firmware };
+
+    ghost good = { λ _. IsGoodRequest };
+
+    ghost own = { λ x. HandlerStands x.handler x.most };
+
+    ghost sound = { λ x agree quiet. sound x agree quiet };
 }

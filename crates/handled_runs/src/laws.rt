@@ -2,8 +2,7 @@
 ghost use Rattle.handled_runs.specs.Answering.{HandledAnswers, HandlersRunAlike};
 
 use crate::back::HandlerEnd;
-use crate::form::WithCode;
-use crate::handled::HandledForm;
+use crate::form::HandledForm;
 use crate::rows::HandledRow;
 use alone_runs::laws::{
     firmware_runs_beside, first_states_agree, first_states_alike, given_leaves_open,
@@ -33,7 +32,7 @@ pub fn handled_answers()
     runs_follow_beside();
     requests_are_good();
     runs_follow::<HandledForm>();
-    rows_are_shown::<Request, Notes<HandlerEnd>, HandledRow, WithCode>();
+    rows_are_shown::<Request, Notes<HandlerEnd>, HandledRow, HandledForm>();
 }
 
 /// Handlers with the same bytes give the same rows.

@@ -9,7 +9,6 @@
 
 mod back;
 mod form;
-mod handled;
 mod joint;
 pub mod laws;
 mod rows;

@@ -5,7 +5,7 @@ ghost use Rattle.interrupt_plan.specs.Plans.{IsGood};
 ghost use Rattle.trace_io.specs.Traces.{input_bytes};
 ghost use Rattle.handled_runs.specs.{Forms.row_seen, Forms.handled_seen, Answering.HandlesItsBlock};
 
-use crate::form::WithCode;
+use crate::form::HandledForm;
 use crate::joint::joint_image;
 use crate::laws::handled_answers;
 use alone_code::Firmware;
@@ -44,7 +44,7 @@ fn joint_rows(
     plans_are_in_order();
     images_load_alike();
     let joint = joint_image(alloc, &firmware.image, image)?;
-    let form = WithCode { firmware, samples };
+    let form = HandledForm { firmware, samples };
     let start = Start {
         image: &joint,
         wait: firmware.memory_map.wait,

@@ -3,6 +3,11 @@ ghost use Rattle.std.specs.Prelude.{◌≡◌, ◌≤◌, ◌<◌, ◌+◌, ◌+
 ghost use Rattle.run_forms.specs.Rooms.{Fits};
 ghost use Rattle.interrupt_plan.specs.Posts.{IsGoodPost};
 ghost use Rattle.mailbox_runs.specs.Runs.{writes_from, post_writes, input_bytes, turn_harness};
+ghost use Rattle.cpu12_emul.specs.Simulation.{OnStackOnly};
+ghost use Rattle.interrupt_plan.specs.declared.Post as plan;
+ghost use Rattle.alone_code.specs.Mailboxes.{is_postable};
+ghost use Rattle.firmware_runs.specs.Facts.{FactsBeside};
+ghost use Rattle.mailbox_runs.specs.Behind.{part_form, Copied, HoldsMail};
 
 use alone_code::Firmware;
 use cpu12_emul::machine::Machine;
@@ -11,15 +16,16 @@ use cpu12_isa::mem::Mem;
 use eval_code::MemoryMap;
 use interrupt_plan::Post;
 use run_forms::{Notes, SampleForm};
+use run_law::laws::SoundForm;
 use trace_io::Sample;
 
 /// The most writes of a post: eight inputs, POSTED, and eight of its own.
 const MOST_WRITES: usize = 17;
 
 /// A turn of the mailbox form of a firmware under posts of these samples, from one arrival where the code waits to the
-/// next. It is given nothing.
+/// next. It is given nothing. Behind the copy it is a sound form, to whose posts the mailbox is open too.
 #[derive(Drop)]
-pub(crate) struct WithPosts<'a> {
+pub(crate) struct MailboxForm<'a> {
     pub(crate) firmware: &'a Firmware,
     pub(crate) samples: &'a [Sample],
     /// The boundary at which it began.
@@ -101,7 +107,7 @@ fn write_post(
     put_all(writes, count, post.writes.as_slice())
 }
 
-impl<'a> SampleForm<Post, Notes<()>, ()> for WithPosts<'a> {
+impl<'a> SampleForm<Post, Notes<()>, ()> for MailboxForm<'a> {
     ghost Given = { Unit {0} };
 
     ghost Told = { Unit {0} };
@@ -133,4 +139,28 @@ impl<'a> SampleForm<Post, Notes<()>, ()> for WithPosts<'a> {
         let frame = m.interrupt(&writes[..count]);
         notes.put(moment, frame, ());
     }
+}
+
+impl<'a> SoundForm for MailboxForm<'a> {
+    ghost Setting = { Copied };
+
+    ghost Sample = { Unit {0} };
+
+    ghost Request = { plan.Post };
+
+    ghost Told = { Unit {0} };
+
+    ghost form = { λ x. part_form x.flags x.firmware x.samples x.begin };
+
+    ghost marks = { OnStackOnly };
+
+    ghost open_to = { λ _. is_postable };
+
+    ghost holds = { λ x. FactsBeside is_postable x.flags x.firmware };
+
+    ghost good = { λ x. IsGoodPost (length x.samples) };
+
+    ghost own = { λ x. HoldsMail x.firmware.memory_map x.samples x.copied };
+
+    ghost sound = { λ x agree quiet. x.sound agree quiet };
 }

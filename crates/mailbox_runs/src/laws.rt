@@ -7,7 +7,7 @@ ghost use Rattle.mailbox_runs.specs.{TurnsExist.PostsHaveTurns, WholeRuns.RunsAr
 ghost use Rattle.mailbox_runs.specs.UninterruptedTurns.{MailboxRunsTurns, TurnsHaveSteps};
 ghost use Rattle.mailbox_runs.specs.UsedLaws.{PostingLaws, TurnLaws};
 
-use crate::copied::BehindTheCopy;
+use crate::form::MailboxForm;
 use alone_code::laws::{
     mailbox_is_uninterrupted, mailbox_steps_are_few, mailbox_takes_posts, mailbox_takes_samples,
     uninterrupted_are_one,
@@ -89,7 +89,7 @@ pub fn turns_follow_behind()
     ensures { FollowsBehind }
 {
     posting_laws();
-    run_follows::<BehindTheCopy>();
+    run_follows::<MailboxForm>();
 }
 
 /// What is known of turns under posts.

@@ -23,7 +23,6 @@
 //! one another.
 #![tactic(auto)]
 
-mod copied;
 mod form;
 mod laws;
 mod run;

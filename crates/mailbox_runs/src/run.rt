@@ -5,7 +5,7 @@ ghost use Rattle.interrupt_plan.specs.Posts.{AreGoodPosts};
 ghost use Rattle.mailbox_runs.specs.Answering.{AnswersItsPosts};
 ghost use Rattle.mailbox_runs.specs.Runs.{run_under_posts, last_boundary, input_bytes, answer_seen};
 
-use crate::form::WithPosts;
+use crate::form::MailboxForm;
 use crate::laws::posts_are_answered;
 use crate::turn::turn;
 use crate::turns::run_turns;
@@ -114,7 +114,7 @@ pub fn run_posts(
     let room = room_for(alloc, posts.len())?;
     let mut m: Machine<PageMem> = Machine::new(alloc, &firmware.image, flags)?;
     let none = room_for(alloc, 0)?;
-    let form = WithPosts {
+    let form = MailboxForm {
         firmware,
         samples,
         begun: 0,

@@ -5,7 +5,7 @@ ghost use Rattle.run_forms.specs.{Rest.rest_at, Rest.counted_at, Rooms.Fits, Sam
 ghost use Rattle.interrupt_plan.specs.Posts.{IsGoodPost};
 ghost use Rattle.mailbox_runs.specs.{Runs.input_bytes, Runs.turn_form, Counts.notes_of};
 
-use crate::form::WithPosts;
+use crate::form::MailboxForm;
 use cpu12_emul::machine::Machine;
 use cpu12_isa::mem::Mem;
 use interrupt_plan::Post;
@@ -14,7 +14,7 @@ use run_forms::{Notes, SampleState, run_sample};
 /// Goes on until the code waits again, or up to boundary `last`. Answers whether it waits.
 pub(crate) fn turn<M: Mem>(
     m: &mut Machine<M>,
-    form: &WithPosts,
+    form: &MailboxForm,
     posts: &[Post],
     st: &mut SampleState<Notes<()>>,
     last: u32,

@@ -11,7 +11,7 @@ ghost use Rattle.mailbox_runs.specs.Counts.{notes_of, counted_at, with_rest};
 ghost use Rattle.alone_runs.specs.Rows.{bytes_of};
 ghost use Rattle.run_forms.specs.{Rest.with_before, Rooms.Fits, SampleRests.IsSteady};
 
-use crate::form::WithPosts;
+use crate::form::MailboxForm;
 use crate::run::Answer;
 use crate::turn::turn;
 use alone_code::Firmware;
@@ -132,7 +132,7 @@ fn end_turn<M: Mem>(
 /// one did before.
 fn look<M: Mem>(
     m: &mut Machine<M>,
-    form: &WithPosts,
+    form: &MailboxForm,
     posts: &[Post],
     t: &mut Counts<Notes<()>>,
     waits: u32,
@@ -226,7 +226,7 @@ fn next_turn<M: Mem>(
     ensures flags { m.new.flags ≡ m.old.flags }
 {
     let begun = st.counts.moment;
-    let form = WithPosts {
+    let form = MailboxForm {
         firmware,
         samples,
         begun,

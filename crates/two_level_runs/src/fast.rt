@@ -7,7 +7,7 @@ ghost use Rattle.two_level_code.specs.MemoryMaps.{fast_map};
 ghost use Rattle.two_level_runs.specs.{Runs.fast_run, Runs.entered, InnerNotes.inner_notes};
 ghost use Rattle.run_forms.specs.Rest.{summary, counted_at};
 
-use crate::fast_code::{FastCode, InnerFrame};
+use crate::fast_code::{FastForm, InnerFrame};
 use arrayvec::ArrayVec;
 use cpu12_emul::ends::Frame;
 use cpu12_emul::machine::Machine;
@@ -51,7 +51,7 @@ pub(crate) fn run_inside<M: Mem>(
     ensures noted { m.new.noted ≡ m.old.noted }
     ensures flags { m.new.flags ≡ m.old.flags }
 {
-    let form = FastCode {
+    let form = FastForm {
         entered: m.regs().sp,
         outputs,
     };

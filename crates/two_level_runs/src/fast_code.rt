@@ -2,12 +2,16 @@
 ghost use Rattle.std.specs.Prelude.{ℕ, ◌≤◌, ◌+◌};
 ghost use Rattle.arrayvec.specs.ArrayVec.{array_vec_len};
 ghost use Rattle.two_level_runs.specs.InnerNotes.{fast_harness};
+ghost use Rattle.cpu12_emul.specs.Simulation.{OnStackOnly};
+ghost use Rattle.two_level_runs.specs.{Runs.fast_form, Steps.is_open_inside, Steps.IsFastState};
+ghost use Rattle.two_level_runs.specs.Inside.{Inside, AnyMoment, HoldsBytes};
 
 use arrayvec::ArrayVec;
 use cpu12_emul::ends::Frame;
 use cpu12_emul::machine::Machine;
 use cpu12_isa::mem::Mem;
 use run_forms::SampleForm;
+use run_law::laws::SoundForm;
 
 /// What an inner interrupt pushed.
 #[derive(Drop)]
@@ -32,15 +36,15 @@ impl Default for InnerFrame {
 }
 
 /// The fast code from where it was entered with this SP up to its return. A request is a moment, whose handler returns
-/// at once.
+/// at once; nothing is open to it.
 #[derive(Drop)]
-pub(crate) struct FastCode {
+pub(crate) struct FastForm {
     pub(crate) entered: u16,
     /// How many outputs it answers.
     pub(crate) outputs: u8,
 }
 
-impl SampleForm<u32, ArrayVec<InnerFrame, 8>, ()> for FastCode {
+impl SampleForm<u32, ArrayVec<InnerFrame, 8>, ()> for FastForm {
     ghost Given = { Unit {0} };
 
     ghost Told = { Unit {0} };
@@ -81,4 +85,28 @@ impl SampleForm<u32, ArrayVec<InnerFrame, 8>, ()> for FastCode {
             frame,
         });
     }
+}
+
+impl SoundForm for FastForm {
+    ghost Setting = { Inside };
+
+    ghost Sample = { Unit {0} };
+
+    ghost Request = { ℕ };
+
+    ghost Told = { Unit {0} };
+
+    ghost form = { λ x. fast_form x.flags x.outputs x.sp };
+
+    ghost marks = { OnStackOnly };
+
+    ghost open_to = { λ _. is_open_inside };
+
+    ghost holds = { λ x. IsFastState x.image x.flags x.sp };
+
+    ghost good = { λ _. AnyMoment };
+
+    ghost own = { λ _. HoldsBytes };
+
+    ghost sound = { λ x agree quiet. x.sound agree quiet };
 }

@@ -2,6 +2,12 @@
 ghost use Rattle.std.specs.Prelude.{ℕ, ◌≡◌, ◌≤◌, ◌<◌, List, Option, Some, length, slice_get};
 ghost use Rattle.run_forms.specs.{Rest.counted_at, Rest.shown_by, Rooms.Fits};
 ghost use Rattle.two_level_runs.specs.{Runs.FastSeen, Rows.TwoSeen, Harness.level_harness};
+ghost use Rattle.cpu12_emul.specs.Simulation.{OnStackOrNone};
+ghost use Rattle.interrupt_plan.specs.declared.levels.Level as plan;
+ghost use Rattle.interrupt_plan.specs.Levels.{IsGoodLevel};
+ghost use Rattle.two_level_code.specs.MemoryMaps.{is_open_to_fast};
+ghost use Rattle.firmware_runs.specs.Facts.{FactsBeside};
+ghost use Rattle.two_level_runs.specs.{Levels.Levels, Levels.fitted_form, Levels.FastStands};
 
 use crate::rows::TwoRow;
 use crate::serve::{FastRow, serve};
@@ -12,13 +18,14 @@ use firmware_runs::{answers, copy_of, give, is_busy_here, is_idle};
 use fz_list::{List as Items, Memory};
 use interrupt_plan::Level;
 use run_forms::{Counts, Notes, RunForm, SampleForm, room_for};
+use run_law::laws::SoundForm;
 use std::alloc::Global;
 use trace_io::Sample;
 use two_level_code::Two;
 
 /// A slow firmware with a fast block that runs inside its interrupts, with a trace of each.
 #[derive(Drop)]
-pub(crate) struct WithLevels<'a> {
+pub(crate) struct TwoLevelForm<'a> {
     /// Both, of at most four outputs each.
     pub(crate) two: &'a Two,
     /// The slow trace.
@@ -29,7 +36,7 @@ pub(crate) struct WithLevels<'a> {
     ghost fast_outputs: { two.now.fast.outputs ≤ 4 },
 }
 
-impl<'a> SampleForm<Level, Notes<Option<FastRow>>, TwoRow> for WithLevels<'a> {
+impl<'a> SampleForm<Level, Notes<Option<FastRow>>, TwoRow> for TwoLevelForm<'a> {
     ghost Given = { List ℕ };
 
     ghost Told = { Option FastSeen };
@@ -67,7 +74,7 @@ impl<'a> SampleForm<Level, Notes<Option<FastRow>>, TwoRow> for WithLevels<'a> {
     }
 }
 
-impl<'a> RunForm<Level, Notes<Option<FastRow>>, TwoRow> for WithLevels<'a> {
+impl<'a> RunForm<Level, Notes<Option<FastRow>>, TwoRow> for TwoLevelForm<'a> {
     fn count(&self) -> usize {
         self.slow.len()
     }
@@ -118,4 +125,28 @@ impl<'a> RunForm<Level, Notes<Option<FastRow>>, TwoRow> for WithLevels<'a> {
         };
         TwoRow { row, fast: told }
     }
+}
+
+impl<'a> SoundForm for TwoLevelForm<'a> {
+    ghost Setting = { Levels };
+
+    ghost Sample = { List ℕ };
+
+    ghost Request = { plan.Level };
+
+    ghost Told = { Option FastSeen };
+
+    ghost form = { λ x. fitted_form x.flags x.two x.samples };
+
+    ghost marks = { OnStackOrNone };
+
+    ghost open_to = { λ _. is_open_to_fast };
+
+    ghost holds = { λ x. FactsBeside is_open_to_fast x.flags x.two.slow };
+
+    ghost good = { λ x. IsGoodLevel (length x.samples) };
+
+    ghost own = { λ x. FastStands x.fast x.two x.samples };
+
+    ghost sound = { λ x agree quiet. x.sound agree quiet };
 }

@@ -4,8 +4,8 @@ ghost use Rattle.two_level_runs.specs.{Answering.AnswersUnderLevels, Answering.R
 ghost use Rattle.two_level_runs.specs.{Inside.FastRunsFollow, Order.LevelsAreInOrder, Order.LevelsMakeAPlan};
 ghost use Rattle.two_level_runs.specs.Outer.{OuterEnters, OuterIsServable, OuterIsQuiet, OuterServes};
 
-use crate::inside::InsideForm;
-use crate::levels::LevelForm;
+use crate::fast_code::FastForm;
+use crate::form::TwoLevelForm;
 use alone_runs::laws::{
     answers_under_plans, firmware_runs_beside, first_states_agree, first_states_alike,
     given_leaves_open, requests_are_good, steps_leave_open,
@@ -48,7 +48,7 @@ pub fn fast_runs_follow()
     step_keeps();
     wav_suspends();
     sums_fit_below();
-    run_follows::<InsideForm>();
+    run_follows::<FastForm>();
 }
 
 /// An outer interrupt that finds the fast code in memory enters it.
@@ -125,7 +125,7 @@ pub fn answers_under_levels()
     answers_under_plans();
     requests_are_good();
     alone_has_byte_bounds();
-    runs_follow::<LevelForm>();
+    runs_follow::<TwoLevelForm>();
 }
 
 /// Good levels are requests in order.

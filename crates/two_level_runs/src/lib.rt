@@ -11,9 +11,7 @@
 mod fast;
 mod fast_code;
 mod form;
-mod inside;
 pub mod laws;
-mod levels;
 mod rows;
 mod serve;
 

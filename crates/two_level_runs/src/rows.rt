@@ -4,7 +4,7 @@ ghost use Rattle.interrupt_plan.specs.Levels.{AreGoodLevels};
 ghost use Rattle.trace_io.specs.Traces.{input_bytes};
 ghost use Rattle.two_level_runs.specs.{Answering.AnswersItsBlocks, Rows.two_seen, Harness.row_seen};
 
-use crate::form::WithLevels;
+use crate::form::TwoLevelForm;
 use crate::laws::{answers_under_levels, levels_are_in_order};
 use crate::serve::FastRow;
 use alone_runs::Row;
@@ -48,7 +48,7 @@ pub fn run_two(
 {
     answers_under_levels();
     levels_are_in_order();
-    let form = WithLevels { two, slow, fast };
+    let form = TwoLevelForm { two, slow, fast };
     let start = Start {
         image: &two.image,
         wait: two.slow.memory_map.wait,

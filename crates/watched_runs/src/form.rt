@@ -4,6 +4,12 @@ ghost use Rattle.run_forms.specs.{Rest.counted_at, Rest.shown_by, Rooms.Fits};
 ghost use Rattle.trace_io.specs.Traces.{input_bytes};
 ghost use Rattle.watched_code.specs.Watched as tables;
 ghost use Rattle.watched_runs.specs.{Rows.FaultSeen, Rows.watched_harness, Samples.AscendThroughout};
+ghost use Rattle.cpu12_isa.specs.Regions.{is_free};
+ghost use Rattle.cpu12_emul.specs.Simulation.{OnStackOnly};
+ghost use Rattle.interrupt_plan.specs.Plans.{IsGoodRequest};
+ghost use Rattle.interrupt_plan.specs.declared.Request as plan;
+ghost use Rattle.alone_runs.specs.Following.{Alone, Nothing};
+ghost use Rattle.watched_runs.specs.{Forms.watched_form, Forms.FactsWatched, SoundWatchedProof.sound};
 
 use crate::upsets::{change, restore, upset_of};
 use alone_code::Firmware;
@@ -14,6 +20,7 @@ use firmware_runs::{answers, give, is_busy_here, is_idle};
 use fz_list::Memory;
 use interrupt_plan::{Request, Upset};
 use run_forms::{Counts, Notes, RunForm, SampleForm, room_for};
+use run_law::laws::SoundForm;
 use std::alloc::Global;
 use trace_io::Sample;
 
@@ -32,7 +39,7 @@ const FAULT: u16 = 0x1030;
 /// A firmware with watched tables, with a trace and upsets. Its handler does the writes that a request
 /// lists.
 #[derive(Drop)]
-pub struct WithUpsets<'a> {
+pub struct WatchedForm<'a> {
     /// The firmware, of at most four outputs.
     pub firmware: &'a Firmware,
     /// The trace.
@@ -60,7 +67,7 @@ fn number_of(samples: &[Sample], k: usize) -> usize
     k + 1
 }
 
-impl<'a> SampleForm<Request, Notes<()>, WatchedRow> for WithUpsets<'a> {
+impl<'a> SampleForm<Request, Notes<()>, WatchedRow> for WatchedForm<'a> {
     ghost Given = { tables.Watched };
 
     ghost Told = { Unit {0} };
@@ -98,7 +105,7 @@ impl<'a> SampleForm<Request, Notes<()>, WatchedRow> for WithUpsets<'a> {
     }
 }
 
-impl<'a> RunForm<Request, Notes<()>, WatchedRow> for WithUpsets<'a> {
+impl<'a> RunForm<Request, Notes<()>, WatchedRow> for WatchedForm<'a> {
     fn count(&self) -> usize {
         self.samples.len()
     }
@@ -139,4 +146,28 @@ impl<'a> RunForm<Request, Notes<()>, WatchedRow> for WithUpsets<'a> {
             fault: m.peek(FAULT),
         }
     }
+}
+
+impl<'a> SoundForm for WatchedForm<'a> {
+    ghost Setting = { Alone };
+
+    ghost Sample = { tables.Watched };
+
+    ghost Request = { plan.Request };
+
+    ghost Told = { Unit {0} };
+
+    ghost form = { λ x. watched_form x.flags x.firmware };
+
+    ghost marks = { OnStackOnly };
+
+    ghost open_to = { λ _. is_free };
+
+    ghost holds = { λ x. FactsWatched x.flags };
+
+    ghost good = { λ _. IsGoodRequest };
+
+    ghost own = { λ _. Nothing };
+
+    ghost sound = { λ x agree quiet. sound x.flags x.firmware x.low agree quiet };
 }

@@ -1,7 +1,7 @@
 //! Laws of runs under upsets.
 ghost use Rattle.watched_runs.specs.Answering.{AnswersUnderAllUpsets};
 
-use crate::watched::WatchedTables;
+use crate::form::WatchedForm;
 use alone_runs::laws::requests_are_good;
 use firmware_runs::{given_is_put, instructions_are_steps};
 use run_forms::laws::arrives_plainly;
@@ -20,6 +20,6 @@ pub fn answers_under_all_upsets()
     arrives_plainly();
     requests_are_good();
     watched_answers();
-    runs_follow::<WatchedTables>();
+    runs_follow::<WatchedForm>();
     taken_at_once();
 }

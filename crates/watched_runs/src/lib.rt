@@ -12,7 +12,6 @@ pub mod form;
 pub mod laws;
 mod run;
 mod upsets;
-pub mod watched;
 
 pub use form::WatchedRow;
 pub use run::run_upsets;

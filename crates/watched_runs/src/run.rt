@@ -4,7 +4,7 @@ ghost use Rattle.interrupt_plan.specs.{Plans.IsGood, Upsets.AreGoodUpsets};
 ghost use Rattle.trace_io.specs.Traces.{input_bytes};
 ghost use Rattle.watched_runs.specs.{Rows.row_seen, Rows.upset_rows, Rows.faults_of, Answering.AnswersItsSamples};
 
-use crate::form::{WatchedRow, WithUpsets};
+use crate::form::{WatchedForm, WatchedRow};
 use crate::laws::answers_under_all_upsets;
 use crate::upsets::ascending;
 use alone_code::Firmware;
@@ -44,7 +44,7 @@ pub fn run_upsets(
     answers_under_all_upsets();
     plans_are_in_order();
     let upsets = ascending(upsets);
-    let form = WithUpsets {
+    let form = WatchedForm {
         firmware,
         samples,
         upsets,

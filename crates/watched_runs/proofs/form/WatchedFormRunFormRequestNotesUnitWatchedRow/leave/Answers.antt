@@ -4,7 +4,7 @@ use Rattle.cpu12_emul.specs.Image.{image_memory}
 use Rattle.watched_code.specs.Watched.{Change, restored}
 use Rattle.watched_runs.specs.Samples.{change_of}
 use Rattle.watched_runs.proofs.Samples.{change_there, count_given}
-use Rattle.watched_runs.proofs.form.WithUpsetsRunFormRequestNotesUnitWatchedRow.leave.Goals as goal
+use Rattle.watched_runs.proofs.form.WatchedFormRunFormRequestNotesUnitWatchedRow.leave.Goals as goal
 
 pub number_of-requires : goal.number_of-requires
 number_of-requires g c =

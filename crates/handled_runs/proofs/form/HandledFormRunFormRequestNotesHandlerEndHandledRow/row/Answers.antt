@@ -7,7 +7,7 @@ use Rattle.trace_io.specs.Traces.{input_bytes}
 use Rattle.firmware_runs.specs.Ports.{answers_in}
 use Rattle.handled_runs.specs.{declared.back.HandlerEnd.HandlerEnd, Forms.HandledSeen, Forms.steps_of}
 use Rattle.handled_runs.proofs.SampleBytes.{got}
-use Rattle.handled_runs.proofs.form.WithCodeRunFormRequestNotesHandlerEndHandledRow.row.Goals as goal
+use Rattle.handled_runs.proofs.form.HandledFormRunFormRequestNotesHandlerEndHandledRow.row.Goals as goal
 
 pub returns : goal.returns
 returns g c = λ x is.

@@ -1,6 +1,6 @@
 use Rattle.two_level_runs.proofs.Words.{◌∙◌, ◌≡◌, ap, given, input_bytes, List, sym, ℕ}
 use Rattle.two_level_runs.proofs.SampleBytes.{got}
-use Rattle.two_level_runs.proofs.form.WithLevelsRunFormLevelNotesOptionFastRowTwoRow.give.Goals as goal
+use Rattle.two_level_runs.proofs.form.TwoLevelFormRunFormLevelNotesOptionFastRowTwoRow.give.Goals as goal
 
 pub returns-clause-state : goal.returns-clause-state
 returns-clause-state g c x e =

@@ -1,6 +1,6 @@
 use Rattle.std.proofs.Common.{ℕ, ◌<◌, subst}
 use Rattle.watched_runs.proofs.{Samples.bytes_there, Samples.count_given, Shown.row_is}
-use Rattle.watched_runs.proofs.form.WithUpsetsRunFormRequestNotesUnitWatchedRow.row.Goals as goal
+use Rattle.watched_runs.proofs.form.WatchedFormRunFormRequestNotesUnitWatchedRow.row.Goals as goal
 
 pub bytes_of-requires : goal.bytes_of-requires
 bytes_of-requires g c =

@@ -3,7 +3,7 @@ use Rattle.std.proofs.lemmas.List.{take_all}
 use Rattle.firmware_runs.specs.Ports.{given}
 use Rattle.trace_io.specs.Traces.{input_bytes}
 use Rattle.handled_runs.proofs.SampleBytes.{got}
-use Rattle.handled_runs.proofs.form.WithCodeRunFormRequestNotesHandlerEndHandledRow.give.Goals as goal
+use Rattle.handled_runs.proofs.form.HandledFormRunFormRequestNotesHandlerEndHandledRow.give.Goals as goal
 
 pub returns-clause-state : goal.returns-clause-state
 returns-clause-state g c x e =

@@ -1,7 +1,7 @@
 use Rattle.std.proofs.Common.{◌∙◌, ℕ, ◌<◌, ap, sym, subst}
 use Rattle.watched_runs.specs.Samples.{change_of}
 use Rattle.watched_runs.proofs.{Samples.bytes_there, Samples.change_there, Samples.count_given, Shown.given_is}
-use Rattle.watched_runs.proofs.form.WithUpsetsRunFormRequestNotesUnitWatchedRow.give.Goals as goal
+use Rattle.watched_runs.proofs.form.WatchedFormRunFormRequestNotesUnitWatchedRow.give.Goals as goal
 
 pub bytes_of-requires : goal.bytes_of-requires
 bytes_of-requires g c =

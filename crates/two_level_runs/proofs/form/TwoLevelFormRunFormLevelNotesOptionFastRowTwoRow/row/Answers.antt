@@ -1,6 +1,6 @@
 use Rattle.two_level_runs.proofs.Words.{◌∙◌, ◌≡◌, input_bytes, sym}
 use Rattle.two_level_runs.proofs.SampleBytes.{got}
-use Rattle.two_level_runs.proofs.form.WithLevelsRunFormLevelNotesOptionFastRowTwoRow.row.Goals as goal
+use Rattle.two_level_runs.proofs.form.TwoLevelFormRunFormLevelNotesOptionFastRowTwoRow.row.Goals as goal
 
 pub returns : goal.returns
 returns g c x e =
