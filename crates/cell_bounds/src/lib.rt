@@ -17,4 +17,4 @@ pub use laws::{
     answers_on_cells_are_near, boxes_of_cells_answer, cell_counts_are_one, cells_bounds_are_one,
     cells_bounds_fall_inside, errors_on_cells_are_one, unsure_cells_have_none,
 };
-pub use walks::{CellAbove, MOST_CELLS, cells_bounds, has_few_cells, sure_cells_bounds};
+pub use walks::{CellAbove, MOST_CELLS, cells_bounds, has_few_cells, low_bytes, sure_cells_bounds};

@@ -251,7 +251,7 @@ fn parted(bytes: ByteBox, place: usize) -> (ByteBox, ByteBox)
 }
 
 /// The low bytes of a box.
-fn low_bytes(bytes: &ByteBox) -> ArrayVec<u8, 8>
+pub fn low_bytes(bytes: &ByteBox) -> ArrayVec<u8, 8>
     ensures { result.items ≡ map (λ v. v.from) bytes.now.0.items }
 {
     let mut low = ArrayVec::new();

@@ -1,10 +1,11 @@
 //! Boxes and their halves.
-ghost use Rattle.std.specs.Prelude.{◌≡◌, ◌≤◌, ◌<◌, ◌+◌, ◌-◌, ◌∷◌, set, length, vec_len, vec_capacity, OnOk, IfErr};
+ghost use Rattle.std.specs.Prelude.{◌≡◌, ◌≤◌, ◌<◌, ◌+◌, ◌-◌, ◌∷◌, length, vec_len, vec_capacity, OnOk, IfErr};
 ghost use Rattle.std.specs.Prelude.{IfSome, IfNone, Some, slice_get};
 ghost use Rattle.error_bound.specs.Boxes.{IsBox};
 ghost use Rattle.cert_check.specs.Trees.{whole, left_of, right_of, IsCut};
 ghost use Rattle.cert_check.specs.Walks.{stack_of, AreCutOut};
 
+use crate::box_laws::cuts_have_halves;
 use crate::checker::CheckFault;
 use arrayvec::ArrayVec;
 use error_bound::{ByteBox, Interval};
@@ -32,7 +33,7 @@ pub(crate) fn push(boxes: &mut Vec<ByteBox>, bytes: ByteBox)
     boxes.push(bytes).unwrap();
 }
 
-/// Puts the halves of a box onto the stack, the left one last, for which the box is cut in place.
+/// Puts the halves of a box onto the stack, the left one last.
 pub(crate) fn push_halves(
     boxes: &mut Vec<ByteBox>,
     bytes: ByteBox,
@@ -54,12 +55,9 @@ pub(crate) fn push_halves(
     let place = input as usize - 1;
     match interval_cut(&bytes, place, cut) {
         None => Err(CheckFault::BadCut(line)),
-        Some(Interval { from, to }) => {
-            let mut right = bytes.copied();
-            set_interval(&mut right, place, Interval { from: cut, to });
+        Some(interval) => {
+            let (left, right) = halves(bytes, place, interval, cut);
             push(boxes, right);
-            let mut left = bytes;
-            set_interval(&mut left, place, Interval { from, to: cut - 1 });
             push(boxes, left);
             Ok(())
         }
@@ -80,10 +78,19 @@ fn interval_cut(bytes: &ByteBox, place: usize, cut: u8) -> Option<Interval>
     }
 }
 
-/// Puts another interval at a place of a box.
-fn set_interval(bytes: &mut ByteBox, place: usize, new: Interval)
-    requires { place < length bytes.old.0.items }
-    ensures { bytes.new.0.items ≡ set bytes.old.0.items place new }
+/// The lower and the upper half of a box that is cut inside the interval at a place.
+pub fn halves(bytes: ByteBox, place: usize, interval: Interval, cut: u8) -> (ByteBox, ByteBox)
+    requires interval { slice_get bytes.0.items place ≡ Some interval }
+    requires above { interval.from < cut }
+    requires below { cut ≤ interval.to }
+    ensures left { result.0.0.items ≡ left_of place cut bytes.0.items }
+    ensures right { result.1.0.items ≡ right_of place cut bytes.0.items }
 {
-    bytes.0[place] = new;
+    cuts_have_halves();
+    let Interval { from, to } = interval;
+    let mut left = bytes.copied();
+    left.0[place] = Interval { from, to: cut - 1 };
+    let mut right = bytes;
+    right.0[place] = Interval { from: cut, to };
+    (left, right)
 }

@@ -18,7 +18,7 @@ mod text;
 mod walk;
 
 pub use box_laws::{cuts_have_halves, leaves_are_around};
-pub use boxes::whole_box;
+pub use boxes::{halves, whole_box};
 pub use checker::{CheckFault, check, check_for, check16};
 pub use laws::{
     accepted_answers_are_near, check_faults_are_one, errors_are_determined, examples_are_accepted,

@@ -9,12 +9,12 @@ ghost use Rattle.cert_check.specs.Walks.{AreRaised};
 ghost use Rattle.error_certifier.specs.Halving.{Stops, IsAbove};
 ghost use Rattle.error_certifier.specs.Trees.{IsTask, IsTreeFor, IsFoundLeaf, IsSplit, Grows};
 
-use crate::boxes::{halves, low_bytes, middle, widest};
+use crate::boxes::{middle, widest};
 use crate::certifier::NotReached;
 use crate::leaves::{FoundLeaf, best_leaf, tight_bounds};
 use box_tree::{Cert, CertKind, LeafForm, Node};
-use cell_bounds::{cells_bounds, has_few_cells};
-use cert_check::{cuts_have_halves, raise};
+use cell_bounds::{cells_bounds, has_few_cells, low_bytes};
+use cert_check::{cuts_have_halves, halves, raise};
 use error_bound::{BlockTable, BoxTable, ByteBox};
 use fuzzy_meaning::Block;
 use fz_list::List;
