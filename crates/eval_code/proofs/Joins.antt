@@ -1,6 +1,6 @@
 -- Parts of a firmware put one behind the other.
-use Rattle.eval_code.proofs.Words.{[], ◌*◌, ◌++◌, ◌∙◌, ◌∷◌, ◌≡◌, ◌≤◌, All, All-get_or, ap, append_assoc, arith, Block}
-use Rattle.eval_code.proofs.Words.{block_code, block_items, Byte, bytes_at, code_at, eval_code, eval_code_over, Input}
+use Rattle.eval_code.proofs.Words.{[], ◌*◌, ◌++◌, ◌∙◌, ◌∷◌, ◌≡◌, ◌≤◌, All, All-get_or, ap, ap₂, append_assoc, arith, Block}
+use Rattle.eval_code.proofs.Words.{block_code, block_items, bytes_at, code_at, eval_code, eval_code_over, Input}
 use Rattle.eval_code.proofs.Words.{Instr, IsValidInput, Item, length, List, map, map-append, MemoryMap, Op, Output}
 use Rattle.eval_code.proofs.Words.{Place, rule_bytes, rule_bytes_by, singleton_bytes, Slot, slots_of, sum_by}
 use Rattle.eval_code.proofs.Words.{sum_by-le, sym, table_bytes, term_count, weight_bytes, weight_bytes_by, Width, ℕ}
@@ -40,11 +40,6 @@ pub sum_by-term_count : (inputs : List Input) → length inputs ≤ 8 → All Is
 sum_by-term_count inputs few valid =
     omega (arith, sum_by-valid IsValidInput term_count 15 (λ x v. v.few_terms) inputs valid)
 
--- the parts of a block in their order
-arranged : (start p e t s b w i1 i3 i4 i5 i6 i7 : List Item) → i1 ≡ start ++ p → i3 ≡ i1 ++ e → i4 ≡ i3 ++ t
-    → i5 ≡ i4 ++ s → i6 ≡ i5 ++ b → i7 ≡ i6 ++ w → i7 ≡ start ++ ((p ++ e) ++ (t ++ ((s ++ b) ++ w)))
-arranged start p e t s b w i1 i3 i4 i5 i6 i7 h1 h3 h4 h5 h6 h7 = simp (h7, h6, h5, h4, h3, h1, append_assoc)
-
 -- the code over the parts of a block and its rules' layout
 pub eval_code_over-flat : (l : MemoryMap) (b : Block) (w : Width) (flat : Flat) (inputs : List Input)
     (outputs : List Output) (slots : List Slot) → HasPartsOf flat b → inputs ≡ b.inputs → outputs ≡ b.outputs
@@ -55,29 +50,24 @@ eval_code_over-flat l b w flat inputs outputs slots h i o s =
     rw (i, o, same_slots, f)
 
 -- the weights and the rule list of a block's rules' layout
-pub rule_data-flat : (l : MemoryMap) (b : Block) (flat : Flat) → HasPartsOf flat b
-    → bytes_at l.weights (weight_bytes_by flat.form flat.weights)
-    ++ bytes_at l.rules (rule_bytes_by l.slots flat.form flat.conjunctions) ≡ bytes_at l.weights (weight_bytes b)
-    ++ bytes_at l.rules (rule_bytes l.slots b)
-rule_data-flat l b flat h =
-    let f = h.form in
-    let w = h.weights in
-    let c = h.conjunctions in
-    rw (f, w, c)
+pub weights-flat : (b : Block) (flat : Flat) → HasPartsOf flat b
+    → weight_bytes_by flat.form flat.weights ≡ weight_bytes b
+weights-flat b flat h = ap₂ (λ f ws. weight_bytes_by f ws) h.form h.weights
+
+pub rules-flat : (slots : ℕ) (b : Block) (flat : Flat) → HasPartsOf flat b
+    → rule_bytes_by slots flat.form flat.conjunctions ≡ rule_bytes slots b
+rules-flat slots b flat h = ap₂ (λ f cs. rule_bytes_by slots f cs) h.form h.conjunctions
 
 -- the parts of a block, put one behind the other, are its items
-pub block_items-parts : (l : MemoryMap) (b : Block) (w : Width) (before behind : List Instr)
-    (start i1 i3 i4 i5 i6 i7 : List Item) → i1 ≡ start ++ Place l.code ∷ []
-    → i3 ≡ i1 ++ map Op (block_code l b w before behind) → i4 ≡ i3 ++ bytes_at l.tables (table_bytes b)
-    → i5 ≡ i4 ++ Place l.singletons ∷ [] → i6 ≡ i5 ++ map Byte (singleton_bytes b)
-    → i7 ≡ i6 ++ (bytes_at l.weights (weight_bytes b) ++ bytes_at l.rules (rule_bytes l.slots b))
-    → i7 ≡ start ++ block_items l b w before behind
+pub block_items-parts : (l : MemoryMap) (b : Block) (w : Width) (before behind : List Instr) (t s ws rs : List ℕ)
+    (start i1 i2 i3 i4 i5 i6 : List Item) → t ≡ table_bytes b → s ≡ singleton_bytes b → ws ≡ weight_bytes b
+    → rs ≡ rule_bytes l.slots b → i1 ≡ start ++ Place l.code ∷ []
+    → i2 ≡ i1 ++ map Op (block_code l b w before behind) → i3 ≡ i2 ++ bytes_at l.tables t
+    → i4 ≡ i3 ++ bytes_at l.singletons s → i5 ≡ i4 ++ bytes_at l.weights ws → i6 ≡ i5 ++ bytes_at l.rules rs
+    → i6 ≡ start ++ block_items l b w before behind
 unfolding block_items
-block_items-parts l b w before behind start i1 i3 i4 i5 i6 i7 h1 h3 h4 h5 h6 h7 =
-    arranged start (Place l.code ∷ []) (map Op (block_code l b w before behind)) (bytes_at l.tables (table_bytes b))
-    (Place l.singletons ∷ []) (map Byte (singleton_bytes b))
-    (bytes_at l.weights (weight_bytes b) ++ bytes_at l.rules (rule_bytes l.slots b)) i1 i3 i4 i5 i6 i7 h1 h3
-    h4 h5 h6 h7
+block_items-parts l b w before behind t s ws rs start i1 i2 i3 i4 i5 i6 et es ew er h1 h2 h3 h4 h5 h6 =
+    rw (sym et, sym es, sym ew, sym er) (simp (h6, h5, h4, h3, h2, h1, append_assoc))
 
 -- the same in their order, before other items
 abbrev pub block_then : MemoryMap → Block → Width → List Instr → List Instr → List Item → List Item

@@ -1,13 +1,17 @@
 //! The bytes that EVAL reads beside its code.
-ghost use Rattle.std.specs.Prelude.{◌≡◌, ◌++◌, map, flat_map, All, OnOk};
-ghost use Rattle.fuzzy_meaning.specs.Blocks.{IsValidOutput};
+ghost use Rattle.std.specs.Prelude.{◌≡◌, ◌+◌, ◌^◌, ◌<◌, ◌++◌, map, flat_map, IfOk, OnOk};
+ghost use Rattle.fuzzy_meaning.specs.Blocks.{IsValid, IsValidOutput};
 ghost use Rattle.cpu12_asm.specs.declared.items.Item.TheVariants.{Byte};
-ghost use Rattle.eval_code.specs.Data.{singleton_bytes_of, bytes_of_word};
+ghost use Rattle.rule_layout.specs.Layouts.{IsLaidOut};
+ghost use Rattle.eval_code.specs.Data.{table_bytes, singleton_bytes, singleton_bytes_of, weight_bytes_by};
+ghost use Rattle.eval_code.specs.Data.{bytes_of_word, rule_bytes_by};
 
 use byte_scaling::near;
 use cpu12_asm::Item;
-use fuzzy_meaning::Output;
-use std::alloc::AllocError;
+use fuzzy_meaning::{Block, Output};
+use point_slope::table;
+use rule_layout::{Flat, Form};
+use std::alloc::{AllocError, Global};
 
 /// Bytes one after another.
 pub(crate) fn push_bytes(items: &mut Vec<Item>, bytes: &[u8]) -> Result<(), AllocError>
@@ -26,44 +30,76 @@ pub fn push_word(items: &mut Vec<Item>, word: u16) -> Result<(), AllocError>
     push_bytes(items, &[(word >> 8) as u8, (word & 0xFF) as u8])
 }
 
-/// Words one after another.
-pub(crate) fn push_words(items: &mut Vec<Item>, words: &[u16]) -> Result<(), AllocError>
-    ensures { OnOk result (items.new.items ≡ items.old.items ++ map Byte (flat_map bytes_of_word words.now)) }
+/// The tables of a block's terms.
+pub fn table_bytes(alloc: Global, block: &Block) -> Result<Vec<u8>, AllocError>
+    requires { IsValid block.now }
+    ensures { IfOk result (λ v. v.items ≡ table_bytes block.now) }
 {
-    for word in words {
-        push_word(items, *word)?;
-    }
-    Ok(())
+    let rows = match table(alloc, block) {
+        Ok(rows) => rows,
+        Err(_) => return Err(AllocError),
+    };
+    let mut bytes = Vec::new(alloc);
+    bytes.extend_from_slice(rows.as_slice().as_flattened())?;
+    Ok(bytes)
 }
 
-/// The tables of terms.
-pub(crate) fn push_tables(items: &mut Vec<Item>, rows: &[[u8; 4]]) -> Result<(), AllocError>
-    ensures { OnOk result (items.new.items ≡ items.old.items ++ map Byte (flat_map (λ row. row) rows.now)) }
-{
-    for row in rows {
-        push_bytes(items, row)?;
-    }
-    Ok(())
-}
-
-/// The singletons of an output.
-fn push_singletons_of(items: &mut Vec<Item>, output: &Output) -> Result<(), AllocError>
+/// The singletons of an output behind other bytes.
+fn add_singletons(bytes: &mut Vec<u8>, output: &Output) -> Result<(), AllocError>
     requires { IsValidOutput output.now }
-    ensures { OnOk result (items.new.items ≡ items.old.items ++ map Byte (singleton_bytes_of output.now)) }
+    ensures { OnOk result (bytes.new.items ≡ bytes.old.items ++ singleton_bytes_of output.now) }
 {
     for singleton in output.singletons.as_slice() {
-        items.push(Item::Byte(near(output, *singleton)))?;
+        bytes.push(near(output, *singleton))?;
     }
     Ok(())
 }
 
 /// The singletons of all outputs.
-pub(crate) fn push_singletons(items: &mut Vec<Item>, outputs: &[Output]) -> Result<(), AllocError>
-    requires { All IsValidOutput outputs.now }
-    ensures { OnOk result (items.new.items ≡ items.old.items ++ map Byte (flat_map singleton_bytes_of outputs.now)) }
+pub fn singleton_bytes(alloc: Global, block: &Block) -> Result<Vec<u8>, AllocError>
+    requires { IsValid block.now }
+    ensures { IfOk result (λ v. v.items ≡ singleton_bytes block.now) }
 {
-    for output in outputs {
-        push_singletons_of(items, output)?;
+    let mut bytes = Vec::new(alloc);
+    for output in block.outputs.as_slice() {
+        add_singletons(&mut bytes, output)?;
     }
-    Ok(())
+    Ok(bytes)
+}
+
+/// The weights, for REVW alone.
+pub(crate) fn weight_bytes(flat: &Flat) -> &[u8]
+    ensures { result.now ≡ weight_bytes_by flat.now.form flat.now.weights }
+{
+    match flat.form {
+        Form::Rev => &[],
+        Form::Revw => flat.weights.as_slice(),
+    }
+}
+
+/// The bytes of words, the high one of each first.
+fn bytes_of_words(alloc: Global, words: &[u16]) -> Result<Vec<u8>, AllocError>
+    ensures { IfOk result (λ v. v.items ≡ flat_map bytes_of_word words.now) }
+{
+    let mut bytes = Vec::new(alloc);
+    for word in words {
+        bytes.push((*word >> 8) as u8)?;
+        bytes.push((*word & 0xFF) as u8)?;
+    }
+    Ok(bytes)
+}
+
+/// The rule list, where the slots stand from an address on.
+pub fn rule_bytes(alloc: Global, slots: u16, flat: &Flat) -> Result<Vec<u8>, AllocError>
+    requires laid_out { IsLaidOut flat.now }
+    requires room { slots + 1024 < 2 ^ 16 }
+    ensures { IfOk result (λ v. v.items ≡ rule_bytes_by slots flat.now.form flat.now.conjunctions) }
+{
+    match flat.form {
+        Form::Rev => flat.bytes(alloc),
+        Form::Revw => {
+            let words = flat.words_from(alloc, slots)?;
+            bytes_of_words(alloc, words.as_slice())
+        }
+    }
 }

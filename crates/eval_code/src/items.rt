@@ -3,18 +3,16 @@ ghost use Rattle.std.specs.Prelude.{◌≡◌, ◌≤◌, ◌++◌, map, length,
 ghost use Rattle.fuzzy_meaning.specs.Blocks.{IsValid, IsValidInput, IsValidOutput};
 ghost use Rattle.cpu12_asm.specs.declared.items.Item.TheVariants.{Op};
 ghost use Rattle.rule_layout.specs.Layouts.{flat_of, IsLaidOut};
-ghost use Rattle.eval_code.specs.{Code.eval_code_over, Data.table_bytes, Data.weight_bytes_by, Data.rule_bytes_by};
-ghost use Rattle.eval_code.specs.Items.{bytes_at, block_items, HasRoom};
+ghost use Rattle.eval_code.specs.{Code.eval_code_over, Items.bytes_at, Items.block_items, Items.HasRoom};
 
 use crate::bounds::output_terms;
 use crate::code::{push_code, push_fuzzify, push_outputs, push_rules, push_slots};
-use crate::data::{push_bytes, push_singletons, push_tables, push_words};
+use crate::data::{push_bytes, rule_bytes, singleton_bytes, table_bytes, weight_bytes};
 use crate::memory_map::MemoryMap;
 use byte_scaling::Width;
 use cpu12_asm::Item;
 use cpu12_isa::instr::Instr;
 use fuzzy_meaning::{Block, Input, Output};
-use point_slope::table;
 use rule_layout::{Flat, Form, Slot, flat_has_parts};
 use std::alloc::{AllocError, Global};
 
@@ -50,10 +48,18 @@ pub fn push_block(
         flat.form,
     )?;
     push_code(items, behind)?;
-    push_tables_at(alloc, items, memory_map, block)?;
-    items.push(Item::Place(memory_map.singletons))?;
-    push_singletons(items, block.outputs.as_slice())?;
-    push_rule_data(alloc, items, memory_map, flat)?;
+    push_bytes_at(items, memory_map.tables, &table_bytes(alloc, block)?)?;
+    push_bytes_at(
+        items,
+        memory_map.singletons,
+        &singleton_bytes(alloc, block)?,
+    )?;
+    push_bytes_at(items, memory_map.weights, weight_bytes(flat))?;
+    push_bytes_at(
+        items,
+        memory_map.rules,
+        &rule_bytes(alloc, memory_map.slots, flat)?,
+    )?;
     Ok(())
 }
 
@@ -98,50 +104,10 @@ fn push_eval(
     Ok(())
 }
 
-/// The tables of the input terms.
-fn push_tables_at(
-    alloc: Global,
-    items: &mut Vec<Item>,
-    memory_map: &MemoryMap,
-    block: &Block,
-) -> Result<(), AllocError>
-    requires { IsValid block.now }
-    ensures { OnOk result (items.new.items
-        ≡ items.old.items ++ bytes_at memory_map.now.tables (table_bytes block.now)) }
+/// Bytes one after another from an address on.
+fn push_bytes_at(items: &mut Vec<Item>, at: u16, bytes: &[u8]) -> Result<(), AllocError>
+    ensures { OnOk result (items.new.items ≡ items.old.items ++ bytes_at at bytes.now) }
 {
-    let rows = match table(alloc, block) {
-        Ok(rows) => rows,
-        Err(_) => return Err(AllocError),
-    };
-    items.push(Item::Place(memory_map.tables))?;
-    push_tables(items, rows.as_slice())
-}
-
-/// The weights and the rule list.
-fn push_rule_data(
-    alloc: Global,
-    items: &mut Vec<Item>,
-    memory_map: &MemoryMap,
-    flat: &Flat,
-) -> Result<(), AllocError>
-    requires laid_out { IsLaidOut flat.now }
-    requires room { HasRoom memory_map.now }
-    ensures { OnOk result (items.new.items
-        ≡ items.old.items ++ (bytes_at memory_map.now.weights (weight_bytes_by flat.now.form flat.now.weights)
-        ++ bytes_at memory_map.now.rules (rule_bytes_by memory_map.now.slots flat.now.form flat.now.conjunctions))) }
-{
-    items.push(Item::Place(memory_map.weights))?;
-    match flat.form {
-        Form::Rev => {
-            items.push(Item::Place(memory_map.rules))?;
-            let list = flat.bytes(alloc)?;
-            push_bytes(items, list.as_slice())
-        }
-        Form::Revw => {
-            push_bytes(items, flat.weights.as_slice())?;
-            items.push(Item::Place(memory_map.rules))?;
-            let list = flat.words_from(alloc, memory_map.slots)?;
-            push_words(items, list.as_slice())
-        }
-    }
+    items.push(Item::Place(at))?;
+    push_bytes(items, bytes)
 }

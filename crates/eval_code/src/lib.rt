@@ -17,7 +17,7 @@ pub mod laws;
 mod memory_map;
 
 pub use bounds::{instruction_bound, steps_by};
-pub use data::push_word;
+pub use data::{push_word, rule_bytes, singleton_bytes, table_bytes};
 pub use items::push_block;
 pub use laws::{blocks_are_placed, bounds_are_few, eval_answers, rules_give_masses};
 pub use memory_map::MemoryMap;

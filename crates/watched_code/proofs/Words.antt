@@ -3,7 +3,7 @@ pub use Rattle.alone_code.specs.Settings.{InstructionGoesOn, InstructionsStand, 
 pub use Rattle.cpu12_isa.specs.declared.instr.Instr.TheVariants.{AddbImmediate, Bne, ClrExtended, LdabImmediate, Rts}
 pub use Rattle.cpu12_isa.specs.declared.instr.Instr.TheVariants.{StabExtended}
 pub use Rattle.cpu12_parts.proofs.Algebra.{Bounded, bounded_none, bounded_on, bounded_one}
-pub use Rattle.eval_code.specs.Data.{bytes_of_word, rule_bytes, singleton_bytes, singleton_bytes_of, table_bytes}
+pub use Rattle.eval_code.specs.Data.{bytes_of_word, rule_bytes, singleton_bytes, table_bytes}
 pub use Rattle.eval_code.specs.Data.{weight_bytes_by}
 pub use Rattle.std.proofs.Common.{All, Bool, List, [], ap, ap₂, arith, false, flat_map, get_or, get_or-set_other}
 pub use Rattle.std.proofs.Common.{get_or-set_same, inl, inr, length, length-append, length-set, map, refl, set, subst}

@@ -1,18 +1,13 @@
 //! The parts of an image whose bytes are summed before a sample is answered.
-ghost use Rattle.std.specs.Prelude.{◌≡◌, ◌+◌, ◌*◌, ◌%◌, ◌^◌, ◌<◌, ◌≤◌, ◌++◌, flat_map, length, map, sum, sum_by, All};
-ghost use Rattle.std.specs.Prelude.{IfOk, OnOk};
-ghost use Rattle.fuzzy_meaning.specs.Blocks.{IsValid, IsValidOutput};
+ghost use Rattle.std.specs.Prelude.{◌≡◌, ◌+◌, ◌%◌, ◌^◌, ◌<◌, ◌≤◌, ◌++◌, length, sum, sum_by, All, IfOk, OnOk};
+ghost use Rattle.fuzzy_meaning.specs.Blocks.{IsValid};
 ghost use Rattle.rule_layout.specs.Layouts.{flat_of, IsLaidOut};
 ghost use Rattle.watched_code.specs.{Checksums.check_byte, Watched.segment_bound};
 ghost use Rattle.watched_code.specs.WatchedCode.{segment_bytes, segments_of, weight_segments};
-ghost use Rattle.eval_code.specs.Data.{table_bytes, singleton_bytes_of, singleton_bytes, bytes_of_word};
-ghost use Rattle.eval_code.specs.Data.{rule_bytes_by};
 
-use byte_scaling::near;
-use eval_code::MemoryMap;
-use fuzzy_meaning::{Block, Output};
+use eval_code::{MemoryMap, rule_bytes, singleton_bytes, table_bytes};
+use fuzzy_meaning::Block;
 use fz_list::List;
-use point_slope::table;
 use rule_layout::{Flat, Form, flat_has_parts};
 use std::alloc::{AllocError, Global};
 
@@ -21,80 +16,6 @@ use std::alloc::{AllocError, Global};
 pub struct Segment {
     pub at: u16,
     pub bytes: List<u8>,
-}
-
-/// The rows of tables behind other bytes.
-fn add_rows(bytes: &mut Vec<u8>, rows: &[[u8; 4]]) -> Result<(), AllocError>
-    ensures { OnOk result (bytes.new.items ≡ bytes.old.items ++ flat_map (λ row. row) rows.now) }
-{
-    for row in rows {
-        bytes.extend_from_slice(row)?;
-    }
-    Ok(())
-}
-
-/// The tables of a block's terms.
-fn term_tables(alloc: Global, block: &Block) -> Result<Vec<u8>, AllocError>
-    requires { IsValid block.now }
-    ensures { IfOk result (λ v. v.items ≡ table_bytes block.now) }
-{
-    let rows = match table(alloc, block) {
-        Ok(rows) => rows,
-        Err(_) => return Err(AllocError),
-    };
-    let mut bytes = Vec::new(alloc);
-    add_rows(&mut bytes, &rows)?;
-    Ok(bytes)
-}
-
-/// The singletons of an output behind others.
-fn add_singletons(bytes: &mut Vec<u8>, output: &Output) -> Result<(), AllocError>
-    requires { IsValidOutput output.now }
-    ensures { OnOk result (bytes.new.items ≡ bytes.old.items ++ singleton_bytes_of output.now) }
-{
-    for singleton in output.singletons.as_slice() {
-        bytes.push(near(output, *singleton))?;
-    }
-    Ok(())
-}
-
-/// The singletons of all outputs.
-fn singletons(alloc: Global, outputs: &[Output]) -> Result<Vec<u8>, AllocError>
-    requires { All IsValidOutput outputs.now }
-    ensures { IfOk result (λ v. v.items ≡ flat_map singleton_bytes_of outputs.now) }
-{
-    let mut bytes = Vec::new(alloc);
-    for output in outputs {
-        add_singletons(&mut bytes, output)?;
-    }
-    Ok(bytes)
-}
-
-/// The bytes of words, the high one of each first.
-fn bytes_of_words(alloc: Global, words: &[u16]) -> Result<Vec<u8>, AllocError>
-    ensures { IfOk result (λ v. v.items ≡ flat_map bytes_of_word words.now) }
-{
-    let mut bytes = Vec::new(alloc);
-    for word in words {
-        bytes.push((*word >> 8) as u8)?;
-        bytes.push((*word & 0xFF) as u8)?;
-    }
-    Ok(bytes)
-}
-
-/// The rule list.
-fn rule_list(alloc: Global, memory_map: &MemoryMap, flat: &Flat) -> Result<Vec<u8>, AllocError>
-    requires laid_out { IsLaidOut flat.now }
-    requires room { memory_map.now.slots + 1024 < 2 ^ 16 }
-    ensures { IfOk result (λ v. v.items ≡ rule_bytes_by memory_map.now.slots flat.now.form flat.now.conjunctions) }
-{
-    match flat.form {
-        Form::Rev => flat.bytes(alloc),
-        Form::Revw => {
-            let words = flat.words_from(alloc, memory_map.slots)?;
-            bytes_of_words(alloc, &words)
-        }
-    }
 }
 
 /// With REVW the weights, behind other segments.
@@ -139,16 +60,16 @@ pub(crate) fn segments(
     let mut segments = Vec::new(alloc);
     segments.push(Segment {
         at: memory_map.tables,
-        bytes: List::new(term_tables(alloc, block)?),
+        bytes: List::new(table_bytes(alloc, block)?),
     })?;
     segments.push(Segment {
         at: memory_map.singletons,
-        bytes: List::new(singletons(alloc, block.outputs.as_slice())?),
+        bytes: List::new(singleton_bytes(alloc, block)?),
     })?;
     push_weights(alloc, &mut segments, memory_map, flat)?;
     segments.push(Segment {
         at: memory_map.rules,
-        bytes: List::new(rule_list(alloc, memory_map, flat)?),
+        bytes: List::new(rule_bytes(alloc, memory_map.slots, flat)?),
     })?;
     Ok(segments)
 }

@@ -1,4 +1,4 @@
-use Rattle.watched_code.proofs.Words.{◌∙◌, ap, flat_map, singleton_bytes_of}
+use Rattle.watched_code.proofs.Words.{◌∙◌}
 use Rattle.watched_code.proofs.watching.Emitting.{segments_made}
 use Rattle.watched_code.proofs.segments.segments.Goals as goal
 
@@ -7,10 +7,9 @@ returns c =
     segments_made c.flat_has_parts.ensures c.args.memory_map.now c.args.block.now c.args.flat.now _ _ _ _ _ _ _ _
     c.requires.flat
     c.new-segments.ensures.items
-    (c.new.ensures ∙ c.in_ok-term_tables.ensures)
-    (c.new-2.ensures ∙ c.in_ok-singletons.ensures
-    ∙ ap (λ outputs. flat_map singleton_bytes_of outputs) c.as_slice.ensures)
-    (c.new-3.ensures ∙ c.in_ok-rule_list.ensures)
+    (c.new.ensures ∙ c.in_ok-table_bytes.ensures)
+    (c.new-2.ensures ∙ c.in_ok-singleton_bytes.ensures)
+    (c.new-3.ensures ∙ c.in_ok-rule_bytes.ensures)
     c.in_ok-push.ensures.items
     c.in_ok-push-2.ensures.items
     c.in_ok-push_weights.ensures

@@ -1,5 +1,5 @@
-use Rattle.watched_code.proofs.Words.{◌++◌, ◌≡◌, map, nearest_byte, take}
-use Rattle.watched_code.proofs.segments.add_singletons.Given as goal
+use Rattle.eval_code.proofs.Words.{◌++◌, ◌≡◌, map, nearest_byte, take}
+use Rattle.eval_code.proofs.data.add_singletons.Given as goal
 
 abbrev pub invariant-loop-singleton : goal.invariant-loop-singleton
 invariant-loop-singleton l =

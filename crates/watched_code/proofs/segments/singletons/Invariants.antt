@@ -1,5 +1,0 @@
-use Rattle.watched_code.proofs.Words.{◌≡◌, flat_map, singleton_bytes_of, take}
-use Rattle.watched_code.proofs.segments.singletons.Given as goal
-
-abbrev pub invariant-loop-output : goal.invariant-loop-output
-invariant-loop-output l = l.bytes.items ≡ flat_map singleton_bytes_of (take l.output-index l.outputs)
