@@ -17,7 +17,7 @@ abbrev pub AreBytes : List ℕ → Type 0
 AreBytes [] = Unit {0}
 AreBytes (b ∷ bytes) = (b < 256) × AreBytes bytes
 
-are_bytes_with : (bytes : List ℕ) (b : ℕ) → AreBytes bytes → b < 256 → AreBytes (bytes ++ b ∷ [])
+pub are_bytes_with : (bytes : List ℕ) (b : ℕ) → AreBytes bytes → b < 256 → AreBytes (bytes ++ b ∷ [])
 are_bytes_with [] b are is = (is, tt)
 are_bytes_with (x ∷ bytes) b are is = (are.0, are_bytes_with bytes b are.1 is)
 
@@ -25,7 +25,7 @@ pub are_bytes_all : (bytes : List ℕ) → IsBytes bytes → AreBytes bytes
 are_bytes_all [] at = tt
 are_bytes_all (b ∷ bytes) at = (at 0, are_bytes_all bytes (λ i. at (suc i)))
 
-bytes_at : (bytes : List ℕ) → AreBytes bytes → IsBytes bytes
+pub bytes_at : (bytes : List ℕ) → AreBytes bytes → IsBytes bytes
 bytes_at [] are i = omega arith
 bytes_at (b ∷ bytes) are zero = are.0
 bytes_at (b ∷ bytes) are (suc i) = bytes_at bytes are.1 i

@@ -1,6 +1,6 @@
 -- What holds of every text of records.
 -- Beside the promise.
-use Rattle.std.specs.Prelude.{◌≡◌, ◌⊎◌, ℕ, ◌≤◌, List, length}
+use Rattle.std.specs.Prelude.{◌≡◌, ◌⊎◌, ℕ, ◌^◌, ◌<◌, ◌≤◌, List, length, Some}
 use Rattle.cpu12_asm.specs.{Bytes.IsAscending, Bytes.byte_at, declared.image.Image.Image}
 use Rattle.srecord.specs.declared.fault.SrecFault.{SrecFault}
 use Rattle.srecord.specs.{Images.AreCut, Images.ImageText, Images.Piece, Texts.GivesImage, Texts.HasFault}
@@ -33,3 +33,12 @@ EachTextIsJudged = (text : List ℕ) → ((image : Image) × GivesImage text ima
 abbrev pub ImageTextsAreOne : Type 0
 ImageTextsAreOne = (bytes : List (ℕ × ℕ)) (start : ℕ) (text other : List ℕ) → ImageText bytes start text
     → ImageText bytes start other → text ≡ other
+
+-- each address that has a byte is one of the memory's, and it has a byte
+abbrev pub AreMemoryBytes : List (ℕ × ℕ) → Type 0
+AreMemoryBytes bytes = (at byte : ℕ) → byte_at bytes at ≡ Some byte → (at < 2 ^ 16) × (byte < 2 ^ 8)
+
+-- and bytes of memory at ascending addresses have one, with each start
+abbrev pub ImagesHaveTexts : Type 0
+ImagesHaveTexts = (bytes : List (ℕ × ℕ)) (start : ℕ) → IsAscending bytes → AreMemoryBytes bytes → start < 2 ^ 16
+    → (text : List ℕ) × ImageText bytes start text

@@ -1,6 +1,6 @@
 //! Laws of the definitions.
 ghost use Rattle.srecord.specs.Laws.{EachTextIsJudged, FaultsAreOne, ImagesAreOne, ImagesHaveFewRecords};
-ghost use Rattle.srecord.specs.Laws.{ImagesHaveNoFault, ImageTextsAreOne};
+ghost use Rattle.srecord.specs.Laws.{ImagesHaveNoFault, ImagesHaveTexts, ImageTextsAreOne};
 
 /// A text gives at most one image, and then it has no fault.
 pub fn images_are_one()
@@ -23,7 +23,12 @@ pub fn each_text_is_judged()
     ensures { EachTextIsJudged }
 {}
 
-/// An image has one text of records.
+/// An image has one text of records at most.
 pub fn image_texts_are_one()
     ensures { ImageTextsAreOne }
+{}
+
+/// Bytes of memory at ascending addresses have a text of records with each start.
+pub fn images_have_texts()
+    ensures { ImagesHaveTexts }
 {}

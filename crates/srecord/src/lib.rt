@@ -18,7 +18,7 @@ mod writer;
 pub use fault::SrecFault;
 pub use laws::{
     each_text_is_judged, faults_are_one, image_texts_are_one, images_are_one,
-    images_have_few_records,
+    images_have_few_records, images_have_texts,
 };
 pub use reader::read;
 pub use writer::write;
