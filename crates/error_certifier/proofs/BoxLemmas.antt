@@ -308,7 +308,7 @@ split_tree box k c ls rs rest ps qs cut l r =
     (subst (λ j. IsTree (left_of j c box) ((ls ++ rs) ++ rest) ps (rs ++ rest)) place left)
     (subst (λ j. IsTree (right_of j c box) (rs ++ rest) qs rest) place r)
 
-split_node : (kind : CertKind) (b : Block) (box : List Interval) (k c : ℕ) → length b.inputs ≤ 8 → IsBoxOf b box
+pub split_node : (kind : CertKind) (b : Block) (box : List Interval) (k c : ℕ) → length b.inputs ≤ 8 → IsBoxOf b box
     → (at : IsHalvedAt box k c)
     → c ≤ 255 → IsNode kind (length b.outputs) (Split (k + 1) c)
 split_node kind b box k c few is at small =

@@ -25,7 +25,7 @@ leaf_count-append [] ys = omega arith
 leaf_count-append (Split i c ∷ xs) ys = leaf_count-append xs ys
 leaf_count-append (Leaf form ∷ xs) ys = let r = leaf_count-append xs ys in omega arith
 
-halved_open : OpenBoxesGoOn
+pub halved_open : OpenBoxesGoOn
     → (kind : CertKind) (b : Block) (h target : ℕ) (box : List Interval) (n m : ℕ) (nodes : List Node)
     → Halves kind b h target box n nodes m → (i : ℕ) → open_from (suc i) nodes ≡ Some i
 halved_open on kind b h target _ _ _ _ (halved_leaf box n form w few) i = refl
@@ -33,7 +33,7 @@ halved_open on kind b h target _ _ _ _ (halved_split box k c n m r left right cu
     on (suc (suc i)) (suc i) left right (halved_open on kind b h target _ n m left l (suc i))
     ∙ halved_open on kind b h target _ m r right t i
 
-halved_leaves : (kind : CertKind) (b : Block) (h target : ℕ) (box : List Interval) (n m : ℕ) (nodes : List Node)
+pub halved_leaves : (kind : CertKind) (b : Block) (h target : ℕ) (box : List Interval) (n m : ℕ) (nodes : List Node)
     → Halves kind b h target box n nodes m
     → (leaf_count nodes + n ≡ m) × (m ≤ 4096)
 halved_leaves kind b h target _ _ _ _ (halved_leaf box n form w few) = (omega arith, omega arith)

@@ -2,3 +2,4 @@ pub mod BoxLemmas
 pub mod HalveLemmas
 pub mod CertLemmas
 pub mod OneAnswer
+pub mod TargetLemmas

@@ -4,7 +4,7 @@ use Rattle.std.specs.Prelude.{◌≡◌, ℕ, ◌-◌, ◌<◌, ◌≤◌, List,
 use Rattle.fuzzy_meaning.specs.{declared.block.Block.Block, Blocks.IsValid}
 use Rattle.box_tree.specs.declared.cert.CertKind.{CertKind}
 use Rattle.box_tree.specs.declared.cert.CertKind.TheVariants as kind
-use Rattle.box_tree.specs.declared.cert.Cert.{Cert}
+use Rattle.box_tree.specs.{Certificates.IsCert, declared.cert.Cert.Cert}
 use Rattle.cert_check.specs.{Acceptance.IsAccepted, BoxLaws.IsNodeOf}
 use Rattle.error_certifier.specs.{declared.certifier.NotReached.NotReached, Halving.IsHalving, Halving.StopsAt}
 use Rattle.error_certifier.specs.declared.certifier.NotReached.TheVariants.{Cell, LeafLimit, Memory}
@@ -19,6 +19,12 @@ abbrev pub AnswersAreOne : Type 0
 AnswersAreOne =
     (k : CertKind) (b : Block) (h target : ℕ) (x y : Result Cert NotReached) → IsValid b
     → IsAnswer k b h target x → IsAnswer k b h target y → x ≡ y
+
+-- the certificate of a halving is one of its kind, and claims no error above the target
+abbrev pub HalvingsAreWithinTheirTarget : Type 0
+HalvingsAreWithinTheirTarget =
+    (k : CertKind) (b : Block) (h target : ℕ) (cert : Cert) → IsValid b → IsHalving k b h target cert
+    → IsCert k cert × All (λ error. error ≤ target) cert.claims
 
 -- the certificates that a stop speaks of: of the named kind those that name rules, of the tight kind all
 abbrev pub IsComparable : CertKind → Cert → Type 0

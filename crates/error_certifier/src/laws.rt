@@ -1,9 +1,12 @@
 //! Laws of the definitions.
-ghost use Rattle.error_certifier.specs.Laws.{AnswersAreOne, CellsAreOutOfReach};
+ghost use Rattle.error_certifier.specs.Laws.{AnswersAreOne, CellsAreOutOfReach, HalvingsAreWithinTheirTarget};
 
-use cell_bounds::{box_counts_are_one, cell_counts_are_one, counts_are_least};
+use box_tree::open_boxes_go_on;
+use cell_bounds::{
+    box_counts_are_one, cell_counts_are_one, claim_bounds_are_one, counts_are_least,
+};
 use cert_check::{cuts_have_halves, errors_are_determined, leaves_are_around};
-use error_bound::best_leaves_are_one;
+use error_bound::{best_leaves_are_one, tight_bounds_are_small};
 
 /// A block has at most one answer for a target: a certificate, or why there is none.
 pub fn answers_are_one()
@@ -14,6 +17,16 @@ pub fn answers_are_one()
     best_leaves_are_one();
     box_counts_are_one();
     cell_counts_are_one();
+}
+
+/// The certificate of a halving is one of its kind, and claims no error above the target.
+pub fn halvings_are_within_their_target()
+    ensures { HalvingsAreWithinTheirTarget }
+{
+    cuts_have_halves();
+    claim_bounds_are_one();
+    tight_bounds_are_small();
+    open_boxes_go_on();
 }
 
 /// Where halving stops at a cell, no accepted certificate of the block has a smaller error for that
