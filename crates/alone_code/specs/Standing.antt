@@ -11,7 +11,8 @@ use Rattle.eval_code.specs.declared.memory_map.MemoryMap.{MemoryMap}
 use Rattle.byte_scaling.specs.declared.width.Width.{Width}
 use Rattle.eval_code.specs.{Code.code_bytes, Data.bytes_of_word, Evaluation.HasBytes, Items.IsApart}
 use Rattle.eval_code.specs.{Items.block_items, Placed.IsInOrder, Placed.StandsBetween}
-use Rattle.alone_code.specs.{Calls.IsInCode, Calls.HasRoutine, Images.vector_items}
+use Rattle.alone_code.specs.{Calls.IsInCode, Calls.HasRoutine, Firmwares.IsFirmwareOf, Images.vector_items}
+use Rattle.alone_code.specs.{Mailboxes.IsMailboxOf, declared.firmware.Firmware.Firmware}
 
 -- a memory has a block's firmware: EVAL with its data behind this code and before its return, and the reset vector.
 -- Below the code it is 0.
@@ -31,3 +32,13 @@ ImageHasFirmware =
     → l.rules + 9984 ≤ vector → IsValid b → IsWithinLimits b
     → Holds image (given_by (block_items l b w before (Rts ∷ []) ++ vector_items l))
     → HasFirmware l b w before (image_memory image)
+
+-- The memory of the image of a block's firmware is one of bytes.
+abbrev pub FirmwareIsBytes : Type 0
+FirmwareIsBytes =
+    (b : Block) (f : Firmware) → IsValid b → IsWithinLimits b → IsFirmwareOf b f → AreBytes (image_memory f.image.bytes)
+
+-- So it is in the mailbox form.
+abbrev pub MailboxIsBytes : Type 0
+MailboxIsBytes =
+    (b : Block) (f : Firmware) → IsValid b → IsWithinLimits b → IsMailboxOf b f → AreBytes (image_memory f.image.bytes)

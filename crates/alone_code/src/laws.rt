@@ -5,7 +5,8 @@ ghost use Rattle.alone_code.specs.{Calls.CalledEvalReturns, Frames.FrameCallsAnd
 ghost use Rattle.alone_code.specs.{Laws.LowerLaws, Mailboxes.MailboxStepsAreFew, SampleTurns.MailboxTakesSamples};
 ghost use Rattle.alone_code.specs.Settings.{GivenIsLive, InstructionGoesOn, InstructionsStand, LiveIsIdle};
 ghost use Rattle.alone_code.specs.Settings.{LiveIsInterruptible, ReturnGoesOn};
-ghost use Rattle.alone_code.specs.{Standing.ImageHasFirmware, Turns.MailboxTakesPosts, Turns.MailboxIsUninterrupted};
+ghost use Rattle.alone_code.specs.Standing.{FirmwareIsBytes, ImageHasFirmware, MailboxIsBytes};
+ghost use Rattle.alone_code.specs.Turns.{MailboxIsUninterrupted, MailboxTakesPosts};
 ghost use Rattle.alone_code.specs.Uninterrupted.{AnsweredAreUninterrupted, FirmwareIsUninterrupted, UninterruptedAreOne};
 
 use byte_scaling::nearest_is_byte;
@@ -56,6 +57,14 @@ pub fn called_eval_returns()
 /// The memory of an image of a block's items with the vectors behind them has the block's firmware.
 pub fn image_has_firmware()
     ensures { ImageHasFirmware }
+{
+    lower_laws();
+}
+
+/// The image of a block's firmware is one of bytes, and so is that of the mailbox form.
+pub fn firmware_is_bytes()
+    ensures alone { FirmwareIsBytes }
+    ensures mailbox { MailboxIsBytes }
 {
     lower_laws();
 }

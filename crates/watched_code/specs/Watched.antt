@@ -7,7 +7,7 @@ use Rattle.fuzzy_meaning.specs.declared.{block.Block.Block, block.Output.Output}
 use Rattle.fuzzy_meaning.specs.Blocks.{IsValid, output_at}
 use Rattle.byte_scaling.specs.{Cells.nearest_byte, declared.width.Width.TheVariants.Byte}
 use Rattle.rule_layout.specs.Layouts.{IsWithinLimits}
-use Rattle.cpu12_isa.specs.{declared.instr.Instr.TheVariants.Rts, Regions.is_free, Regions.vector}
+use Rattle.cpu12_isa.specs.{declared.instr.Instr.TheVariants.Rts, Fits.AreBytes, Regions.is_free, Regions.vector}
 use Rattle.cpu12_asm.specs.{declared.items.Item.Item, Bytes.byte_at}
 use Rattle.cpu12_parts.specs.{State.State, Executions.Execution, Executions.all_steps}
 use Rattle.cpu12_emul.specs.Image.{image_memory}
@@ -130,3 +130,9 @@ AnswersWatched b f =
 abbrev pub WatchedAnswers : Type 0
 WatchedAnswers =
     (b : Block) (f : Firmware) → IsValid b → IsWithinLimits b → IsWatchedFirmwareOf b f → AnswersWatched b f
+
+-- The memory of its image is one of bytes.
+abbrev pub WatchedIsBytes : Type 0
+WatchedIsBytes =
+    (b : Block) (f : Firmware) → IsValid b → IsWithinLimits b → IsWatchedFirmwareOf b f
+    → AreBytes (image_memory f.image.bytes)

@@ -1,5 +1,5 @@
 //! Laws of firmware with watched tables.
-ghost use Rattle.watched_code.specs.{Alike.WatchedFirmwaresAreOne, Watched.WatchedAnswers};
+ghost use Rattle.watched_code.specs.{Alike.WatchedFirmwaresAreOne, Watched.WatchedAnswers, Watched.WatchedIsBytes};
 ghost use Rattle.watched_code.specs.Checksums.{OneChangeIsSeen, TwoChangesMayPass, UnchangedSumIsZero};
 
 use alone_code::laws::{
@@ -34,6 +34,16 @@ pub fn watched_answers()
     frames_lead();
     image_has_firmware();
     free_bytes_leave();
+}
+
+/// The image of a block's firmware with watched tables is one of bytes.
+pub fn watched_is_bytes()
+    ensures { WatchedIsBytes }
+{
+    nearest_is_byte();
+    code_is_decoded();
+    blocks_are_placed();
+    image_has_firmware();
 }
 
 /// A block has one firmware with watched tables.

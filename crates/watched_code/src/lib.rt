@@ -13,6 +13,6 @@ pub mod laws;
 mod segments;
 mod watch;
 
-pub use laws::{one_change_is_seen, watched_answers, watched_firmwares_are_one};
+pub use laws::{one_change_is_seen, watched_answers, watched_firmwares_are_one, watched_is_bytes};
 pub use segments::Segment;
 pub use watch::compile_scrub;

@@ -8,6 +8,7 @@ use Rattle.alone_code.proofs.Words.{IsWithinLimits, length, List, LowerLaws, mai
 use Rattle.alone_code.proofs.Words.{refl, Rts, Setting, start_code, State, subst, sym, Width, Writes, ℕ}
 use Rattle.alone_code.specs.{Answers.IsArrivedBeside, Answers.LeavesMapped, Frames.Arrived}
 use Rattle.alone_code.specs.Answers.{FreeBytesLeave, FirmwareAnswersBeside, ArrivesAlike, FirmwareArrivesAlike}
+use Rattle.alone_code.specs.Standing.{FirmwareIsBytes}
 use Rattle.alone_code.proofs.runs.Stepping.{interruptible_of}
 use Rattle.alone_code.proofs.runs.Founding.{frame_bytes, has_frame}
 use Rattle.alone_code.proofs.runs.Placing.{whole_rises, whole_is_short}
@@ -117,6 +118,18 @@ pub length-main_items : BlockIsShort → (b : Block) (w : Width) → IsValid b �
 length-main_items short b w v limits =
     whole_is_short short main_map b w (frame_code main_map) (Rts ∷ []) v limits (omega arith)
 
+-- the memory of its image
+in_memory : LowerLaws → (b : Block) (w : Width) (image : List (ℕ × ℕ)) → IsValid b → IsWithinLimits b
+    → Holds image (given_by (firmware_items main_map b w))
+    → HasFirmware main_map b w (frame_code main_map) (image_memory image)
+in_memory laws b w image v limits h =
+    let frame = frame_code main_map in
+    has_firmware laws image main_map b w frame main_in_order main_apart main_inside (omega arith)
+    (laws.code_is_bytes frame main_frame_fits) (omega arith) (omega arith) v limits h
+
+pub firmware_is_bytes : LowerLaws → FirmwareIsBytes
+firmware_is_bytes laws b f v limits h = (in_memory laws b _ f.image.bytes v limits h.image.bytes).bytes
+
 founded : (laws : LowerLaws)
     → (open_to : ℕ → Bool) (leaves : LeavesMapped open_to main_map) (b : Block) (w : Width) (image : List (ℕ × ℕ))
     (flags : ℕ) (fits : flags < 2 ^ 8)
@@ -126,9 +139,7 @@ founded laws open_to leaves b w image flags fits v limits h =
     let frame = frame_code main_map in
     let mem = image_memory image in
     let c : Setting = over_main laws open_to leaves mem flags fits in
-    let firmware : HasFirmware main_map b w frame mem =
-    has_firmware laws image main_map b w frame main_in_order main_apart main_inside (omega arith)
-    (laws.code_is_bytes frame main_frame_fits) (omega arith) (omega arith) v limits h in
+    let firmware : HasFirmware main_map b w frame mem = in_memory laws b w image v limits h in
     let fb = frame_bytes mem main_map firmware.stands.front in
     record {
       samples = record {

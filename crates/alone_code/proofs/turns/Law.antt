@@ -3,6 +3,7 @@ use Rattle.alone_code.proofs.Words.{◌<◌, ◌^◌, ◌≤◌, arith, Block, g
 use Rattle.alone_code.proofs.Words.{IsWithinLimits, length, List, LowerLaws, mailbox_bound, mailbox_code}
 use Rattle.alone_code.proofs.Words.{mailbox_items, mailbox_map, MailboxTakesPosts, MemoryMap, refl, subst, sym}
 use Rattle.alone_code.proofs.Words.{TakesTurns, Width, ℕ}
+use Rattle.alone_code.specs.Standing.{MailboxIsBytes}
 use Rattle.alone_code.proofs.{runs.Arriving.arrive, runs.Standing.has_firmware, turns.Copying.copies_run}
 use Rattle.alone_code.proofs.turns.Posting.{Post, post_ctx, at_of}
 use Rattle.alone_code.proofs.turns.Looking.{look_run, choose_run}
@@ -69,18 +70,28 @@ with_code laws b w image flags fits v limits firmware =
       evaluates = λ bytes before s i at hi ho. turn_run p b w bytes before s turns i at hi ho;
     }
 
+-- the memory of its image
+in_memory : LowerLaws → (b : Block) (w : Width) (image : List (ℕ × ℕ)) → IsValid b → IsWithinLimits b
+    → Holds image (given_by (mailbox_items (mailbox_map (length b.inputs)) b w))
+    → HasFirmware (mailbox_map (length b.inputs)) b w (mailbox_code (mailbox_map (length b.inputs)) (length b.inputs))
+    (image_memory image)
+in_memory laws b w image v limits h =
+    let n = length b.inputs in
+    let few = v.few_inputs in
+    let l = mailbox_map n in
+    let before = mailbox_code l n in
+    has_firmware laws image l b w before (mailbox_in_order n few) (mailbox_apart n few) (mailbox_inside n few)
+    (omega arith) (laws.code_is_bytes before (fit_mailbox n few)) (omega arith) (omega arith) v limits h
+
+pub mailbox_is_bytes : LowerLaws → MailboxIsBytes
+mailbox_is_bytes laws b f v limits h = (in_memory laws b _ f.image.bytes v limits h.image.bytes).bytes
+
 with_items : LowerLaws → (b : Block) (w : Width) (image : List (ℕ × ℕ)) (flags : ℕ) (fits : flags < 2 ^ 8) → IsValid b
     → IsWithinLimits b
     → Holds image (given_by (mailbox_items (mailbox_map (length b.inputs)) b w))
     → TakesTurns (mailbox_map (length b.inputs)) b w (mailbox_bound w b) (image_memory image) flags
 with_items laws b w image flags fits v limits h =
-    let n = length b.inputs in
-    let few = v.few_inputs in
-    let l = mailbox_map n in
-    let before = mailbox_code l n in
-    with_code laws b w (image_memory image) flags fits v limits
-    (has_firmware laws image l b w before (mailbox_in_order n few) (mailbox_apart n few) (mailbox_inside n few)
-    (omega arith) (laws.code_is_bytes before (fit_mailbox n few)) (omega arith) (omega arith) v limits h)
+    with_code laws b w (image_memory image) flags fits v limits (in_memory laws b w image v limits h)
 
 pub mailbox_takes_posts : LowerLaws → MailboxTakesPosts
 mailbox_takes_posts laws b f v limits h flags fits =

@@ -8,9 +8,12 @@ use Rattle.watched_code.proofs.Words.{subst, sym, vector_items, Watched, watched
 use Rattle.watched_code.proofs.Words.{ℕ}
 use Rattle.cpu12_asm.specs.{Bytes.Holds}
 use Rattle.eval_code.specs.{Code.eval_code, Placed.IsInOrder, Placed.BlockRises, Placed.BlockIsShort}
+use Rattle.eval_code.specs.{Placed.BlockHasParts, Standing.CodeIsBytes}
+use Rattle.byte_scaling.specs.Cells.{NearestIsByte}
 use Rattle.alone_code.specs.{Answers.IsArrived, Standing.HasFirmware, Frames.Arrived, Settings.IsShut}
+use Rattle.alone_code.specs.{Standing.ImageHasFirmware}
 use Rattle.watched_code.specs.{WatchedCode.watched_map, Watched.IsTableChange, Watched.IsGoodSample}
-use Rattle.watched_code.specs.{Watched.WatchedAnswers}
+use Rattle.watched_code.specs.{Watched.WatchedAnswers, Watched.WatchedIsBytes}
 use Rattle.cpu12_emul.specs.Image.{image_memory}
 use Rattle.alone_code.proofs.Algebra.{not_free}
 use Rattle.watched_code.proofs.{watching.Adding.count_in, watching.Laws.WatchingLaws, watching.Located.located}
@@ -104,24 +107,33 @@ record Founded (laws : WatchingLaws) (b : Block) (image : List (ℕ × ℕ)) : T
 parts : (laws : WatchingLaws) (b : Block) (image : List (ℕ × ℕ)) → Founded laws b image → HasParts main_map b
 parts laws b image h = laws.parts main_map b h.valid h.limits
 
-fits : (laws : WatchingLaws) (b : Block) (image : List (ℕ × ℕ)) → Founded laws b image
-    → FitCode (watched_front main_map b)
-fits laws b image h =
-    let few = h.valid.few_outputs in
+fits : NearestIsByte → BlockHasParts → (b : Block) → IsValid b → IsWithinLimits b → FitCode (watched_front main_map b)
+fits nearest has_parts b v limits =
+    let few = v.few_outputs in
     let bad = length-bad main_map b.outputs few in
     fits_front main_map b.outputs (segments_of main_map b) (omega arith) (omega arith)
-    (fit_defaults laws.nearest_is_byte b.outputs h.valid.outputs) (omega arith)
-    (are_segments b (parts laws b image h))
+    (fit_defaults nearest b.outputs v.outputs) (omega arith) (are_segments b (has_parts main_map b v limits))
 
 -- what stands in its memory
+module _ (nearest : NearestIsByte) (has_parts : BlockHasParts) (code_is_bytes : CodeIsBytes)
+    (has_firmware : ImageHasFirmware) where
+  in_memory : (b : Block) (image : List (ℕ × ℕ)) → IsValid b → IsWithinLimits b
+      → Holds image (given_by (watched_items b))
+      → HasFirmware (watched_map b) b Byte (watched_front main_map b) (image_memory image)
+  in_memory b image v limits h =
+      let short = short_front b v in
+      let front = watched_front main_map b in
+      has_firmware image (watched_map b) b Byte front (watched_in_order b v) (watched_apart b v)
+      (record { from = omega arith; to = omega arith }) (omega arith)
+      (code_is_bytes front (fits nearest has_parts b v limits)) (omega arith) (omega arith) v limits h
+
+  pub watched_is_bytes : WatchedIsBytes
+  watched_is_bytes b f v limits h = (in_memory b f.image.bytes v limits h.image.bytes).bytes
+
 firmware : (laws : WatchingLaws) (b : Block) (image : List (ℕ × ℕ)) → Founded laws b image
     → HasFirmware (watched_map b) b Byte (watched_front main_map b) (image_memory image)
-firmware laws b image h =
-    let short = short_front b h.valid in
-    let front = watched_front main_map b in
-    laws.firmware image (watched_map b) b Byte front (watched_in_order b h.valid) (watched_apart b h.valid)
-    (record { from = omega arith; to = omega arith }) (omega arith)
-    (laws.code_is_bytes front (fits laws b image h)) (omega arith) (omega arith) h.valid h.limits h.holds
+firmware laws b image h = in_memory laws.nearest_is_byte laws.parts laws.code_is_bytes laws.firmware b image h.valid
+    h.limits h.holds
 
 bound_is : (b : Block) → instruction_bound Byte b + 4 + count_in (segments_of main_map b) ≡ watched_bound b
 unfolding watched_bound
