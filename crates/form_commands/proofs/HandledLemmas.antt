@@ -40,15 +40,11 @@ module _ (reported : AnswersAreReported) (fit : SpelledBytesFit) (all : AnswersU
   handles = record {
     block = block;
     firmware = firmware;
-    compiled = a.compiled;
     handler = handler;
     instrs = instrs;
-    handles = a.handles;
-    accepted = a.inputs.accepted;
     samples = samples;
-    in_range = a.inputs.in_range;
     plan = plan;
-    good_plan = a.inputs.good_plan;
+    accepts = a;
     ran = subst
         (λ (ss : List Sample). rows ≡ handled_seen firmware handler.bytes (map input_bytes ss) plan flags)
         same ran;

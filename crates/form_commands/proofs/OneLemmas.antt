@@ -38,13 +38,15 @@ module _ (accepted : AcceptedErrorsAreOne) (inputs : SpelledInputsAreOne) where
   handled_once firmwares images alike hrun files output other a b =
       let p = a.certified in
       let q = b.certified in
-      let one = firmwares (Alone Byte) files.fcl p.block q.block p.firmware q.firmware p.compiled q.compiled in
+      let x = p.accepts in
+      let y = q.accepts in
+      let one = firmwares (Alone Byte) files.fcl p.block q.block p.firmware q.firmware x.compiled y.compiled in
       let errors : a.report.errors ≡ b.report.errors =
-      errors_once p.block q.block files.inputs.cert a.report.errors b.report.errors one.0 p.compiled.spelled.valid
-      p.accepted q.accepted in
-      let bytes = bytes_once p.block q.block files.inputs.trace p.samples q.samples one.0 p.in_range q.in_range in
-      let plan : p.plan ≡ q.plan = inputs.plans files.inputs.plan p.plan q.plan p.good_plan q.good_plan in
-      let handlers = images files.handler p.handler q.handler p.handles.spelled q.handles.spelled in
+      errors_once p.block q.block files.inputs.cert a.report.errors b.report.errors one.0 x.compiled.spelled.valid
+      x.inputs.accepted y.inputs.accepted in
+      let bytes = bytes_once p.block q.block files.inputs.trace p.samples q.samples one.0 x.inputs.in_range y.inputs.in_range in
+      let plan : p.plan ≡ q.plan = inputs.plans files.inputs.plan p.plan q.plan x.inputs.good_plan y.inputs.good_plan in
+      let handlers = images files.handler p.handler q.handler x.handles.spelled y.handles.spelled in
       let rows : a.report.rows ≡ b.report.rows =
       p.ran
       ∙ alike p.firmware p.handler.bytes q.handler.bytes (map input_bytes p.samples) p.plan hrun.flags handlers.1
@@ -60,15 +62,17 @@ module _ (accepted : AcceptedErrorsAreOne) (inputs : SpelledInputsAreOne) where
   watched_once firmwares spelled srun files output other a b =
       let p = a.watched in
       let q = b.watched in
-      let one = firmwares Watched files.fcl p.block q.block p.firmware q.firmware p.compiled q.compiled in
+      let x = p.accepts in
+      let y = q.accepts in
+      let one = firmwares Watched files.fcl p.block q.block p.firmware q.firmware x.compiled y.compiled in
       let errors : a.report.errors ≡ b.report.errors =
-      errors_once p.block q.block files.inputs.cert a.report.errors b.report.errors one.0 p.compiled.spelled.valid
-      p.accepted q.accepted in
-      let bytes = bytes_once p.block q.block files.inputs.trace p.samples q.samples one.0 p.in_range q.in_range in
-      let plan : p.plan ≡ q.plan = inputs.plans files.inputs.plan p.plan q.plan p.good_plan q.good_plan in
+      errors_once p.block q.block files.inputs.cert a.report.errors b.report.errors one.0 x.compiled.spelled.valid
+      x.inputs.accepted y.inputs.accepted in
+      let bytes = bytes_once p.block q.block files.inputs.trace p.samples q.samples one.0 x.inputs.in_range y.inputs.in_range in
+      let plan : p.plan ≡ q.plan = inputs.plans files.inputs.plan p.plan q.plan x.inputs.good_plan y.inputs.good_plan in
       let upsets : p.upsets ≡ q.upsets =
-      spelled p.firmware.image.bytes files.upsets p.upsets q.upsets p.good_upsets
-      (subst (λ (f : Firmware). SpellsUpsets f.image.bytes files.upsets q.upsets) (sym one.1) q.good_upsets) in
+      spelled p.firmware.image.bytes files.upsets p.upsets q.upsets x.good_upsets
+      (subst (λ (f : Firmware). SpellsUpsets f.image.bytes files.upsets q.upsets) (sym one.1) y.good_upsets) in
       let rows : a.report.rows ≡ b.report.rows =
       p.ran ∙ (λ i. faults_of (one.1 i) (upset_rows (one.1 i) (bytes i) (plan i) (upsets i) srun.flags))
       ∙ sym q.ran in

@@ -5,8 +5,8 @@ use Rattle.form_commands.proofs.Words.{Request, Sample, SpelledBytesFit, srun_re
 use Rattle.form_commands.proofs.Words.{upset_rows, watched_report, WatchedFiles, ℕ}
 use Rattle.interrupt_plan.specs.{declared.upsets.Upset.Upset}
 use Rattle.watched_runs.specs.{Rows.FaultSeen, Samples.with_upsets}
-use Rattle.run_reports.specs.{Inputs.AcceptsInputs, WatchedRun.WatchedRun}
-use Rattle.form_commands.specs.{Srun.AcceptedWatchedRunsMakeOutput, Srun.AcceptsWatched}
+use Rattle.run_reports.specs.{Inputs.AcceptsInputs, WatchedRun.AcceptsWatched, WatchedRun.WatchedRun}
+use Rattle.form_commands.specs.Srun.{AcceptedWatchedRunsMakeOutput}
 use Rattle.cpu12_emul.specs.Image.{image_memory}
 use Rattle.watched_code.specs.Watched.{Watched, watched_answer}
 use Rattle.watched_runs.specs.Answering.{AnswersItsSamples, AnswersUnderAllUpsets, AnswersUnderUpsets, AreWatchedRows}
@@ -34,15 +34,10 @@ pub watches : (near : FaultlessAnswersAreNear) (fit : SpelledBytesFit) (flags : 
 watches near fit flags files block firmware errors samples slice plan upsets rows a same ran answers = record {
   block = block;
   firmware = firmware;
-  compiled = a.compiled;
-  image = a.image;
-  accepted = a.inputs.accepted;
   samples = samples;
-  in_range = a.inputs.in_range;
   plan = plan;
-  good_plan = a.inputs.good_plan;
   upsets = upsets;
-  good_upsets = a.good_upsets;
+  accepts = a;
   ran = subst (λ (ss : List Sample). rows ≡ faults_of firmware
       (upset_rows firmware (map input_bytes ss) plan upsets flags))
       same ran;

@@ -5,7 +5,7 @@ use Rattle.fuzzy_meaning.specs.declared.block.Block.{Block}
 use Rattle.alone_code.specs.declared.firmware.Firmware.{Firmware}
 use Rattle.box_tree.specs.declared.cert.CertKind.TheVariants.{Named}
 use Rattle.byte_scaling.specs.declared.width.Width.TheVariants.{Byte}
-use Rattle.interrupt_plan.specs.UpsetTexts.{HasUpsetFault, SpellsUpsets}
+use Rattle.interrupt_plan.specs.UpsetTexts.{HasUpsetFault}
 use Rattle.interrupt_plan.specs.declared.{Request.Request, upsets.Upset.Upset}
 use Rattle.srecord.specs.Texts.{GivesImage}
 use Rattle.trace_io.specs.declared.sample.Sample.{Sample}
@@ -15,12 +15,12 @@ use Rattle.fz_status.specs.declared.status.Status.{Status}
 use Rattle.fz_status.specs.declared.status.Status.TheVariants as status
 use Rattle.command_parts.specs.{Contents.content_at, Images.RefusesImage, Lines.counted}
 use Rattle.command_parts.specs.SeenOutputs.{HasOutput, SeenOutput, only_lines}
-use Rattle.command_parts.specs.Firmwares.{GivesFirmware, OfFirmware, RefusesText}
+use Rattle.command_parts.specs.Firmwares.{OfFirmware, RefusesText}
 use Rattle.command_parts.specs.declared.firmware.Form.TheVariants.{Watched}
 use Rattle.fz_status.specs.Words.{flags_of}
 use Rattle.run_reports.specs.Inputs.{AcceptsInputs, input_refusals}
 use Rattle.run_reports.specs.RowLines.{begun_lines, labelled_row_lines}
-use Rattle.run_reports.specs.WatchedRun.{WatchedReport, WatchedRun}
+use Rattle.run_reports.specs.WatchedRun.{AcceptsWatched, WatchedReport, WatchedRun}
 use Rattle.run_reports.specs.declared.files.WatchedFiles.{WatchedFiles}
 use Rattle.form_commands.specs.declared.srun.Srun.{Srun}
 
@@ -57,14 +57,6 @@ abbrev pub srun_lines : WatchedReport → List (List ℕ)
 srun_lines r = begun_lines r.errors r.bound ++ counted watched_row_lines 1 r.rows
 
 -- ---- what it makes of its files
-
--- all are accepted, and give this
-pub record AcceptsWatched (files : WatchedFiles) (block : Block) (firmware : Firmware) (errors : List ℕ)
-    (samples : List Sample) (plan : List Request) (upsets : List Upset) : Type 0 where
-  pub compiled : GivesFirmware Watched files.fcl block firmware
-  pub image : GivesImage files.image firmware.image
-  pub inputs : AcceptsInputs Named Byte block files.inputs errors samples plan
-  pub good_upsets : SpellsUpsets firmware.image.bytes files.upsets upsets
 
 -- the run is one of the files, and the lines are those of its report
 pub record SrunGives (srun : Srun) (files : WatchedFiles) (output : SeenOutput) : Type 0 where

@@ -6,10 +6,10 @@ ghost use Rattle.interrupt_plan.specs.UpsetTexts.{SpellsUpsets};
 ghost use Rattle.fz_status.specs.{Refusals.IsRefusal, Words.texts_of};
 ghost use Rattle.command_parts.specs.{Contents.bytes_of, Lines.counted};
 ghost use Rattle.command_parts.specs.SeenOutputs.{OutputHasNoFault, OutputsAreOne, IsResultOf};
-ghost use Rattle.form_commands.specs.Srun.{AcceptedWatchedRunsMakeOutput, AcceptsWatched, SrunMakes, srun_in};
+ghost use Rattle.form_commands.specs.Srun.{AcceptedWatchedRunsMakeOutput, SrunMakes, srun_in};
 ghost use Rattle.form_commands.specs.Srun.{srun_refusals, upset_refusals, watched_files, watched_row_lines};
 ghost use Rattle.form_commands.specs.declared.srun.Srun.{Srun as TheSrun};
-ghost use Rattle.run_reports.specs.RowLines.{begun_lines};
+ghost use Rattle.run_reports.specs.{RowLines.begun_lines, WatchedRun.AcceptsWatched};
 ghost use Rattle.run_reports.specs.declared.files.WatchedFiles.{WatchedFiles};
 ghost use Rattle.watched_runs.specs.Rows.{row_seen};
 

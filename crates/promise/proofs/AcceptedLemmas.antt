@@ -8,9 +8,9 @@ use Rattle.alone_code.specs.declared.firmware.Firmware.{Firmware}
 use Rattle.eval_code.specs.{Bounds.instruction_bound, Bounds.step_bound, MemoryMaps.main_map}
 use Rattle.byte_scaling.specs.declared.width.Width.{Width}
 use Rattle.box_tree.specs.declared.cert.CertKind.{CertKind}
-use Rattle.run_reports.specs.{RowLines.run_lines}
+use Rattle.run_reports.specs.{CertifiedRun.AcceptsRun, RowLines.run_lines}
 use Rattle.run_reports.specs.declared.files.RunFiles.{RunFiles}
-use Rattle.run_commands.specs.Run.{AcceptedRunsMakeOutput, Accepts, run_with}
+use Rattle.run_commands.specs.Run.{AcceptedRunsMakeOutput, run_with}
 use Rattle.promise.specs.Laws.{AcceptedFilesGiveFirmware, AcceptedFilesKeepPromise, AreAccepted}
 use Rattle.promise.specs.Laws.{CertifiedRunsKeepPromise}
 
@@ -33,7 +33,7 @@ is_firmware width b image is =
     record { image = is; memory_map = refl; inputs = refl; outputs = refl; instructions = refl; steps = refl }
 
 accepts : (kind : CertKind) (width : Width) (files : RunFiles) (a : AreAccepted kind width files)
-    → Accepts kind width files a.block (firmware_with width a.block a.image) a.errors a.samples a.plan
+    → AcceptsRun kind width files a.block (firmware_with width a.block a.image) a.errors a.samples a.plan
 accepts kind width files a = record {
   compiled = record {
     spelled = a.spelled;

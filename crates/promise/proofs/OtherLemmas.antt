@@ -28,8 +28,8 @@ debugged keep debug files output d byte =
 handled : AnswersServe → HandledRunsServe
 handled keep flags files report h byte = record {
   serves = keep Byte flags h.block h.firmware (map input_bytes h.samples) h.plan (map (λ row. row.row) report.rows) byte
-      h.compiled.spelled.valid h.compiled.limits h.compiled.compiled.0 h.compiled.compiled.1
-      h.reported.follows;
+      h.accepts.compiled.spelled.valid h.accepts.compiled.limits h.accepts.compiled.compiled.0
+      h.accepts.compiled.compiled.1 h.reported.follows;
   last = _;
   ran = record {
     most = h.firmware.step_bound;

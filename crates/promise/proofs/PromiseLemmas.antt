@@ -103,24 +103,24 @@ pub certified_keep : FirmwareAnswers → PlainIsOneStep → ArrivesPlainly → B
 unfolding served
 certified_keep answers one arrives few kind width flags files report r byte = record {
   block = r.block;
-  spelled = r.compiled.spelled;
+  spelled = r.accepts.compiled.spelled;
   image = r.firmware.image;
-  records = r.image;
+  records = r.accepts.image;
   samples = r.samples;
-  in_range = r.in_range;
+  in_range = r.accepts.inputs.in_range;
   plan = r.plan;
-  free_writes = r.good_plan;
+  free_writes = r.accepts.inputs.good_plan;
   serves = served answers one arrives width flags r.block r.firmware (map input_bytes r.samples) r.plan report.rows byte
-      r.compiled.spelled.valid r.compiled.limits r.compiled.compiled.0 r.compiled.compiled.1
-      r.reported.follows;
+      r.accepts.compiled.spelled.valid r.accepts.compiled.limits r.accepts.compiled.compiled.0
+      r.accepts.compiled.compiled.1 r.reported.follows;
   within = r.reported.within;
   instructions = r.reported.instructions;
   printable = record {
-    count = r.accepted.accepted.errors_count;
-    errors = errors_capped r.block (parts width) r.accepted.cert report.errors r.accepted.spelled.good.claims
-        r.accepted.accepted;
+    count = r.accepts.inputs.accepted.accepted.errors_count;
+    errors = errors_capped r.block (parts width) r.accepts.inputs.accepted.cert report.errors
+        r.accepts.inputs.accepted.spelled.good.claims r.accepts.inputs.accepted.accepted;
     bound = subst (λ (n : ℕ). n ≤ 2000) (sym r.reported.bound)
-        (few r.block width 0 r.compiled.spelled.valid r.compiled.limits).1;
+        (few r.block width 0 r.accepts.compiled.spelled.valid r.accepts.compiled.limits).1;
   };
   printed = ap (λ left. concat (run_lines report left)) r.left_is;
 }

@@ -3,8 +3,8 @@ use Rattle.run_commands.proofs.Words.{◌≡◌, Alone, AnswersAreReported, Answ
 use Rattle.run_commands.proofs.Words.{Firmware, firmware_rows, GivesFirmware, GivesImage, input_bytes, input_refusals}
 use Rattle.run_commands.proofs.Words.{left_of, List, refl, report_of, Request, RowSeen, Run, run_refusals, RunFiles}
 use Rattle.run_commands.proofs.Words.{Sample, Status, subst, ℕ}
-use Rattle.run_reports.specs.{CertifiedRun.CertifiedRun}
-use Rattle.run_commands.specs.{Run.AcceptedRunsMakeOutput, Run.Accepts}
+use Rattle.run_reports.specs.CertifiedRun.{AcceptsRun, CertifiedRun}
+use Rattle.run_commands.specs.Run.{AcceptedRunsMakeOutput}
 use Rattle.std.specs.Prelude.{map}
 use Rattle.fz_status.specs.declared.status.Status.TheVariants as status
 
@@ -12,7 +12,7 @@ use Rattle.fz_status.specs.declared.status.Status.TheVariants as status
 abbrev pub certifies : (reported : AnswersAreReported) (run : Run) (files : RunFiles) (block : Block)
     (firmware : Firmware) (errors : List ℕ) (samples slice : List Sample) (plan : List Request)
     (rows : List (RowSeen (List ℕ))) (left : ℕ)
-    → Accepts run.kind run.width files block firmware errors samples plan → slice ≡ samples
+    → AcceptsRun run.kind run.width files block firmware errors samples plan → slice ≡ samples
     → AnswersItsBlock firmware run.flags (map input_bytes slice) plan rows
     → left ≡ left_of (firmware_rows firmware (map input_bytes slice) plan run.flags).state.mem
     → CertifiedRun run.kind run.width run.flags files (report_of errors firmware.instr_bound rows)
@@ -22,13 +22,9 @@ certifies reported run files block firmware errors samples slice plan rows left 
     record {
       block = block;
       firmware = firmware;
-      compiled = a.compiled;
-      image = a.image;
-      accepted = a.inputs.accepted;
       samples = samples;
-      in_range = a.inputs.in_range;
       plan = plan;
-      good_plan = a.inputs.good_plan;
+      accepts = a;
       reported = reported run.width run.flags files.fcl block firmware a.inputs.accepted.cert errors files.inputs.trace
           samples plan rows a.compiled a.inputs.accepted.accepted a.inputs.in_range answers_there;
       left = left;

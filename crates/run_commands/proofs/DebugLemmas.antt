@@ -20,13 +20,11 @@ pub gives : (fit : SpelledBytesFit) (debug : DebugRun) (files : DebugFiles) (blo
     (lines : List (List ℕ))
     → Debugs files block firmware samples plan script → slice ≡ samples → orders ≡ script
     → items ≡ shown orders (run_positions firmware debug.flags slice plan)
-    → rows ≡ (firmware_rows firmware (map input_bytes slice) plan debug.flags).rows
     → AnswersItsBlock firmware debug.flags (map input_bytes slice) plan rows
     → lines ≡ debug_lines items' rows' → items' ≡ items → rows' ≡ rows
     → DebugGives debug files (only_lines lines)
 gives fit debug files block firmware samples slice plan script orders items items' rows rows' lines a same obeyed is
-    ran answers
-    written same_items same_rows =
+    answers written same_items same_rows =
     let all : AnswersItsBlock firmware debug.flags (map input_bytes samples) plan rows =
     subst (λ (ss : List Sample). AnswersItsBlock firmware debug.flags (map input_bytes ss) plan rows) same answers in
     let shown_is : items' ≡ shown script (run_positions firmware debug.flags samples plan) =
@@ -40,8 +38,6 @@ gives fit debug files block firmware samples slice plan script orders items item
       script = script;
       accepts = a;
       rows = rows;
-      ran = subst (λ (ss : List Sample). rows ≡ (firmware_rows firmware (map input_bytes ss) plan debug.flags).rows)
-          same ran;
       follows = all block a.compiled.spelled.valid a.compiled.limits a.compiled.compiled.0
           (fit block files.trace samples a.in_range);
       output_is = ap only_lines (written ∙ ap₂ debug_lines shown_is same_rows);
@@ -55,7 +51,7 @@ debug_made fit under debug files byte (block, firmware, samples, plan, script, a
     let items = shown script (run_positions firmware debug.flags samples plan) in (
       _,
       gives fit debug files block firmware samples samples plan script script items items rows rows _ a refl refl refl
-          refl (under firmware debug.flags bytes plan byte a.good_plan.good) refl refl refl,
+          (under firmware debug.flags bytes plan byte a.good_plan.good) refl refl refl,
     )
 
 -- what refuses the trace or the plan refuses the run

@@ -23,15 +23,17 @@ pub runs_once : GivenFirmwaresAreOne → AcceptedErrorsAreOne → SpelledInputsA
 runs_once firmwares accepted inputs run files output other a b =
     let p = a.certified in
     let q = b.certified in
-    let one = firmwares (Alone run.width) files.fcl p.block q.block p.firmware q.firmware p.compiled q.compiled in
+    let x = p.accepts in
+    let y = q.accepts in
+    let one = firmwares (Alone run.width) files.fcl p.block q.block p.firmware q.firmware x.compiled y.compiled in
     let errors : a.report.errors ≡ b.report.errors =
-    accepted run.kind run.width p.block files.inputs.cert a.report.errors b.report.errors p.compiled.spelled.valid
-    p.accepted (subst (λ (c : Block). AcceptsCert run.kind run.width c files.inputs.cert b.report.errors) (sym one.0)
-    q.accepted) in
+    accepted run.kind run.width p.block files.inputs.cert a.report.errors b.report.errors x.compiled.spelled.valid
+    x.inputs.accepted (subst (λ (c : Block). AcceptsCert run.kind run.width c files.inputs.cert b.report.errors) (sym one.0)
+    y.inputs.accepted) in
     let bytes : map input_bytes p.samples ≡ map input_bytes q.samples =
-    inputs.samples p.block.inputs files.inputs.trace p.samples q.samples p.in_range
-    (subst (λ (c : Block). SpellsTrace c.inputs files.inputs.trace q.samples) (sym one.0) q.in_range) in
-    let plan : p.plan ≡ q.plan = inputs.plans files.inputs.plan p.plan q.plan p.good_plan q.good_plan in
+    inputs.samples p.block.inputs files.inputs.trace p.samples q.samples x.inputs.in_range
+    (subst (λ (c : Block). SpellsTrace c.inputs files.inputs.trace q.samples) (sym one.0) y.inputs.in_range) in
+    let plan : p.plan ≡ q.plan = inputs.plans files.inputs.plan p.plan q.plan x.inputs.good_plan y.inputs.good_plan in
     let rows : a.report.rows ≡ b.report.rows =
     rows_ran p.reported.follows ∙ (λ i. (firmware_rows (one.1 i) (bytes i) (plan i) run.flags).rows)
     ∙ sym (rows_ran q.reported.follows) in
@@ -54,7 +56,8 @@ debug_runs_once firmwares inputs debug files output other a b =
     let plan : a.plan ≡ b.plan = inputs.plans files.plan a.plan b.plan p.good_plan q.good_plan in
     let script : a.script ≡ b.script = let e : Ok a.script ≡ Ok b.script = sym p.spelled ∙ q.spelled in cc in
     let rows : a.rows ≡ b.rows =
-    a.ran ∙ (λ i. (firmware_rows (one.1 i) (bytes i) (plan i) debug.flags).rows) ∙ sym b.ran in
+    rows_ran a.follows ∙ (λ i. (firmware_rows (one.1 i) (bytes i) (plan i) debug.flags).rows)
+    ∙ sym (rows_ran b.follows) in
     a.output_is ∙ (λ i. only_lines (debug_lines (shown (script i) (positions (first_state (one.1 i) debug.flags)
     (firmware_rows (one.1 i) (bytes i) (plan i) debug.flags))) (rows i))) ∙ sym b.output_is
 

@@ -91,7 +91,6 @@ pub record DebugGives (debug : DebugRun) (files : DebugFiles) (output : SeenOutp
   pub script : List Order
   pub accepts : Debugs files block firmware samples plan script
   pub rows : List (RowSeen (List ℕ))
-  pub ran : rows ≡ (firmware_rows firmware (map input_bytes samples) plan debug.flags).rows
   pub follows : AnswersUnder block firmware debug.flags (map input_bytes samples) plan rows
   pub output_is : output
       ≡ only_lines (debug_lines (shown script (run_positions firmware debug.flags samples plan)) rows)

@@ -11,11 +11,12 @@ use Rattle.interrupt_plan.specs.declared.Request.{Request}
 use Rattle.trace_io.specs.declared.sample.Sample.{Sample}
 use Rattle.srecord.specs.Texts.{GivesImage}
 use Rattle.command_parts.specs.{SeenOutputs.SeenOutput, SeenOutputs.only_lines, Images.RefusesImage, Contents.content_at}
-use Rattle.command_parts.specs.Firmwares.{GivesFirmware, OfFirmware, RefusesText}
+use Rattle.command_parts.specs.Firmwares.{OfFirmware, RefusesText}
 use Rattle.command_parts.specs.declared.firmware.Form.TheVariants.{Alone}
 use Rattle.fz_status.specs.{Words.flags_of, declared.status.Status.Status, Refusals.Refusals, Refusals.Refuses}
 use Rattle.fz_status.specs.{Words.Text, Words.word_at}
-use Rattle.run_reports.specs.{Inputs.AcceptsInputs, Inputs.input_refusals, Reports.Report, CertifiedRun.CertifiedRun}
+use Rattle.run_reports.specs.{Inputs.input_refusals, Reports.Report}
+use Rattle.run_reports.specs.CertifiedRun.{AcceptsRun, CertifiedRun}
 use Rattle.run_reports.specs.declared.files.RunFiles.{RunFiles}
 use Rattle.run_commands.specs.declared.run.Run.{Run}
 use Rattle.fz_status.specs.declared.status.Status.TheVariants as status
@@ -41,13 +42,6 @@ files_in contents = record {
 
 -- ---- what it makes of its files
 
--- all are accepted, and give this
-pub record Accepts (kind : CertKind) (width : Width) (files : RunFiles) (block : Block) (firmware : Firmware)
-    (errors : List ℕ) (samples : List Sample) (plan : List Request) : Type 0 where
-  pub compiled : GivesFirmware (Alone width) files.fcl block firmware
-  pub image : GivesImage files.image firmware.image
-  pub inputs : AcceptsInputs kind width block files.inputs errors samples plan
-
 -- the run is certified, and the lines are those of its report and of what it leaves
 pub record RunGives (run : Run) (files : RunFiles) (output : SeenOutput) : Type 0 where
   pub report : Report
@@ -71,9 +65,9 @@ RunMakes run files (Err s) = Refuses (run_refusals run files) s
 abbrev pub AcceptedRunsMakeOutput : Type 0
 AcceptedRunsMakeOutput = (run : Run) (files : RunFiles) (block : Block) (firmware : Firmware) (errors : List ℕ)
     (samples : List Sample) (plan : List Request) → run.flags < 2 ^ 8
-    → Accepts run.kind run.width files block firmware errors samples plan
+    → AcceptsRun run.kind run.width files block firmware errors samples plan
     → (output : SeenOutput) × (gives : RunGives run files output) × (gives.report.errors ≡ errors)
 
 abbrev pub RunAccepts : Run → RunFiles → Type 0
 RunAccepts run files = (block : Block) × (firmware : Firmware) × (errors : List ℕ) × (samples : List Sample)
-    × (plan : List Request) × Accepts run.kind run.width files block firmware errors samples plan
+    × (plan : List Request) × AcceptsRun run.kind run.width files block firmware errors samples plan

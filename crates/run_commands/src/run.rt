@@ -5,10 +5,10 @@ ghost use Rattle.alone_runs.specs.Rows.{row_seen};
 ghost use Rattle.fz_status.specs.{Refusals.IsRefusal, Words.texts_of};
 ghost use Rattle.command_parts.specs.Contents.{bytes_of};
 ghost use Rattle.command_parts.specs.SeenOutputs.{OutputHasNoFault, OutputsAreOne, IsResultOf};
-ghost use Rattle.run_reports.specs.{Reports.report_of, Reports.left_of, RowLines.run_lines};
+ghost use Rattle.run_reports.specs.{CertifiedRun.AcceptsRun, Reports.report_of, Reports.left_of, RowLines.run_lines};
 ghost use Rattle.run_reports.specs.declared.files.RunFiles.{RunFiles};
 ghost use Rattle.run_commands.specs.declared.run.Run.{Run as TheRun};
-ghost use Rattle.run_commands.specs.Run.{AcceptedRunsMakeOutput, Accepts, RunMakes, files_in, run_in, run_refusals};
+ghost use Rattle.run_commands.specs.Run.{AcceptedRunsMakeOutput, RunMakes, files_in, run_in, run_refusals};
 
 use alone_runs::laws::answers_under_plans;
 use alone_runs::{Row, run_on};
@@ -76,7 +76,7 @@ struct Accepted {
 impl Accepted {
     /// What the files give, or the first fault in their order.
     fn of(alloc: Global, run: Run, files: &RunFiles) -> Result<Accepted, Status>
-        ensures accepted { IfOk result (λ a. Accepts run.kind run.width files.now a.compiled.block
+        ensures accepted { IfOk result (λ a. AcceptsRun run.kind run.width files.now a.compiled.block
             a.compiled.firmware a.inputs.errors.items a.inputs.samples.items a.inputs.plan) }
         ensures fault { IfErr result (IsRefusal (run_refusals run files.now)) }
     {

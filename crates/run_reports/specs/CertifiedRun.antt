@@ -6,13 +6,21 @@ use Rattle.alone_code.specs.declared.firmware.Firmware.{Firmware}
 use Rattle.box_tree.specs.declared.cert.CertKind.{CertKind}
 use Rattle.byte_scaling.specs.declared.width.Width.{Width}
 use Rattle.srecord.specs.Texts.{GivesImage}
-use Rattle.trace_io.specs.{Traces.Spells as SpellsTrace, declared.sample.Sample.Sample}
-use Rattle.interrupt_plan.specs.{Plans.Spells as SpellsPlan, declared.Request.Request}
+use Rattle.trace_io.specs.declared.sample.Sample.{Sample}
+use Rattle.interrupt_plan.specs.declared.Request.{Request}
 use Rattle.alone_runs.specs.Rows.{firmware_rows}
 use Rattle.trace_io.specs.Traces.{input_bytes}
-use Rattle.command_parts.specs.{Certs.AcceptsCert, Firmwares.GivesFirmware}
+use Rattle.command_parts.specs.Firmwares.{GivesFirmware}
 use Rattle.command_parts.specs.declared.firmware.Form.TheVariants.{Alone}
-use Rattle.run_reports.specs.{Reports.IsReportOf, Reports.Report, Reports.left_of, declared.files.RunFiles.RunFiles}
+use Rattle.run_reports.specs.{Inputs.AcceptsInputs, Reports.IsReportOf, Reports.Report, Reports.left_of}
+use Rattle.run_reports.specs.declared.files.RunFiles.{RunFiles}
+
+-- the files are accepted, and give this
+pub record AcceptsRun (kind : CertKind) (width : Width) (files : RunFiles) (block : Block) (firmware : Firmware)
+    (errors : List ℕ) (samples : List Sample) (plan : List Request) : Type 0 where
+  pub compiled : GivesFirmware (Alone width) files.fcl block firmware
+  pub image : GivesImage files.image firmware.image
+  pub inputs : AcceptsInputs kind width block files.inputs errors samples plan
 
 -- Compile accepts the FCL text, IMAGE holds exactly its firmware's image, the checker accepts the certificate, the
 -- trace spells samples within their inputs' ranges, and the plan interrupts that write only free bytes. The report is
@@ -21,13 +29,9 @@ pub record CertifiedRun (kind : CertKind) (width : Width) (flags : ℕ) (files :
     : Type 0 where
   pub block : Block
   pub firmware : Firmware
-  pub compiled : GivesFirmware (Alone width) files.fcl block firmware
-  pub image : GivesImage files.image firmware.image
-  pub accepted : AcceptsCert kind width block files.inputs.cert report.errors
   pub samples : List Sample
-  pub in_range : SpellsTrace block.inputs files.inputs.trace samples
   pub plan : List Request
-  pub good_plan : SpellsPlan files.inputs.plan plan
+  pub accepts : AcceptsRun kind width files block firmware report.errors samples plan
   pub reported : IsReportOf width flags block firmware samples plan report
   pub left : ℕ
   pub left_is : left ≡ left_of (firmware_rows firmware (map input_bytes samples) plan flags).state.mem

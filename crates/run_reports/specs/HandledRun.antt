@@ -6,11 +6,10 @@ use Rattle.fuzzy_meaning.specs.declared.block.Block.{Block}
 use Rattle.alone_code.specs.declared.firmware.Firmware.{Firmware}
 use Rattle.box_tree.specs.declared.cert.CertKind.TheVariants.{Named}
 use Rattle.byte_scaling.specs.declared.width.Width.TheVariants.{Byte}
-use Rattle.interrupt_plan.specs.{Plans.Spells as SpellsPlan, declared.Request.Request}
-use Rattle.trace_io.specs.{Traces.Spells as SpellsTrace, declared.sample.Sample.Sample}
-use Rattle.trace_io.specs.Traces.{input_bytes}
+use Rattle.interrupt_plan.specs.declared.Request.{Request}
+use Rattle.trace_io.specs.{Traces.input_bytes, declared.sample.Sample.Sample}
 use Rattle.handled_runs.specs.{Answering.AnswersHandled, Forms.HandledSeen, Forms.handled_seen}
-use Rattle.command_parts.specs.{Certs.AcceptsCert, Firmwares.GivesFirmware, Handlers.GivesHandler}
+use Rattle.command_parts.specs.{Firmwares.GivesFirmware, Handlers.GivesHandler}
 use Rattle.command_parts.specs.declared.firmware.Form.TheVariants.{Alone}
 use Rattle.run_reports.specs.{Inputs.AcceptsInputs, Reports.IsReportOf, Reports.Report}
 use Rattle.run_reports.specs.declared.files.HandledFiles.{HandledFiles}
@@ -43,15 +42,11 @@ pub record AcceptsHandled (files : HandledFiles) (block : Block) (firmware : Fir
 pub record HandledRun (flags : ℕ) (files : HandledFiles) (report : HandledReport) : Type 0 where
   pub block : Block
   pub firmware : Firmware
-  pub compiled : GivesFirmware (Alone Byte) files.fcl block firmware
   pub handler : Image
   pub instrs : ℕ
-  pub handles : GivesHandler files.handler handler instrs
-  pub accepted : AcceptsCert Named Byte block files.inputs.cert report.errors
   pub samples : List Sample
-  pub in_range : SpellsTrace block.inputs files.inputs.trace samples
   pub plan : List Request
-  pub good_plan : SpellsPlan files.inputs.plan plan
+  pub accepts : AcceptsHandled files block firmware handler instrs report.errors samples plan
   pub ran : report.rows ≡ handled_seen firmware handler.bytes (map input_bytes samples) plan flags
   pub interrupts : AnswersHandled firmware handler.bytes instrs flags (map input_bytes samples) plan
   pub reported : IsReportOf Byte flags block firmware samples plan (without_handler report)

@@ -7,13 +7,13 @@ use Rattle.alone_code.specs.declared.firmware.Firmware.{Firmware}
 use Rattle.box_tree.specs.declared.cert.CertKind.TheVariants.{Named}
 use Rattle.byte_scaling.specs.declared.width.Width.TheVariants.{Byte}
 use Rattle.srecord.specs.Texts.{GivesImage}
-use Rattle.trace_io.specs.{Traces.Spells as SpellsTrace, declared.sample.Sample.Sample}
-use Rattle.interrupt_plan.specs.{Plans.Spells as SpellsPlan, UpsetTexts.SpellsUpsets}
+use Rattle.trace_io.specs.{Traces.input_bytes, declared.sample.Sample.Sample}
+use Rattle.interrupt_plan.specs.UpsetTexts.{SpellsUpsets}
 use Rattle.interrupt_plan.specs.declared.{Request.Request, upsets.Upset.Upset}
-use Rattle.trace_io.specs.Traces.{input_bytes}
 use Rattle.watched_runs.specs.{Answering.AnswersUnderUpsets, Rows.FaultSeen, Rows.faults_of, Rows.upset_rows}
-use Rattle.run_reports.specs.{Faultless.FaultlessAreWithinErrors, declared.files.WatchedFiles.WatchedFiles}
-use Rattle.command_parts.specs.{Certs.AcceptsCert, Firmwares.GivesFirmware}
+use Rattle.run_reports.specs.{Faultless.FaultlessAreWithinErrors, Inputs.AcceptsInputs}
+use Rattle.run_reports.specs.declared.files.WatchedFiles.{WatchedFiles}
+use Rattle.command_parts.specs.Firmwares.{GivesFirmware}
 use Rattle.command_parts.specs.declared.firmware.Form.TheVariants.{Watched}
 
 -- what is told of a run: an error for each output, in millionths of its range, the bound on instructions, and a row for
@@ -22,6 +22,14 @@ pub record WatchedReport : Type 0 where
   pub errors : List ℕ
   pub bound : ℕ
   pub rows : List FaultSeen
+
+-- the files are accepted, and give this
+pub record AcceptsWatched (files : WatchedFiles) (block : Block) (firmware : Firmware) (errors : List ℕ)
+    (samples : List Sample) (plan : List Request) (upsets : List Upset) : Type 0 where
+  pub compiled : GivesFirmware Watched files.fcl block firmware
+  pub image : GivesImage files.image firmware.image
+  pub inputs : AcceptsInputs Named Byte block files.inputs errors samples plan
+  pub good_upsets : SpellsUpsets firmware.image.bytes files.upsets upsets
 
 -- Compile accepts the FCL text, IMAGE holds exactly the image of its firmware with watched tables, the checker accepts
 -- the certificate, the trace spells samples within their inputs' ranges, the plan interrupts that write only free
@@ -32,15 +40,10 @@ pub record WatchedReport : Type 0 where
 pub record WatchedRun (flags : ℕ) (files : WatchedFiles) (report : WatchedReport) : Type 0 where
   pub block : Block
   pub firmware : Firmware
-  pub compiled : GivesFirmware Watched files.fcl block firmware
-  pub image : GivesImage files.image firmware.image
-  pub accepted : AcceptsCert Named Byte block files.inputs.cert report.errors
   pub samples : List Sample
-  pub in_range : SpellsTrace block.inputs files.inputs.trace samples
   pub plan : List Request
-  pub good_plan : SpellsPlan files.inputs.plan plan
   pub upsets : List Upset
-  pub good_upsets : SpellsUpsets firmware.image.bytes files.upsets upsets
+  pub accepts : AcceptsWatched files block firmware report.errors samples plan upsets
   pub ran : report.rows ≡ faults_of firmware (upset_rows firmware (map input_bytes samples) plan upsets flags)
   pub answers : AnswersUnderUpsets block firmware flags (map input_bytes samples) plan upsets report.rows
   pub bound : report.bound ≡ watched_bound block

@@ -10,7 +10,7 @@ returns c =
     a.compiled.firmware a.samples.items
     c.deref.result.now a.plan a.script c.as_slice.result.now c.in_ok-shown.shown.items c.deref-2.result.now
     (map row_seen c.in_ok-shown.rows.items) (map row_seen c.deref-3.result.now) _ c.in_ok-accepted.ensures.accepted
-    c.deref.ensures.value c.as_slice.ensures c.in_ok-shown.ensures.shown c.in_ok-shown.ensures.rows c.in_ok-shown.ensures.answers
+    c.deref.ensures.value c.as_slice.ensures c.in_ok-shown.ensures.shown c.in_ok-shown.ensures.answers
     c.in_ok-lines.ensures c.deref-2.ensures.value (ap (map row_seen) c.deref-3.ensures.value)
 
 pub debug-requires-clause-samples : goal.debug-requires-clause-samples
