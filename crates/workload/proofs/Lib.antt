@@ -9,3 +9,4 @@ pub mod TreeOfText
 pub mod RuleLemmas
 pub mod FclLemmas
 pub mod OneLemmas
+pub mod SomeLemmas

@@ -6,7 +6,7 @@ use Rattle.fcl_check.specs.Texts.{SpellsBlock}
 use Rattle.rule_layout.specs.Layouts.{IsWithinLimits}
 use Rattle.interrupt_plan.specs.declared.Request.{Request}
 use Rattle.trace_io.specs.{Traces.input_bytes, declared.sample.Sample.Sample}
-use Rattle.workload.specs.{Blocks.drawn_block, Texts.fcl_text, Workloads.IsWorkload}
+use Rattle.workload.specs.{Blocks.drawn_block, Draws.draw, Texts.fcl_text, Workloads.IsWorkload}
 
 -- each can be laid out
 abbrev pub DrawnBlocksAreWithinLimits : Type 0
@@ -24,3 +24,9 @@ WorkloadsAreOne = (number : ℕ) (text trace plan texts traces plans : List ℕ)
     → IsWorkload number text trace plan block samples requests
     → IsWorkload number texts traces plans other those others
     → (block ≡ other) × (map input_bytes samples ≡ map input_bytes those) × (requests ≡ others)
+
+-- and each number has one
+abbrev pub NumbersHaveWorkloads : Type 0
+NumbersHaveWorkloads = (number : ℕ) → (text : List ℕ) × (trace : List ℕ) × (plan : List ℕ) × (samples : List Sample)
+    × (requests : List Request)
+    × IsWorkload number text trace plan (drawn_block (draw number 0 5)) samples requests

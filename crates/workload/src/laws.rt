@@ -1,5 +1,6 @@
 //! Laws of what is drawn, each the contract of a function that does nothing.
-ghost use Rattle.workload.specs.Laws.{DrawnBlocksAreWithinLimits, DrawnTextsSpellBlocks, WorkloadsAreOne};
+ghost use Rattle.workload.specs.Laws.{DrawnBlocksAreWithinLimits, DrawnTextsSpellBlocks, NumbersHaveWorkloads};
+ghost use Rattle.workload.specs.Laws.{WorkloadsAreOne};
 
 use fcl_check::spelled_blocks_are_valid;
 use fcl_syntax::cuts_are_tokens;
@@ -15,6 +16,13 @@ pub(crate) fn drawn_texts_spell_blocks()
 {
     cuts_are_tokens();
     spelled_blocks_are_valid()
+}
+
+/// Each number has a workload.
+pub fn numbers_have_workloads()
+    ensures { NumbersHaveWorkloads }
+{
+    drawn_texts_spell_blocks()
 }
 
 /// A number draws one block, the bytes of one list of samples, and one plan.

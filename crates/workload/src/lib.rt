@@ -15,5 +15,5 @@ mod texts;
 mod traces;
 mod workload;
 
-pub use laws::{drawn_blocks_are_within_limits, workloads_are_one};
+pub use laws::{drawn_blocks_are_within_limits, numbers_have_workloads, workloads_are_one};
 pub use workload::{Workload, generate};
