@@ -15,7 +15,7 @@ use fuzzy_meaning::Output;
 use std::alloc::{AllocError, Global};
 
 /// FAULT, which is 1 where the tables are not what they were, and else 0.
-const FAULT: u16 = 0x1030;
+pub const FAULT: u16 = 0x1030;
 
 /// How many bytes code has.
 pub(crate) fn code_length(code: &[Instr]) -> u16

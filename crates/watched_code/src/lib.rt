@@ -13,6 +13,7 @@ pub mod laws;
 mod segments;
 mod watch;
 
+pub use check::FAULT;
 pub use laws::{one_change_is_seen, watched_answers, watched_firmwares_are_one, watched_is_bytes};
 pub use segments::Segment;
 pub use watch::compile_scrub;

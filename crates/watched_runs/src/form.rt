@@ -23,6 +23,7 @@ use run_forms::{Counts, Notes, RunForm, SampleForm, room_for};
 use run_law::laws::SoundForm;
 use std::alloc::Global;
 use trace_io::Sample;
+use watched_code::FAULT;
 
 /// What a sample's run gave, and what FAULT held at its end.
 #[derive(Drop)]
@@ -32,9 +33,6 @@ pub struct WatchedRow {
     /// The byte at FAULT: 1 where a byte of the tables was another than the image's, and else 0.
     pub fault: u8,
 }
-
-/// Where a firmware with watched tables says whether these are what they were.
-const FAULT: u16 = 0x1030;
 
 /// A firmware with watched tables, with a trace and upsets. Its handler does the writes that a request
 /// lists.
