@@ -100,7 +100,7 @@ impl<'a> RunForm<Request, Notes<()>, Row> for AloneForm<'a> {
             (counted_at (writes_harness self.now.firmware.now self.now.samples.now).notes counts m.now.state) x }
     {
         let bytes = self.samples[k].bytes.as_slice();
-        row_of(bytes, answers(self.firmware, m), counts)
+        row_of(bytes, answers(self.firmware, m), counts).0
     }
 }
 

@@ -38,10 +38,10 @@ pub struct Row {
     pub frames: List<(u32, Frame)>,
 }
 
-/// The row of a sample of at most eight bytes, of which this was counted.
-pub fn row_of<U: Drop>(bytes: &[u8], answers: ArrayVec<u16, 4>, counts: Counts<Notes<U>>) -> Row
+/// The row of a sample of at most eight bytes, of which this was counted, and what its handlers told.
+pub fn row_of<U>(bytes: &[u8], answers: ArrayVec<u16, 4>, counts: Counts<Notes<U>>) -> (Row, Vec<U>)
     requires { length bytes.now ≤ 8 }
-    ensures { row_seen result ≡ record {
+    ensures row { row_seen result.0 ≡ record {
       sample = bytes.now;
       answers = answers.items;
       instrs = counts.instrs;
@@ -49,6 +49,7 @@ pub fn row_of<U: Drop>(bytes: &[u8], answers: ArrayVec<u16, 4>, counts: Counts<N
       resumed = counts.resumed;
       frames = frames_seen counts.notes.frames.items;
     } }
+    ensures told { result.1 ≡ counts.notes.told }
 {
     let Counts {
         arrived: _,
@@ -59,15 +60,16 @@ pub fn row_of<U: Drop>(bytes: &[u8], answers: ArrayVec<u16, 4>, counts: Counts<N
         resumed,
         notes,
     } = counts;
-    let Notes { frames, told: _ } = notes;
-    Row {
+    let Notes { frames, told } = notes;
+    let row = Row {
         bytes: copy_of(bytes),
         answers,
         instrs,
         steps: moment,
         resumed,
         frames: List::new(frames),
-    }
+    };
+    (row, told)
 }
 
 /// Runs a firmware over a trace under a plan, and answers a row for each sample and the memory of

@@ -114,7 +114,7 @@ impl<'a> RunForm<Request, Notes<HandlerEnd>, HandledRow> for HandledForm<'a> {
     {
         let handler = steps_in(counts.notes.told.as_slice());
         let bytes = self.samples[k].bytes.as_slice();
-        let row = row_of(bytes, answers(self.firmware, m), counts);
+        let row = row_of(bytes, answers(self.firmware, m), counts).0;
         HandledRow { row, handler }
     }
 }

@@ -11,11 +11,11 @@ ghost use Rattle.two_level_runs.specs.{Levels.Levels, Levels.fitted_form, Levels
 
 use crate::rows::TwoRow;
 use crate::serve::{FastRow, serve};
-use alone_runs::Row;
+use alone_runs::row_of;
 use cpu12_emul::machine::Machine;
 use cpu12_isa::mem::Mem;
-use firmware_runs::{answers, copy_of, give, is_busy_here, is_idle};
-use fz_list::{List as Items, Memory};
+use firmware_runs::{answers, give, is_busy_here, is_idle};
+use fz_list::Memory;
 use interrupt_plan::Level;
 use run_forms::{Counts, Notes, RunForm, SampleForm, room_for};
 use run_law::laws::SoundForm;
@@ -105,25 +105,9 @@ impl<'a> RunForm<Level, Notes<Option<FastRow>>, TwoRow> for TwoLevelForm<'a> {
             (counted_at (level_harness self.now.two.now self.now.slow.now self.now.fast.now).notes counts
             m.now.state) x }
     {
-        let Counts {
-            arrived: _,
-            moment,
-            inside: _,
-            next: _,
-            instrs,
-            resumed,
-            notes,
-        } = counts;
-        let Notes { frames, told } = notes;
-        let row = Row {
-            bytes: copy_of(self.slow[k].bytes.as_slice()),
-            answers: answers(&self.two.slow, m),
-            instrs,
-            steps: moment,
-            resumed,
-            frames: Items::new(frames),
-        };
-        TwoRow { row, fast: told }
+        let bytes = self.slow[k].bytes.as_slice();
+        let (row, fast) = row_of(bytes, answers(&self.two.slow, m), counts);
+        TwoRow { row, fast }
     }
 }
 

@@ -140,7 +140,7 @@ impl<'a> RunForm<Request, Notes<()>, WatchedRow> for WatchedForm<'a> {
     {
         let answers = answers(self.firmware, m);
         WatchedRow {
-            row: row_of(bytes_of(self.samples, k), answers, counts),
+            row: row_of(bytes_of(self.samples, k), answers, counts).0,
             fault: m.peek(FAULT),
         }
     }

@@ -20,8 +20,8 @@ returns g c = λ x is.
     let bytes : c.as_slice-bytes.result.now ≡ x =
     c.as_slice-bytes.ensures.value
     ∙ sym (got input_bytes a.self.now.samples.now a.k c.index-self-k.result x c.requires.sample is) in
-    let row : rows.row_seen c.row_of-row.result ≡ row_by (answers_in f) x counted =
-    c.row_of-row.ensures
+    let row : rows.row_seen c.row_of-row.result.0 ≡ row_by (answers_in f) x counted =
+    c.row_of-row.ensures.row
     ∙ ap₂ (λ (bs vs : List ℕ). record (row_by (answers_in f) x counted) { sample = bs; answers = vs }) bytes
     c.answers.ensures in
     let handler : c.steps_in-handler.result ≡ steps_of (map (λ (end : HandlerEnd). end) told) =

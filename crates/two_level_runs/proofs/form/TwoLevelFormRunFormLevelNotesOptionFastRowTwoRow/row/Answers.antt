@@ -4,10 +4,10 @@ use Rattle.two_level_runs.proofs.form.TwoLevelFormRunFormLevelNotesOptionFastRow
 
 pub returns : goal.returns
 returns g c x e =
-    let same : x ≡ c.as_slice.result.now =
+    let bytes : x ≡ c.as_slice-bytes.result.now =
     got input_bytes c.args.self.now.slow.now c.args.k c.index-self-k.result x c.requires.sample e
-    ∙ sym c.as_slice.ensures.value in
-    let bytes : c.copy_of.result.items ≡ x = c.copy_of.ensures ∙ sym same in
+    ∙ sym c.as_slice-bytes.ensures.value in
     let answers = c.answers.ensures in
-    let frames = c.new.ensures in
+    let row = c.row_of-row.ensures.row in
+    let told = c.row_of-row.ensures.told in
     cc

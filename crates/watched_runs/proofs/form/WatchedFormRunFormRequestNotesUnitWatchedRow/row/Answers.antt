@@ -10,5 +10,5 @@ bytes_of-requires g c =
 pub returns : goal.returns
 returns g c = λ x is.
     let a = c.args in
-    row_is a.self.now.firmware.now x a.counts a.m.now.state _ _ _ _ c.row_of.ensures c.answers-answers.ensures
+    row_is a.self.now.firmware.now x a.counts a.m.now.state _ _ _ _ c.row_of.ensures.row c.answers-answers.ensures
     c.peek.ensures (c.bytes_of.ensures.bytes x.bytes (bytes_there 1 a.self.now.upsets.now _ a.k x is))
