@@ -12,4 +12,4 @@ mod laws;
 mod ports;
 
 pub use laws::{answers_are_values, given_is_put, instructions_are_steps};
-pub use ports::{answers, copy_of, give, is_busy_here, is_idle};
+pub use ports::{answers, answers_from, copy_of, give, is_busy_here, is_idle};

@@ -2,7 +2,7 @@
 ghost use Rattle.std.specs.Prelude.{◌≡◌, ◌≤◌, true, false, length};
 ghost use Rattle.cpu12_parts.specs.State.{State};
 ghost use Rattle.alone_code.specs.Interruptible.{is_idle};
-ghost use Rattle.firmware_runs.specs.Ports.{given, answer_at, answers_in};
+ghost use Rattle.firmware_runs.specs.Ports.{given, answer_at, answers_at, answers_in};
 
 use alone_code::Firmware;
 use arrayvec::ArrayVec;
@@ -51,20 +51,33 @@ fn answer_at<M: Mem>(m: &Machine<M>, width: Width, at: u16) -> u16
     }
 }
 
+/// So many answers, at most four, one behind another from an address on.
+pub fn answers_from<M: Mem>(m: &Machine<M>, width: Width, first: u16, count: u8) -> ArrayVec<u16, 4>
+    requires { count ≤ 4 }
+    ensures { result.items ≡ answers_at width count first m.now.state.mem }
+{
+    let mut answers = ArrayVec::new();
+    let mut at = first;
+    let mut left = count;
+    while left > 0 {
+        answers.push(answer_at(m, width, at));
+        at = at.wrapping_add(width.places());
+        left -= 1;
+    }
+    answers
+}
+
 /// The answers, in the order of the outputs, of which there are at most four.
 pub fn answers<M: Mem>(firmware: &Firmware, m: &Machine<M>) -> ArrayVec<u16, 4>
     requires { firmware.now.outputs ≤ 4 }
     ensures { result.items ≡ answers_in firmware.now m.now.state }
 {
-    let mut answers = ArrayVec::new();
-    let mut at = firmware.memory_map.outputs;
-    let mut left = firmware.outputs;
-    while left > 0 {
-        answers.push(answer_at(m, firmware.width, at));
-        at = at.wrapping_add(firmware.width.places());
-        left -= 1;
-    }
-    answers
+    answers_from(
+        m,
+        firmware.width,
+        firmware.memory_map.outputs,
+        firmware.outputs,
+    )
 }
 
 /// A copy of at most eight bytes.

@@ -1,8 +1,9 @@
 -- The writes of a sample's bytes, and the bytes of its answers, one after the other.
-use Rattle.two_level_runs.proofs.Words.{[], ◌++◌, ◌-◌, ◌<◌, ◌∙◌, ◌∷◌, ◌≡◌, ap, arith, bytes_at, drop, entered}
-use Rattle.two_level_runs.proofs.Words.{fast_map, from, get_or, length, List, pairs_of, placed, plus, State, suc}
+use Rattle.two_level_runs.proofs.Words.{[], ◌++◌, ◌∙◌, ◌∷◌, ◌≡◌, ap, arith, Byte, bytes_at, drop, entered, fast_map}
+use Rattle.two_level_runs.proofs.Words.{from, length, List, pairs_of, placed, plus, refl, slice_index, State, suc}
 use Rattle.two_level_runs.proofs.Words.{suspended, sym, take, wav, write_all, zero, ℕ}
-use Rattle.std.proofs.{Common.append_assoc, Common.append-nil}
+use Rattle.std.proofs.{Common.append-nil}
+use Rattle.firmware_runs.specs.Ports.{answers_at}
 use Rattle.cpu12_emul.specs.{Take.pushed, Take.vectored}
 use Rattle.std.proofs.lemmas.List.{drop_all}
 use Rattle.cpu12_isa.specs.declared.instr.Write.{Write}
@@ -20,11 +21,8 @@ entered_with ws bytes k next s all pairs =
     ∙ ap (λ l. pairs_of (take k ws) ++ placed next l) (sym none) ∙ pairs in
     ap (λ (ps : List (ℕ × ℕ)). vectored (record v { mem = write_all ps v.mem })) put
 
--- one byte more
-pub byte_more : (mem : List ℕ) (at n : ℕ) (got : List ℕ) → 0 < n
-    → (got ++ get_or mem at 0 ∷ []) ++ bytes_at mem (from (plus at 1) (n - 1)) ≡ got ++ bytes_at mem (from at n)
-byte_more mem at zero got some = absurd (omega arith)
-byte_more mem at (suc n) got some =
-    let one : suc n - 1 ≡ n = omega arith in
-    append_assoc got (get_or mem at 0 ∷ []) (bytes_at mem (from (plus at 1) (suc n - 1)))
-    ∙ ap (λ k. got ++ (get_or mem at 0 ∷ bytes_at mem (from (plus at 1) k))) one
+-- narrow answers are the bytes there
+pub answers_at-narrow : (n at : ℕ) (mem : List ℕ) → answers_at Byte n at mem ≡ bytes_at mem (from at n)
+answers_at-narrow zero at mem = refl
+answers_at-narrow (suc n) at mem =
+    ap (λ (vs : List ℕ). slice_index mem at ∷ vs) (answers_at-narrow n (plus at 1) mem)

@@ -9,10 +9,12 @@ ghost use Rattle.run_forms.specs.Rest.{summary, counted_at};
 
 use crate::fast_code::{FastForm, InnerFrame};
 use arrayvec::ArrayVec;
+use byte_scaling::Width;
 use cpu12_emul::ends::Frame;
 use cpu12_emul::machine::Machine;
 use cpu12_isa::instr::Write;
 use cpu12_isa::mem::Mem;
+use firmware_runs::answers_from;
 use run_forms::{Counts, fresh_sample, run_sample};
 use two_level_code::fast_map;
 
@@ -65,13 +67,5 @@ pub(crate) fn answers<M: Mem>(m: &Machine<M>, outputs: u8) -> ArrayVec<u16, 4>
     requires { outputs ≤ 4 }
     ensures { result.items ≡ bytes_at m.now.state.mem (from fast_map.outputs outputs) }
 {
-    let mut answers = ArrayVec::new();
-    let mut next = fast_map().outputs;
-    let mut left = outputs;
-    while left > 0 {
-        answers.push(u16::from(m.peek(next)));
-        next = next.wrapping_add(1);
-        left -= 1;
-    }
-    answers
+    answers_from(m, Width::Byte, fast_map().outputs, outputs)
 }
