@@ -228,15 +228,15 @@ unfolding is_blank
 row_text-plain f g gs p ps = rw (unquoted f p) (fields_ended f (g ∷ gs) ps)
 
 -- a field with its comma, and what stands behind them
-then : (text f rest more : List ℕ) → more ≡ text ++ (f ++ (44 ∷ [])) → more ++ rest ≡ text ++ (f ++ (44 ∷ rest))
-then text f rest more is =
+append-field : (text f rest more : List ℕ) → more ≡ text ++ (f ++ (44 ∷ [])) → more ++ rest ≡ text ++ (f ++ (44 ∷ rest))
+append-field text f rest more is =
     ap (λ (l : List ℕ). l ++ rest) is ∙ append_assoc text (f ++ (44 ∷ [])) rest
     ∙ ap (λ (l : List ℕ). text ++ l) (append_assoc f (44 ∷ []) rest)
 
 pub pair_written : (f g t t1 t2 : List ℕ) → are_plain f ≡ true → are_plain g ≡ true
     → t1 ≡ t ++ (f ++ (44 ∷ [])) → t2 ≡ t1 ++ (g ++ (10 ∷ [])) → t2 ≡ t ++ row_text default_writer (f ∷ g ∷ [])
 pair_written f g t t1 t2 p q e1 e2 =
-    e2 ∙ then t f (g ++ (10 ∷ [])) t1 e1
+    e2 ∙ append-field t f (g ++ (10 ∷ [])) t1 e1
     ∙ ap (λ (l : List ℕ). t ++ l) (sym (row_text-plain f g [] p (rw q refl)))
 
 pub four_written : (f g h k t t1 t2 t3 t4 : List ℕ) → are_plain f ≡ true → are_plain g ≡ true → are_plain h ≡ true
@@ -245,5 +245,5 @@ pub four_written : (f g h k t t1 t2 t3 t4 : List ℕ) → are_plain f ≡ true �
 four_written f g h k t t1 t2 t3 t4 pf pg ph pk e1 e2 e3 e4 =
     let last = k ++ (10 ∷ []) in
     let third = h ++ (44 ∷ last) in
-    e4 ∙ then t2 h last t3 e3 ∙ then t1 g third t2 e2 ∙ then t f (g ++ (44 ∷ third)) t1 e1
+    e4 ∙ append-field t2 h last t3 e3 ∙ append-field t1 g third t2 e2 ∙ append-field t f (g ++ (44 ∷ third)) t1 e1
     ∙ ap (λ (l : List ℕ). t ++ l) (sym (row_text-plain f g (h ∷ k ∷ []) pf (rw (pg, ph, pk) refl)))
