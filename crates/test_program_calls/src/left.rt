@@ -50,3 +50,19 @@ impl Left<'_> {
         }
     }
 }
+
+/// Rows of a table: each is the row that it changes, the fields that are others, what is left where that is another,
+/// and what OUT holds then.
+#[macro_export]
+macro_rules! rows {
+    ($row:ident: $($base:ident { $($field:ident: $value:expr),* }
+        $(leaves $lines:literal)? $(refused $code:literal $line:literal)? $(makes $out:expr)?;)*) => {
+        [$($row {
+            $($field: $value,)*
+            $(left: $crate::Left::Lines($lines),)?
+            $(left: $crate::Left::Refused($code, $line),)?
+            $(out: Some($out),)?
+            ..$base
+        }),*]
+    };
+}

@@ -3,7 +3,7 @@ ghost use Rattle.std.specs.Prelude.{◌≤◌};
 
 use std::alloc::{AllocError, Global};
 use std::test::Fail;
-use test_program_calls::{Difference, Left, call_over};
+use test_program_calls::{Difference, Left, call_over, rows};
 use test_texts::{
     BLOCK, HALF_WEIGHT, HALVES, LATCH, NODES_OF_THE_LATCH, QUARTERS, ROUNDED, TWO_OUTPUTS,
 };

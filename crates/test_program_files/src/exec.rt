@@ -1,6 +1,6 @@
 //! Runs of images.
 use std::test::Fail;
-use test_program_calls::{Left, USAGE, call_over};
+use test_program_calls::{Left, USAGE, call_over, rows};
 use test_texts::SOURCE_RECORDS;
 
 // At $C000 a list without an end, a wavr without a frame, and an RTI, each with its reset vector.

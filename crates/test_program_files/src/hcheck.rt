@@ -1,6 +1,6 @@
 //! Handlers that are checked.
 use std::test::Fail;
-use test_program_calls::{Left, call_over};
+use test_program_calls::{Left, call_over, rows};
 
 /// A handler's records, and what comes of them.
 #[derive(Clone, Copy)]

@@ -2,7 +2,7 @@
 use std::alloc::Global;
 use std::test::Fail;
 use test_program_calls::{
-    BEFORE, Difference, Left, NONE, call, file_holds, push_file, push_room, shelf_of,
+    BEFORE, Difference, Left, NONE, call, file_holds, push_file, push_room, rows, shelf_of,
 };
 use test_texts::{
     BLOCK, MAILBOX_RECORDS, RECORDS, SOURCE, SOURCE_RECORDS, TWO_OUTPUTS, WATCHED_RECORDS,

@@ -2,7 +2,7 @@
 use super::certify::{Search, find};
 use super::certs::{Certificate, judge};
 use std::test::Fail;
-use test_program_calls::{BEFORE, Left};
+use test_program_calls::{BEFORE, Left, rows};
 use test_texts::{BACK, BLOCK, FRONT, HALF_WEIGHT, HALVES, LATCH, MIDDLE};
 
 /// The heater, halved once to tight leaves.

@@ -2,7 +2,7 @@
 use fz_shelf::MemShelf;
 use std::alloc::{AllocError, Global};
 use std::test::Fail;
-use test_program_calls::{Difference, Left, NONE, call, push_bytes, push_file, shelf_of};
+use test_program_calls::{Difference, Left, NONE, call, push_bytes, push_file, rows, shelf_of};
 use test_texts::{BLOCK, RECORDS};
 
 /// A trace, a plan and a script, and what a run of the heater leaves under these.

@@ -1,7 +1,7 @@
 //! Runs whose interrupts run a handler's code.
 use super::five_files::{FiveFiles, run_each};
 use std::test::Fail;
-use test_program_calls::Left;
+use test_program_calls::{Left, rows};
 use test_texts::{BLOCK, HALVES};
 
 /// `INC $1800`, RTI

@@ -3,20 +3,6 @@
 //! blocks at two levels, under a debugger's script, and of workloads.
 #![tactic(auto)]
 
-// Rows of a table: each is the row that it changes, the fields that are others, and what is left where that is another.
-#[cfg(test)]
-macro_rules! rows {
-    ($row:ident: $($base:ident { $($field:ident: $value:expr),* }
-        $(leaves $lines:literal)? $(refused $code:literal $line:literal)?;)*) => {
-        [$($row {
-            $($field: $value,)*
-            $(left: Left::Lines($lines),)?
-            $(left: Left::Refused($code, $line),)?
-            ..$base
-        }),*]
-    };
-}
-
 #[cfg(test)]
 mod debug;
 #[cfg(test)]

@@ -2,7 +2,9 @@
 use fz_shelf::MemShelf;
 use std::alloc::Global;
 use std::test::Fail;
-use test_program_calls::{Difference, Left, NONE, call, code_of, push_file, push_room, shelf_of};
+use test_program_calls::{
+    Difference, Left, NONE, call, code_of, push_file, push_room, rows, shelf_of,
+};
 use test_texts::{BLOCK, HALF_WEIGHT, HALVES, LATCH, NODES_OF_THE_LATCH, RECORDS, RECORDS_OF_BOTH};
 
 /// What `lrun` is given, and what it leaves.

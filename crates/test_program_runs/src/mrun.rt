@@ -1,7 +1,7 @@
 //! Runs of the mailbox form, to which interrupts post samples.
 use super::five_files::{FiveFiles, run_each};
 use std::test::Fail;
-use test_program_calls::Left;
+use test_program_calls::{Left, rows};
 use test_texts::{BLOCK, HALVES, MAILBOX_RECORDS, RECORDS};
 
 /// The heater's run with no post.

@@ -3,7 +3,9 @@ use super::reads::RUN;
 use fz_shelf::MemShelf;
 use std::alloc::Global;
 use std::test::Fail;
-use test_program_calls::{Difference, Left, NONE, call, code_of, push_file, push_room, shelf_of};
+use test_program_calls::{
+    Difference, Left, NONE, call, code_of, push_file, push_room, rows, shelf_of,
+};
 use test_texts::{
     BACK, BLOCK, COLD, FRONT, HALF_WEIGHT, HALVES, LATCH, NODES_OF_THE_LATCH, NOTS, OPENED,
     QUARTERS, SECOND, TWO_OUTPUTS,

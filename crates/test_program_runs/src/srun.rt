@@ -3,7 +3,9 @@ use fz_shelf::MemShelf;
 use std::alloc::{AllocError, Global};
 use std::fmt::Write;
 use std::test::Fail;
-use test_program_calls::{Difference, Left, NONE, call, code_of, push_file, push_room, shelf_of};
+use test_program_calls::{
+    Difference, Left, NONE, call, code_of, push_file, push_room, rows, shelf_of,
+};
 use test_texts::{BLOCK, HALF_WEIGHT, HALVES, LATCH, NODES_OF_THE_LATCH};
 
 /// What `srun` is given, with the command that writes its image, and what it leaves.
