@@ -1,70 +1,81 @@
 -- Contents that are accepted make an output.
 use Rattle.std.proofs.Common.{ℕ, List, refl}
-use Rattle.fuzzy_meaning.specs.declared.block.Block.{Block}
-use Rattle.alone_code.specs.declared.firmware.Firmware.{Firmware}
+use Rattle.error_certifier.specs.Laws.{HalvingsAreWithinTheirTarget}
+use Rattle.srecord.specs.Laws.{ImagesHaveTexts}
+use Rattle.two_level_code.specs.Standing.{TwoStandBeside}
 use Rattle.build_commands.specs.{Accepted.AcceptedContentsMakeOutput, Asm.AsmAccepts, Asm.AsmMakes}
-use Rattle.build_commands.specs.{Written.GivesRecords, Written.WritesFirmware, declared.certify.Certify.Certify}
+use Rattle.build_commands.specs.{declared.certify.Certify.Certify, declared.compile.Compile.Compile}
 use Rattle.build_commands.specs.Certify.{CertifyAccepts, CertifyMakes}
+use Rattle.build_commands.specs.Compile.{CompileAccepts, CompileMakes}
 use Rattle.build_commands.specs.Lcompile.{LcompileAccepts, LcompileMakes}
-use Rattle.command_parts.specs.SeenOutputs.{HasOutput, SeenOutput}
+use Rattle.build_commands.proofs.RecordLemmas.{RecordLaws, firmware_records, has_records, image_records}
+use Rattle.command_parts.specs.SeenOutputs.{HasOutput}
 
-asm_made : (source : List ℕ) → AsmAccepts source → HasOutput (AsmMakes source)
-asm_made source (image, a) = (
-  _,
-  record {
-    image = image;
-    assembles = a.assembles;
-    ascending = a.ascending;
-    start = a.start;
-    writes = record { records = a.records.0; of_image = a.records.1; output_is = refl };
-  },
-)
+asm_made : ImagesHaveTexts → (source : List ℕ) → AsmAccepts source → HasOutput (AsmMakes source)
+asm_made texts source (image, a) =
+    let records = has_records texts image a.ascending a.start a.bytes in (
+      _,
+      record {
+        image = image;
+        assembles = a.assembles;
+        ascending = a.ascending;
+        start = a.start;
+        writes = record { records = records.0; of_image = records.1; output_is = refl };
+      },
+    )
 
-certify_made : (certify : Certify) (text : List ℕ) → CertifyAccepts certify text → HasOutput (CertifyMakes certify text)
-certify_made certify text (block, firmware, cert, a) = (
-  _,
-  record {
-    block = block;
-    firmware = firmware;
-    gives = a.gives;
-    cert = cert;
-    halving = a.halving;
-    within = a.within;
-    out = _;
-    spelled = record { good = a.good; lines = refl };
-    output_is = refl;
-  },
-)
+certify_made : HalvingsAreWithinTheirTarget → (certify : Certify) (text : List ℕ) → CertifyAccepts certify text
+    → HasOutput (CertifyMakes certify text)
+certify_made halvings certify text (block, firmware, cert, a) =
+    let good = halvings certify.kind block _ certify.target cert a.gives.spelled.valid a.halving in (
+      _,
+      record {
+        block = block;
+        firmware = firmware;
+        gives = a.gives;
+        cert = cert;
+        halving = a.halving;
+        within = good.1;
+        out = _;
+        spelled = record { good = good.0; lines = refl };
+        output_is = refl;
+      },
+    )
 
--- firmware of each form
-firmware_made : (Gives : Block → Firmware → Type 0) (bound : Block → ℕ) → GivesRecords Gives
-    → (output : SeenOutput) × WritesFirmware Gives bound output
-firmware_made Gives bound (block, firmware, gives, records) = (
-  _,
-  record {
-    block = block;
-    firmware = firmware;
-    gives = gives;
-    writes = record { records = records.0; of_image = records.1; output_is = refl };
-  },
-)
+compile_made : RecordLaws → (compile : Compile) (text : List ℕ) → CompileAccepts compile text
+    → HasOutput (CompileMakes compile text)
+compile_made laws compile text (block, firmware, gives) =
+    let records =
+    firmware_records laws compile.form block firmware gives.spelled.valid gives.limits gives.compiled in (
+      _,
+      record {
+        block = block;
+        firmware = firmware;
+        gives = gives;
+        writes = record { records = records.0; of_image = records.1; output_is = refl };
+      },
+    )
 
-lcompile_made : (slow fast : List ℕ) → LcompileAccepts slow fast → HasOutput (LcompileMakes slow fast)
-lcompile_made slow fast (slow_block, fast_block, two, gives, records) = (
-  _,
-  record {
-    slow_block = slow_block;
-    fast_block = fast_block;
-    two = two;
-    gives = gives;
-    writes = record { records = records.0; of_image = records.1; output_is = refl };
-  },
-)
+lcompile_made : RecordLaws → TwoStandBeside → (slow fast : List ℕ) → LcompileAccepts slow fast
+    → HasOutput (LcompileMakes slow fast)
+lcompile_made laws beside slow fast (slow_block, fast_block, two, gives) =
+    let stands = beside slow_block fast_block two gives.slow_is.spelled.valid gives.slow_is.limits
+    gives.fast_is.spelled.valid gives.fast_is.limits gives.both in
+    let records = image_records laws.texts laws.holds _ two.image gives.both.image stands.0.bytes in (
+      _,
+      record {
+        slow_block = slow_block;
+        fast_block = fast_block;
+        two = two;
+        gives = gives;
+        writes = record { records = records.0; of_image = records.1; output_is = refl };
+      },
+    )
 
-pub accepted_made : AcceptedContentsMakeOutput
-accepted_made = record {
-  asm = asm_made;
-  certify = certify_made;
+pub accepted_made : RecordLaws → TwoStandBeside → HalvingsAreWithinTheirTarget → AcceptedContentsMakeOutput
+accepted_made laws beside halvings = record {
+  asm = asm_made laws.texts;
+  certify = certify_made halvings;
   check = λ check text cert a. (
     _,
     record {
@@ -76,8 +87,8 @@ accepted_made = record {
       output_is = refl;
     },
   );
-  compile = λ compile text a. firmware_made _ _ a;
+  compile = compile_made laws;
   exec = λ exec text a. (_, record { steps = a.0; last = a.1; arrives = a.2; output_is = refl });
   hcheck = λ text a. (_, record { image = a.0; instrs = a.1; gives = a.2; output_is = refl });
-  lcompile = lcompile_made;
+  lcompile = lcompile_made laws beside;
 }

@@ -1,3 +1,4 @@
+pub mod RecordLemmas
 pub mod AcceptedLemmas
 pub mod OneLemmas
 pub mod WrittenLemmas

@@ -4,7 +4,8 @@ use Rattle.std.specs.Prelude.{◌≡◌, ℕ, List, [], ◌∷◌, length, codes
 use Rattle.cpu12_asm.specs.{Bytes.IsAscending, Bytes.start_of, Sources.Assembles, Sources.assembled}
 use Rattle.cpu12_asm.specs.declared.image.Image.{Image}
 use Rattle.command_parts.specs.{SeenOutputs.SeenOutput, Lines.line}
-use Rattle.build_commands.specs.Written.{HasRecords, WritesImage}
+use Rattle.build_commands.specs.Written.{WritesImage}
+use Rattle.srecord.specs.Laws.{AreMemoryBytes}
 use Rattle.fz_status.specs.{Refusals.Refusals, Refusals.Refuses, declared.status.Status.Status}
 use Rattle.fz_status.specs.declared.status.Status.TheVariants as status
 
@@ -29,12 +30,12 @@ abbrev pub AsmMakes : List ℕ → Result SeenOutput Status → Type 0
 AsmMakes source (Ok output) = AsmGives source output
 AsmMakes source (Err s) = Refuses (source_refusals source) s
 
--- the source gives this image, which has records
+-- the source gives this image, which is one of bytes
 pub record AcceptsSource (source : List ℕ) (image : Image) : Type 0 where
   pub assembles : Assembles source image.bytes
   pub ascending : IsAscending image.bytes
   pub start : image.start ≡ start_of image.bytes
-  pub records : HasRecords image
+  pub bytes : AreMemoryBytes image.bytes
 
 abbrev pub AsmAccepts : List ℕ → Type 0
 AsmAccepts source = (image : Image) × AcceptsSource source image

@@ -4,10 +4,9 @@ use Rattle.std.specs.Prelude.{◌≡◌, ◌≤◌, ℕ, List, [], ◌∷◌, �
 use Rattle.fuzzy_meaning.specs.{declared.block.Block.Block}
 use Rattle.byte_scaling.specs.{Widths.parts, declared.width.Width.Width}
 use Rattle.alone_code.specs.declared.firmware.Firmware.{Firmware}
-use Rattle.box_tree.specs.{Certificates.CertText, Certificates.IsCert, Trees.leaf_count}
+use Rattle.box_tree.specs.{Certificates.CertText, Trees.leaf_count}
 use Rattle.box_tree.specs.declared.{cert.CertKind.CertKind, cert.Cert.Cert}
 use Rattle.error_certifier.specs.{Halving.IsHalving}
-use Rattle.error_certifier.specs.declared.certifier.NotReached.{NotReached}
 use Rattle.fz_status.specs.{Refusals.Refusals, Refusals.Refuses, Words.Text, Words.word_at}
 use Rattle.fz_status.specs.declared.status.Status.{Status}
 use Rattle.fz_status.specs.declared.status.Status.TheVariants as status
@@ -59,14 +58,11 @@ abbrev pub CertifyMakes : Certify → List ℕ → Result SeenOutput Status → 
 CertifyMakes certify text (Ok output) = CertifyGives certify text output
 CertifyMakes certify text (Err s) = Refuses (certify_refusals certify text) s
 
--- the text gives firmware with answers of this width, and halving its block ends with this certificate, within the
--- target
+-- the text gives firmware with answers of this width, and halving its block ends with this certificate
 pub record AcceptsTarget (certify : Certify) (text : List ℕ) (block : Block) (firmware : Firmware) (cert : Cert)
     : Type 0 where
   pub gives : GivesFirmware (Alone certify.width) text block firmware
   pub halving : IsHalving certify.kind block (parts certify.width) certify.target cert
-  pub within : All (λ error. error ≤ certify.target) cert.claims
-  pub good : IsCert certify.kind cert
 
 abbrev pub CertifyAccepts : Certify → List ℕ → Type 0
 CertifyAccepts certify text =

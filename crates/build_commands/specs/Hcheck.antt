@@ -5,7 +5,6 @@ use Rattle.cpu12_asm.specs.declared.image.Image.{Image}
 use Rattle.command_parts.specs.{SeenOutputs.SeenOutput, SeenOutputs.only_lines, Lines.line}
 use Rattle.command_parts.specs.Handlers.{GivesHandler, handler_refusals}
 use Rattle.fz_status.specs.{Refusals.Refuses, declared.status.Status.Status}
-use Rattle.fz_status.specs.declared.status.Status.TheVariants as status
 
 -- HANDLER
 abbrev pub hcheck_inputs : List ℕ

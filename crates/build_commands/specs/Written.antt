@@ -27,11 +27,3 @@ pub record WritesFirmware (Gives : Block → Firmware → Type 0) (bound : Block
   pub gives : Gives block firmware
   pub writes : WritesImage firmware.image 3
       (compile_lines (bound block) (steps_by block (bound block)) (length firmware.image.bytes)) output
-
--- the image has a text of records
-abbrev pub HasRecords : Image → Type 0
-HasRecords image = (records : List ℕ) × ImageText image.bytes image.start records
-
--- a text gives firmware of one form, whose image has records
-abbrev pub GivesRecords : (Block → Firmware → Type 0) → Type 0
-GivesRecords Gives = (block : Block) × (firmware : Firmware) × Gives block firmware × HasRecords firmware.image

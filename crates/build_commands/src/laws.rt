@@ -4,16 +4,28 @@ ghost use Rattle.build_commands.specs.{Accepted.AcceptedContentsMakeOutput, OneO
 use crate::certify::certify_outputs_are_one;
 use crate::check::check_outputs_are_one;
 use crate::exec::exec_outputs_are_one;
+use alone_code::firmware_is_bytes;
 use command_parts::firmware::given_firmwares_are_one;
 use command_parts::twos::given_twos_are_one;
 use cpu12_asm::ascending_bytes_are_one;
+use cpu12_emul::laws::holds_image;
+use error_certifier::halvings_are_within_their_target;
 use handler_check::laws::answers_are_one;
-use srecord::{image_texts_are_one, images_are_one};
+use srecord::{image_texts_are_one, images_are_one, images_have_texts};
+use two_level_code::laws::two_stand_beside;
+use watched_code::watched_is_bytes;
 
 /// Contents that are accepted make an output.
 pub fn accepted_contents_make_output()
     ensures { AcceptedContentsMakeOutput }
-{}
+{
+    images_have_texts();
+    holds_image();
+    firmware_is_bytes();
+    watched_is_bytes();
+    two_stand_beside();
+    halvings_are_within_their_target()
+}
 
 /// Contents make at most one output.
 pub fn contents_make_one_output()
