@@ -1,14 +1,15 @@
 -- Lines of items that are counted, texts that are written part by part, and refusals.
-use Rattle.std.proofs.Common.{refl, ◌≡◌, ◌<◌, ◌+◌, ℕ, true, List, [], ◌∷◌, ◌++◌, length, take, get_or, sym, ◌∙◌, ap}
-use Rattle.std.proofs.Common.{arith, append_assoc, add-one}
-use Rattle.std.specs.Prelude.{All, codes, map}
+use Rattle.std.proofs.Common.{refl, ◌≡◌, ◌<◌, ◌+◌, ℕ, true, List, [], ◌∷◌, ◌++◌, length, take, get_or, sym, subst, ◌∙◌, ap}
+use Rattle.std.proofs.Common.{arith, append_assoc, add-one, inl, inr}
+use Rattle.std.specs.Prelude.{All, codes, map, Result, Ok, Err, IfErr, IsErrAnd}
 use Rattle.std.proofs.Math.Seq.{take-suc}
 use Rattle.std.proofs.lemmas.List.{append-nil, length-take-le}
 use Rattle.std.proofs.lemmas.List.Elements.{All-cons, All-head, All-nil, All-tail}
 use Rattle.cpu12_isa.specs.declared.instr.Regs.{Regs}
 use Rattle.fz_shelf.proofs.Algebra.{bare-address, bare-append, bare-byte}
 use Rattle.fz_shelf.specs.{Lines.has_no_end, Parts.address_digits, Parts.byte_digits}
-use Rattle.fz_status.specs.{Refusals.IsRefusal, Refusals.Refusals, declared.status.Status.Status}
+use Rattle.fz_status.specs.Refusals.{CarriesNoMemory, IsRefusal, Refusals, Refuses, Tells}
+use Rattle.fz_status.specs.declared.status.Status.{Status}
 use Rattle.fz_status.specs.declared.status.Status.TheVariants as status
 use Rattle.command_parts.specs.Lines.{counted, registers_told}
 
@@ -77,3 +78,15 @@ pub refused : (inner outer : Refusals) → ((s : Status) → inner s → outer s
     → IsRefusal inner s → IsRefusal outer s
 refused inner outer all status.Memory r = tt
 refused inner outer all s r = (r.0, all s r.1)
+
+refuses : (why : Refusals) (s : Status) → Refuses why s → IsRefusal why s
+refuses why status.Memory r = tt
+refuses why s r = r
+
+-- a fault is refused as its status where what carries it is
+pub told : {T : Type 0} (why : Refusals) (carrying : Status) (result : Result T Status)
+    → IsErrAnd result (Tells carrying) → (CarriesNoMemory carrying → why carrying) → IfErr result (IsRefusal why)
+told why carrying (Ok x) tells refused = tt
+told why carrying (Err s) (inl (none, is)) refused =
+    subst (λ x. IsRefusal why x) (sym is) (refuses why carrying (none, refused none))
+told why carrying (Err s) (inr (want, is)) refused = subst (λ x. IsRefusal why x) (sym is) tt

@@ -1,7 +1,6 @@
 -- A certificate that a block accepts is not refused.
-use Rattle.std.proofs.Common.{◌≡◌, ◌≢◌, ℕ, List, sym, subst}
-use Rattle.std.specs.Prelude.{Result, Ok, Err, IfErr}
-use Rattle.std.specs.Global.{Vec}
+use Rattle.std.proofs.Common.{◌≡◌, ◌≢◌, ℕ, List}
+use Rattle.std.specs.Prelude.{Result, Ok, Err}
 use Rattle.fuzzy_meaning.specs.declared.block.Block.{Block}
 use Rattle.byte_scaling.specs.{Widths.parts, declared.width.Width.Width}
 use Rattle.box_tree.specs.Certificates.{HasFault, bad_version}
@@ -19,10 +18,9 @@ use Rattle.cert_check.specs.declared.text.TextFault.TheVariants as refusal
 use Rattle.cert_check.specs.Faults.{IsPairFault, bad_rule, fails, IsCellsFault, too_many, unsure, IsClaimFault}
 use Rattle.cert_check.specs.Faults.{HasTreeFault, bad_cut, bad_leaf, HasCheckFault, outputs, tree, claimed}
 use Rattle.cert_check.specs.{Laws.TextAnswersAreOne, TextFaults.HasTextFault, TextFaults.of_text, TextFaults.of_cert}
-use Rattle.command_parts.specs.Certs.{AcceptedCertsHaveNoFault, AcceptedErrorsAreOne, HasCertFault, cert_refusals, status_of}
-use Rattle.fz_status.specs.{Refusals.IsRefusal, declared.status.CertRefusal.CertRefusal}
+use Rattle.command_parts.specs.Certs.{AcceptedCertsHaveNoFault, AcceptedErrorsAreOne, HasCertFault, cert_refusals}
+use Rattle.fz_status.specs.{Refusals.IsRefusal, Refusals.status_of, declared.status.CertRefusal.CertRefusal}
 use Rattle.fz_status.specs.declared.status.CertRefusal.TheVariants as told
-use Rattle.fz_status.specs.declared.status.Status.{Status}
 
 abbrev refusal_of : CertRefusal → TheRefusal
 refusal_of (told.Text f) = refusal.Text f
@@ -75,7 +73,7 @@ check_carries b h c _ (claimed es k over count a) e = cc
 
 -- ---- the checker's answer as a status
 
-as_refusal : (kind : CertKind) (width : Width) (block : Block) (text : List ℕ) (r : TheRefusal)
+pub as_refusal : (kind : CertKind) (width : Width) (block : Block) (text : List ℕ) (r : TheRefusal)
     → (r ≢ refusal.Memory → HasTextFault block (parts width) kind width text r)
     → IsRefusal (cert_refusals kind width block text) (status_of r)
 as_refusal kind width block text refusal.Memory h = tt
@@ -87,18 +85,6 @@ as_refusal kind width block text (refusal.Check f) h = let is = h (λ e. let z :
   where
     check_is : HasTextFault block (parts width) kind width text (refusal.Check f) → f ≢ check.Memory
     check_is (of_cert c g spelled fault) = check_carries block (parts width) c g fault
-
-pub as_status : (kind : CertKind) (width : Width) (block : Block) (text : List ℕ)
-    (answer : Result (Vec ℕ) TheRefusal) (result : Result (Vec ℕ) Status)
-    → IfErr result (λ s. (r : TheRefusal) × (answer ≡ Err r) × (s ≡ status_of r))
-    → IfErr answer (λ r. r ≢ refusal.Memory → HasTextFault block (parts width) kind width text r)
-    → IfErr result (IsRefusal (cert_refusals kind width block text))
-as_status kind width block text answer (Ok es) same refused = tt
-as_status kind width block text answer (Err s) (r, is, told) refused =
-    subst (λ x. IsRefusal (cert_refusals kind width block text) x) (sym told)
-    (as_refusal kind width block text r
-    (subst (λ a. IfErr a
-    (λ q. q ≢ refusal.Memory → HasTextFault block (parts width) kind width text q)) is refused))
 
 -- a certificate is accepted with one list of errors
 pub errors_are_one : TextAnswersAreOne → AcceptedErrorsAreOne

@@ -7,12 +7,10 @@ use Rattle.box_tree.specs.{declared.cert.Cert.Cert, declared.cert.CertKind.CertK
 use Rattle.fuzzy_meaning.specs.{Blocks.IsValid, declared.block.Block.Block}
 use Rattle.byte_scaling.specs.{Widths.parts, declared.width.Width.Width}
 use Rattle.cert_check.specs.TextFaults.{IsAcceptedText, HasTextFault}
-use Rattle.cert_check.specs.declared.text.TextFault.{TextFault as TheRefusal}
 use Rattle.cert_check.specs.declared.text.TextFault.TheVariants as refusal
 use Rattle.command_parts.specs.{Firmwares.OfFirmware, declared.firmware.Form.TheVariants.Alone}
 use Rattle.fz_status.specs.{Refusals.Refusals, declared.status.CertRefusal.CertRefusal}
 use Rattle.fz_status.specs.declared.status.CertRefusal.TheVariants as told
-use Rattle.fz_status.specs.declared.status.Status.{Status}
 use Rattle.fz_status.specs.declared.status.Status.TheVariants as status
 
 -- CERT is a certificate of this kind that is accepted for the block's answers of this width, with these errors
@@ -34,12 +32,6 @@ cert_refusals kind width block cert s = ⊥
 abbrev pub RefusesCert : CertKind → Width → List ℕ → List ℕ → CertRefusal → Type 0
 RefusesCert kind width text cert f =
     OfFirmware (Alone width) text (λ block firmware. HasCertFault kind width block cert f)
-
--- the status that tells a refusal
-abbrev pub status_of : TheRefusal → Status
-status_of (refusal.Text f) = status.Cert (told.Text f)
-status_of (refusal.Check f) = status.Cert (told.Check f)
-status_of refusal.Memory = status.Memory
 
 -- a certificate that a block accepts is not refused
 abbrev pub AcceptedCertsHaveNoFault : Type 0

@@ -1,21 +1,20 @@
 //! Certificates of a block: the errors that one is accepted with, and the one that halving gives.
-ghost use Rattle.std.specs.Prelude.{◌≡◌, ◌≤◌, All, IfOk, IfErr, Ok, Err};
+ghost use Rattle.std.specs.Prelude.{◌≤◌, All, IfOk, IfErr};
 ghost use Rattle.box_tree.specs.Certificates.{IsCert};
 ghost use Rattle.error_certifier.specs.Halving.{IsHalving};
 ghost use Rattle.fuzzy_meaning.specs.Blocks.{IsValid};
-ghost use Rattle.cert_check.specs.declared.text.TextFault.{TextFault as TheRefusal};
 ghost use Rattle.command_parts.specs.Certs.{AcceptedCertsHaveNoFault, AcceptedErrorsAreOne, AcceptsCert};
-ghost use Rattle.command_parts.specs.Certs.{HalvedBlocksDoNotStop, cert_refusals, status_of, target_refusals};
+ghost use Rattle.command_parts.specs.Certs.{HalvedBlocksDoNotStop, cert_refusals, target_refusals};
 ghost use Rattle.byte_scaling.specs.Widths.{parts};
 ghost use Rattle.fz_status.specs.Refusals.{IsRefusal};
 
 use crate::contents::Content;
 use box_tree::{Cert, CertKind};
 use byte_scaling::Width;
-use cert_check::{TextFault as Refusal, check_text_for, text_answers_are_one};
-use error_certifier::{NotReached, answers_are_one, certify_for};
+use cert_check::{check_text_for, text_answers_are_one};
+use error_certifier::{answers_are_one, certify_for};
 use fuzzy_meaning::Block;
-use fz_status::{CertRefusal, Status};
+use fz_status::Status;
 use std::alloc::Global;
 
 /// The error of each output under a certificate's text of this kind, for answers of this width, or the
@@ -31,21 +30,7 @@ pub fn errors_under(
     ensures accepts { IfOk result (λ errors. AcceptsCert kind width block.now cert.now errors.items) }
     ensures refused { IfErr result (IsRefusal (cert_refusals kind width block.now cert.now)) }
 {
-    as_status(check_text_for(alloc, block, cert.bytes(), kind, width))
-}
-
-/// The checker's answer, with a refusal as a status.
-fn as_status(answer: Result<Vec<u32>, Refusal>) -> Result<Vec<u32>, Status>
-    ensures errors { IfOk result (λ errors. answer ≡ Ok errors) }
-    ensures status { IfErr result (λ status.
-        (refusal : TheRefusal) × (answer ≡ Err refusal) × (status ≡ status_of refusal)) }
-{
-    match answer {
-        Ok(errors) => Ok(errors),
-        Err(Refusal::Text(fault)) => Err(Status::Cert(CertRefusal::Text(fault))),
-        Err(Refusal::Check(fault)) => Err(Status::Cert(CertRefusal::Check(fault))),
-        Err(Refusal::Memory) => Err(Status::Memory),
-    }
+    Ok(check_text_for(alloc, block, cert.bytes(), kind, width)?)
 }
 
 /// A certificate that a block accepts is not refused.
@@ -77,11 +62,7 @@ pub fn halved(
     ensures cert { IfOk result (IsCert kind) }
     ensures stops { IfErr result (IsRefusal (target_refusals kind width target block.now)) }
 {
-    match certify_for(alloc, block, target, kind, width) {
-        Ok(cert) => Ok(cert),
-        Err(NotReached::Memory) => Err(Status::Memory),
-        Err(stop) => Err(Status::NotReached(stop)),
-    }
+    Ok(certify_for(alloc, block, target, kind, width)?)
 }
 
 /// Halving does not stop at a block with a certificate of it.

@@ -10,10 +10,10 @@ ghost use Rattle.fz_status.specs.Refusals.{IsRefusal};
 use crate::contents::Content;
 use alone_code::{Firmware, compile_for, compile_post, firmwares_are_one, mailboxes_are_one};
 use byte_scaling::Width;
-use fcl_check::{LoadFault, load, load_faults_are_one, spelled_blocks_are_one};
-use fcl_syntax::{SyntaxFault, first_faults_are_one, parse};
+use fcl_check::{load, load_faults_are_one, spelled_blocks_are_one};
+use fcl_syntax::{first_faults_are_one, parse};
 use fuzzy_meaning::Block;
-use fz_status::{FclFault, Status};
+use fz_status::Status;
 use rule_layout::{Flat, LayoutFault, limits_have_no_fault, spread};
 use std::alloc::Global;
 use watched_code::{compile_scrub, watched_firmwares_are_one};
@@ -45,11 +45,8 @@ pub fn firmware_of(alloc: Global, form: Form, text: &Content) -> Result<Compiled
     ensures fault { IfErr result (IsRefusal (text_refusals text.now)) }
 {
     let block = block_of(alloc, text)?;
-    match compile_form(alloc, form, &block) {
-        Ok(firmware) => Ok(Compiled { block, firmware }),
-        Err(LayoutFault::Memory) => Err(Status::Memory),
-        Err(fault) => Err(Status::Fcl(FclFault::Layout(fault))),
-    }
+    let firmware = compile_form(alloc, form, &block)?;
+    Ok(Compiled { block, firmware })
 }
 
 /// A block's firmware of this form.
@@ -82,11 +79,8 @@ pub(crate) fn laid_out_block_of(alloc: Global, text: &Content) -> Result<LaidOut
     ensures fault { IfErr result (IsRefusal (text_refusals text.now)) }
 {
     let block = block_of(alloc, text)?;
-    match spread(alloc, &block) {
-        Ok(flat) => Ok(LaidOut { block, flat }),
-        Err(LayoutFault::Memory) => Err(Status::Memory),
-        Err(fault) => Err(Status::Fcl(FclFault::Layout(fault))),
-    }
+    let flat = spread(alloc, &block)?;
+    Ok(LaidOut { block, flat })
 }
 
 /// The block that the text spells.
@@ -94,16 +88,8 @@ fn block_of(alloc: Global, text: &Content) -> Result<Block, Status>
     ensures block { IfOk result (SpellsBlock text.now) }
     ensures fault { IfErr result (IsRefusal (text_refusals text.now)) }
 {
-    let tree = match parse(alloc, text.bytes()) {
-        Ok(tree) => tree,
-        Err(SyntaxFault::Memory) => return Err(Status::Memory),
-        Err(fault) => return Err(Status::Fcl(FclFault::Syntax(fault))),
-    };
-    match load(alloc, &tree) {
-        Ok(block) => Ok(block),
-        Err(LoadFault::Memory) => Err(Status::Memory),
-        Err(fault) => Err(Status::Fcl(FclFault::Load(fault))),
-    }
+    let tree = parse(alloc, text.bytes())?;
+    Ok(load(alloc, &tree)?)
 }
 
 /// A text that spells a block within the limits has no fault.

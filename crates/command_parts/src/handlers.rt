@@ -8,7 +8,7 @@ use crate::images::{given_records_have_no_fault, image_of};
 use cpu12_asm::Image;
 use fz_status::Status;
 use handler_check::laws::handlers_have_no_fault;
-use handler_check::{Handler, HandlerFault, check_handler};
+use handler_check::{Handler, check_handler};
 use srecord::images_are_one;
 use std::alloc::Global;
 
@@ -28,11 +28,8 @@ pub fn handler_of(alloc: Global, records: &Content) -> Result<AcceptedHandler, S
     ensures fault { IfErr result (IsRefusal (handler_refusals records.now)) }
 {
     let image = image_of(alloc, records)?;
-    match check_handler(alloc, &image) {
-        Ok(handler) => Ok(AcceptedHandler { image, handler }),
-        Err(HandlerFault::Memory) => Err(Status::Memory),
-        Err(fault) => Err(Status::Handler(fault)),
-    }
+    let handler = check_handler(alloc, &image)?;
+    Ok(AcceptedHandler { image, handler })
 }
 
 /// Records that give a handler have no fault.

@@ -8,7 +8,7 @@ ghost use Rattle.fz_status.specs.Refusals.{IsRefusal};
 use crate::contents::Content;
 use cpu12_asm::Image;
 use fz_status::{ImageFault, Status};
-use srecord::{SrecFault, images_are_one};
+use srecord::images_are_one;
 use std::alloc::Global;
 
 /// The image that a text of records gives, or the status of its first fault.
@@ -16,11 +16,7 @@ pub fn image_of(alloc: Global, text: &Content) -> Result<Image, Status>
     ensures image { IfOk result (GivesImage text.now) }
     ensures fault { IfErr result (IsRefusal (records_refusals text.now)) }
 {
-    match srecord::read(alloc, text.bytes()) {
-        Ok(image) => Ok(image),
-        Err(SrecFault::Memory) => Err(Status::Memory),
-        Err(fault) => Err(Status::Image(ImageFault::Records(fault))),
-    }
+    Ok(srecord::read(alloc, text.bytes())?)
 }
 
 /// Whether a text of records gives this image: else the status of its first fault, of the first

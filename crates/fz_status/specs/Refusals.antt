@@ -1,8 +1,10 @@
 -- Why contents are refused.
 -- Beside the promise.
-use Rattle.std.specs.Prelude.{◌≢◌}
+use Rattle.std.specs.Prelude.{◌≡◌, ◌≢◌, ◌⊎◌}
 use Rattle.box_tree.specs.declared.cert.CertFault.TheVariants as cert
 use Rattle.cert_check.specs.declared.checker.CheckFault.TheVariants as check
+use Rattle.cert_check.specs.declared.text.TextFault.{TextFault}
+use Rattle.cert_check.specs.declared.text.TextFault.TheVariants as text
 use Rattle.cpu12_asm.specs.declared.items.AsmFault.TheVariants as asm
 use Rattle.error_certifier.specs.declared.certifier.NotReached.TheVariants as stop
 use Rattle.fcl_syntax.specs.declared.text.SyntaxFault.TheVariants as syntax
@@ -47,6 +49,17 @@ CarriesNoMemory (status.Fast (fast.Fcl f)) = IsNoWantInText f
 CarriesNoMemory (status.Fast (fast.Cert f)) = IsNoWantInCert f
 CarriesNoMemory (status.Fast (fast.Trace f)) = f ≢ trace.Memory
 CarriesNoMemory _ = Unit {0}
+
+-- the status that tells a fault: the one that carries it, or that of want of memory where it would carry that
+abbrev pub Tells : Status → Status → Type 0
+Tells carrying s =
+    (CarriesNoMemory carrying × (s ≡ carrying)) ⊎ ((CarriesNoMemory carrying → ⊥) × (s ≡ status.Memory))
+
+-- that of the refusal of a certificate
+abbrev pub status_of : TextFault → Status
+status_of (text.Text f) = status.Cert (refusal.Text f)
+status_of (text.Check f) = status.Cert (refusal.Check f)
+status_of text.Memory = status.Memory
 
 -- for each status, where it refuses contents
 abbrev pub Refusals : Type 1

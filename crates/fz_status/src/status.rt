@@ -1,9 +1,12 @@
 //! How a call of the program ends.
 ghost use Rattle.std.specs.Prelude.{◌≡◌};
-ghost use Rattle.fz_status.specs.declared.status.Status.TheVariants.{Memory as want};
+ghost use Rattle.fz_status.specs.Refusals.{Tells, status_of};
+ghost use Rattle.fz_status.specs.declared.status.FclFault.TheVariants as fcl;
+ghost use Rattle.fz_status.specs.declared.status.ImageFault.TheVariants as image;
+ghost use Rattle.fz_status.specs.declared.status.Status.TheVariants as status;
 
 use box_tree::CertFault;
-use cert_check::CheckFault;
+use cert_check::{CheckFault, TextFault};
 use cpu12_asm::AsmFault;
 use error_certifier::NotReached;
 use fcl_check::LoadFault;
@@ -102,7 +105,7 @@ pub enum CertRefusal {
 }
 
 impl From<AllocError> for Status {
-    ghost from_gives = { λ _ status. status ≡ want };
+    ghost from_gives = { λ _ s. s ≡ status.Memory };
 
     fn from(_: AllocError) -> Status {
         Status::Memory
@@ -110,10 +113,132 @@ impl From<AllocError> for Status {
 }
 
 impl From<Memory> for Status {
-    ghost from_gives = { λ _ status. status ≡ want };
+    ghost from_gives = { λ _ s. s ≡ status.Memory };
 
     fn from(_: Memory) -> Status {
         Status::Memory
+    }
+}
+
+impl From<SyntaxFault> for Status {
+    ghost from_gives = { λ fault. Tells (status.Fcl (fcl.Syntax fault)) };
+
+    fn from(fault: SyntaxFault) -> Status {
+        match fault {
+            SyntaxFault::Memory => Status::Memory,
+            fault => Status::Fcl(FclFault::Syntax(fault)),
+        }
+    }
+}
+
+impl From<LoadFault> for Status {
+    ghost from_gives = { λ fault. Tells (status.Fcl (fcl.Load fault)) };
+
+    fn from(fault: LoadFault) -> Status {
+        match fault {
+            LoadFault::Memory => Status::Memory,
+            fault => Status::Fcl(FclFault::Load(fault)),
+        }
+    }
+}
+
+impl From<LayoutFault> for Status {
+    ghost from_gives = { λ fault. Tells (status.Fcl (fcl.Layout fault)) };
+
+    fn from(fault: LayoutFault) -> Status {
+        match fault {
+            LayoutFault::Memory => Status::Memory,
+            fault => Status::Fcl(FclFault::Layout(fault)),
+        }
+    }
+}
+
+impl From<SrecFault> for Status {
+    ghost from_gives = { λ fault. Tells (status.Image (image.Records fault)) };
+
+    fn from(fault: SrecFault) -> Status {
+        match fault {
+            SrecFault::Memory => Status::Memory,
+            fault => Status::Image(ImageFault::Records(fault)),
+        }
+    }
+}
+
+impl From<TraceFault> for Status {
+    ghost from_gives = { λ fault. Tells (status.Trace fault) };
+
+    fn from(fault: TraceFault) -> Status {
+        match fault {
+            TraceFault::Memory => Status::Memory,
+            fault => Status::Trace(fault),
+        }
+    }
+}
+
+impl From<PlanFault> for Status {
+    ghost from_gives = { λ fault. Tells (status.Plan fault) };
+
+    fn from(fault: PlanFault) -> Status {
+        match fault {
+            PlanFault::Memory => Status::Memory,
+            fault => Status::Plan(fault),
+        }
+    }
+}
+
+impl From<UpsetFault> for Status {
+    ghost from_gives = { λ fault. Tells (status.Upset fault) };
+
+    fn from(fault: UpsetFault) -> Status {
+        match fault {
+            UpsetFault::Memory => Status::Memory,
+            fault => Status::Upset(fault),
+        }
+    }
+}
+
+impl From<NotReached> for Status {
+    ghost from_gives = { λ fault. Tells (status.NotReached fault) };
+
+    fn from(fault: NotReached) -> Status {
+        match fault {
+            NotReached::Memory => Status::Memory,
+            fault => Status::NotReached(fault),
+        }
+    }
+}
+
+impl From<AsmFault> for Status {
+    ghost from_gives = { λ fault. Tells (status.Asm fault) };
+
+    fn from(fault: AsmFault) -> Status {
+        match fault {
+            AsmFault::Memory => Status::Memory,
+            fault => Status::Asm(fault),
+        }
+    }
+}
+
+impl From<HandlerFault> for Status {
+    ghost from_gives = { λ fault. Tells (status.Handler fault) };
+
+    fn from(fault: HandlerFault) -> Status {
+        match fault {
+            HandlerFault::Memory => Status::Memory,
+            fault => Status::Handler(fault),
+        }
+    }
+}
+
+impl From<TextFault> for Status {
+    ghost from_gives = { λ fault s. s ≡ status_of fault };
+
+    fn from(fault: TextFault) -> Status {
+        match fault {
+            TextFault::Text(fault) => Status::Cert(CertRefusal::Text(fault)),
+            TextFault::Check(fault) => Status::Cert(CertRefusal::Check(fault)),
+            TextFault::Memory => Status::Memory,
+        }
     }
 }
 
