@@ -9,7 +9,7 @@ use crate::written::written_image;
 use command_parts::contents::Content;
 use command_parts::lines::labelled;
 use command_parts::output::Output;
-use cpu12_asm::{AsmFault, Image, assemble};
+use cpu12_asm::{Image, assemble};
 use fz_shelf::Line;
 use fz_status::Status;
 use std::alloc::{AllocError, Global};
@@ -24,11 +24,7 @@ const OUT: u32 = 3;
 pub fn work(alloc: Global, source: &Content) -> Result<Output, Status>
     ensures { IsResultOf (AsmMakes source.now) result }
 {
-    let image = match assemble(alloc, source.bytes()) {
-        Ok(image) => image,
-        Err(AsmFault::Memory) => return Err(Status::Memory),
-        Err(fault) => return Err(Status::Asm(fault)),
-    };
+    let image = assemble(alloc, source.bytes())?;
     let lines = lines(alloc, &image)?;
     written_image(alloc, &image, OUT, lines)
 }
