@@ -60,7 +60,8 @@ lines_behind kind answers claims nodes rest =
 
 pub lines_of-snoc : (kind : CertKind) (answers : Width) (claims : List ℕ) (nodes : List Node)
     (node : Node) (rest : List ℕ)
-    → lines_of kind answers claims (nodes ++ node ∷ []) ++ rest ≡ lines_of kind answers claims nodes ++ (node_line node ++ rest)
+    → lines_of kind answers claims (nodes ++ node ∷ []) ++ rest
+    ≡ lines_of kind answers claims nodes ++ (node_line node ++ rest)
 lines_of-snoc kind answers claims nodes node rest =
     lines_behind kind answers claims (nodes ++ node ∷ []) rest
     ∙ ap (λ (t : List ℕ). version_line kind answers ++ (claim_line claims ++ t)) (node_lines-snoc nodes node rest)

@@ -58,7 +58,8 @@ ends_once images loads ends exec text output other a b =
     let q = b.arrives in
     let bytes = (images text p.image q.image p.spelled q.spelled).1 in
     let same = ap reset_with (loads p.image.bytes q.image.bytes bytes) in
-    let ends_there : EndsRun exec.flags exec.steps (reset_with (image_memory q.image.bytes)) (end.Arrived a.steps) a.last =
+    let ends_there : EndsRun exec.flags exec.steps (reset_with (image_memory q.image.bytes))
+    (end.Arrived a.steps) a.last =
     subst (λ (s : State). EndsRun exec.flags exec.steps s (end.Arrived a.steps) a.last) same p.ends in
     let one = ends exec.flags exec.steps (reset_with (image_memory q.image.bytes)) a.last b.last (end.Arrived a.steps)
     (end.Arrived b.steps) ends_there q.ends in

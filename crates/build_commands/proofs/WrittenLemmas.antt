@@ -23,14 +23,16 @@ written_makes makes image place lines (Ok work) writes memory gives = gives (see
 written_makes makes image place lines (Err s) writes memory gives = subst (IsFaultOf makes) (sym memory) tt
 
 -- the firmware of a text, with its bounds
-module _ (makes : Result SeenOutput Status → Type 0) (Gives : Block → Firmware → Type 0) (bound : Block → ℕ) (block : Block)
+module _ (makes : Result SeenOutput Status → Type 0) (Gives : Block → Firmware → Type 0) (bound : Block → ℕ)
+    (block : Block)
     (firmware : Firmware) where
   pub firmware_makes : Gives block firmware → firmware.instr_bound ≡ bound block
       → firmware.step_bound ≡ steps_by block (bound block)
       → (result : Result Output Status)
       → IfOk result (λ work. WritesImage firmware.image 3
       (compile_lines firmware.instr_bound firmware.step_bound (length firmware.image.bytes)) (seen_output work))
-      → IfErr result (λ s. s ≡ status.Memory) → ((output : SeenOutput) → WritesFirmware Gives bound output → makes (Ok output))
+      → IfErr result (λ s. s ≡ status.Memory) → ((output : SeenOutput) → WritesFirmware Gives bound output
+      → makes (Ok output))
       → IsResultOf makes result
   firmware_makes gives instructions steps result writes memory make =
       written_makes makes firmware.image 3

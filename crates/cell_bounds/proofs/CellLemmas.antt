@@ -39,10 +39,12 @@ lowest_long : (box : List Interval) → length (lowest box) ≡ length box
 lowest_long [] = refl
 lowest_long (v ∷ vs) = ap suc (lowest_long vs)
 
-lowest_at : (box : List Interval) (k : ℕ) (v : Interval) (n : ℕ) → slice_get box k ≡ Some v → slice_get (lowest box) k ≡ Some n
+lowest_at : (box : List Interval) (k : ℕ) (v : Interval) (n : ℕ) → slice_get box k ≡ Some v → slice_get
+    (lowest box) k ≡ Some n
     → v.from ≡ n
 lowest_at [] k v n e f = absurd (let z : ⊥ = cc in z)
-lowest_at (w ∷ vs) zero v n e f = let s : w ≡ v = cc in let t : w.from ≡ n = cc in sym (ap (λ (i : Interval). i.from) s) ∙ t
+lowest_at (w ∷ vs) zero v n e f = let s : w ≡ v = cc in let t : w.from ≡ n =
+    cc in sym (ap (λ (i : Interval). i.from) s) ∙ t
 lowest_at (w ∷ vs) (suc k) v n e f = lowest_at vs k v n e f
 
 pub lowest_in : (box : List Interval) → IsBox box → LieIn box (lowest box)
@@ -133,7 +135,8 @@ ranges_same f f' g g' lo hf hg k (u ∷ us) l =
     (ranges_same f f' g g' lo hf hg (k + 1) us (omega arith))
 
 pub ranges_ok : (f g : ℕ → ℕ) (lo hi : Dec) → lo.0 <ℤ hi.0 → ((j : ℕ) → j < 15 → f j ≤ 255000000000)
-    → ((j : ℕ) → j < 15 → g j ≤ 255000000000) → ((j : ℕ) → j < 15 → f j ≤ g j) → (k : ℕ) (us : List Dec) → k + length us ≤ 15 → All (IsInRange lo hi) us
+    → ((j : ℕ) → j < 15 → g j ≤ 255000000000) → ((j : ℕ) → j < 15 → f j ≤ g j) → (k : ℕ) (us : List Dec)
+    → k + length us ≤ 15 → All (IsInRange lo hi) us
     → All (IsRange (distance lo hi)) (ranges_at f g lo k us)
 ranges_ok f g lo hi range hf hg fg k [] l h = All-none (IsRange (distance lo hi))
 ranges_ok f g lo hi range hf hg fg k (u ∷ us) l h =
@@ -241,7 +244,8 @@ module _ (b : Block) (box : List Interval) (bytes : List ℕ) (count : length bo
   rule_point r = ap (λ (s : Span ℕ). s.high * (weight_byte_of r.weight + 1) / 256)
       (point (literal_grade b bytes) (literal_byte_span b box) (λ i t. by_input i t (input_at b i) refl) r.cond)
 
-  mass_point : (o t : ℕ) (rs : List Rule) → greatest_of (λ r. (rule_byte_span b box r).high) o t rs ≡ byte_mass_among b bytes o t rs
+  mass_point : (o t : ℕ) (rs : List Rule) → greatest_of (λ r. (rule_byte_span b box r).high) o t rs
+      ≡ byte_mass_among b bytes o t rs
   mass_point o t [] = refl
   mass_point o t (r ∷ rs) =
       ap₂ (λ m n. if concludes r o t then max m n else n) (rule_point r) (mass_point o t rs)

@@ -102,7 +102,8 @@ counts_least best least inside kind.Tight b bytes box o x h Tight n m valid ex h
 counts_least best least inside kind.Tight b bytes box o x h Cells n m valid ex hh count is lie of_kind p q =
     let c = q.within bytes lie in count_le b (cell_of bytes) o x h n m c.0 p c.1 c.2
 
-best_counts : BestLeavesAreOne → BoundsAreDetermined → (b : Block) (box : List Interval) (o : ℕ) (x : Output) (h n m : ℕ)
+best_counts : BestLeavesAreOne → BoundsAreDetermined
+    → (b : Block) (box : List Interval) (o : ℕ) (x : Output) (h n m : ℕ)
     → IsValid b → length box ≡ length b.inputs → IsBestBound b box o x h n → IsBestBound b box o x h m → n ≡ m
 best_counts leaves bounds b box o x h _ _ valid count (of_leaf l n p bp) (of_leaf k m q bq) =
     let e : Some l ≡ Some k = leaves b box o (Some l) (Some k) p q in

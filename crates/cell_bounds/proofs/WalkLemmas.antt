@@ -284,7 +284,8 @@ module _ (box : List Interval) (k : ℕ) (w : Interval) (there : slice_get box k
   pub in_either : (bytes : List ℕ) → LieIn box bytes → LieIn left bytes ⊎ LieIn right bytes
   in_either bytes l =
       let n = byte_at bytes l in
-      ⊎_elim (λ (h : w.from < n.0). inr (in_right bytes n.0 l n.1 h)) (λ (h : n.0 ≤ w.from). inl (in_left bytes n.0 l n.1 h))
+      ⊎_elim (λ (h : w.from < n.0). inr (in_right bytes n.0 l n.1 h))
+      (λ (h : n.0 ≤ w.from). inl (in_left bytes n.0 l n.1 h))
       (cases_lt w.from n.0)
 
   -- where the places before have one byte, what is before bytes of the left one is in it
@@ -395,9 +396,11 @@ module _ (b : Block) (h : ℕ) (box : List Interval) (k : ℕ) (w : Interval) (t
         (in_either box k w there is wide bytes lie);
     above = (let a = l.above in let c = r.above in omega arith);
     least = λ m all le. r.least m
-        (λ bytes lie. all bytes (lie_around (right box k w there is wide) box bytes (right_inside box k w there is wide) lie))
+        (λ bytes lie. all bytes (lie_around (right box k w there is wide) box bytes
+        (right_inside box k w there is wide) lie))
         (l.least m
-        (λ bytes lie. all bytes (lie_around (left box k w there is wide) box bytes (left_inside box k w there is wide) lie))
+        (λ bytes lie. all bytes (lie_around (left box k w there is wide) box bytes
+        (left_inside box k w there is wide) lie))
         le);
   }
 
@@ -439,7 +442,8 @@ module _ (b : Block) (h : ℕ) (box : List Interval) (k : ℕ) (w : Interval) (t
         let back : j - 1 + 1 ≡ j = omega arith in
         let le : slice_index mids (j - 1) ≤ limit = small (j - 1) (omega arith) in
         let here : IfSome (output_at b (j - 1 + 1)) (λ x. IsCellWithin b ms (j - 1 + 1) x h limit) =
-        more_output (output_at b (j - 1 + 1)) (λ x r. within_le ms le (r.within ms i)) (l (j - 1) (omega arith) (omega arith)) in
+        more_output (output_at b (j - 1 + 1)) (λ x r. within_le ms le (r.within ms i))
+        (l (j - 1) (omega arith) (omega arith)) in
         subst (λ i. IfSome (output_at b i) (λ x. IsCellWithin b ms i x h limit)) back here)
         (λ (i : LieIn (right box k w there is wide) ms). a.cells_before ms i before j f t)
         (in_either box k w there is wide ms lie);
@@ -543,7 +547,8 @@ module _ (b : Block) (box : List Interval) (cell : IsCell box) (h : ℕ) where
     where
       same_bytes : (ms : List ℕ) → IsBefore ms ms → ⊥
       same_bytes [] c = c
-      same_bytes (m ∷ ms) c = ⊎_elim (λ (l : m < m). absurd (omega arith)) (λ (l : (m ≡ m) × IsBefore ms ms). same_bytes ms l.1) c
+      same_bytes (m ∷ ms) c = ⊎_elim (λ (l : m < m). absurd (omega arith))
+          (λ (l : (m ≡ m) × IsBefore ms ms). same_bytes ms l.1) c
 
       of_cells : (ms ns : List ℕ) → cell_of ms ≡ cell_of ns → ms ≡ ns
       of_cells [] [] e = refl
@@ -576,7 +581,8 @@ pub raised_next : (b : Block) (h p place : ℕ) (box : List Interval) (olds mids
     → IfSome (output_at b (place + 1)) (λ x. IsRaised b box (place + 1) x h (slice_index mids place) new)
     → AreRaised b h p (place + 1) box olds (slice_set mids place new)
 raised_next b h p place box olds mids new few done same one j from to = ⊎_elim
-    (λ (l : j < place). subst (λ n. IfSome (output_at b (j + 1)) (λ x. IsRaised b box (j + 1) x h (slice_index olds j) n))
+    (λ (l : j < place). subst (λ n. IfSome (output_at b (j + 1))
+    (λ x. IsRaised b box (j + 1) x h (slice_index olds j) n))
     (sym (set_beside mids place j new (inl l))) (done j from l))
     (λ (l : place ≤ j).
     let e : place ≡ j = omega arith in

@@ -1,5 +1,6 @@
 -- What serves for the masses of all cuts serves for all masses.
-use Rattle.std.proofs.Common.{◌≡◌, ◌⊎◌, inl, inr, ⊎_elim, ℕ, zero, suc, ◌+◌, ◌*◌, ◌<◌, ◌≤◌, List, [], ◌∷◌, Bool, true, false}
+use Rattle.std.proofs.Common.{◌≡◌, ◌⊎◌, inl, inr, ⊎_elim, ℕ, zero, suc, ◌+◌, ◌*◌, ◌<◌, ◌≤◌, List, [], ◌∷◌, Bool, true}
+use Rattle.std.proofs.Common.{false}
 use Rattle.std.proofs.Common.{refl, sym, subst, ap, ◌∙◌, cond, length, take, get_or, max, arith, mul-le-mul_right}
 use Rattle.std.specs.Prelude.{if◌then◌else◌, nat_le, ◌==◌, All, IsTrue, ◌↔◌}
 use Rattle.std.proofs.lemmas.Bool.{cases_lt, leb-true, leb-false, le-leb, eq-eqb}
@@ -46,7 +47,8 @@ up_of : (x y : ℕ) (ts : List MassRange) → IsUp x y ts (masses Nowhere ts)
     → Each (λ c. IsUp x y ts (masses (From c) ts)) ts → (d : ℕ) (ms : List ℕ) → AreBetween d ts ms → IsUp x y ts ms
 up_of x y ts none each d ms b =
     let p : ℕ → Bool = λ u. nat_le y (x * u) in
-    let t = tilt_up x y d p (λ u e. leb-true y (x * u) e) (λ u e. let l = leb-false y (x * u) e in omega arith) ts ms b in
+    let t = tilt_up x y d p (λ u e. leb-true y (x * u) e)
+    (λ u e. let l = leb-false y (x * u) e in omega arith) ts ms b in
     let s : x * weighted ts (chosen p ts) ≤ y * total (chosen p ts) = up_of_test x y ts none each in
     let k : x * weighted ts (chosen p ts) * d ≤ y * total (chosen p ts) * d = mul-le-mul_right d s in
     omega arith
@@ -85,7 +87,8 @@ down_of : (x y : ℕ) (ts : List MassRange) → IsDown x y ts (masses Nowhere ts
     → IsDown x y ts ms
 down_of x y ts none each d ms b =
     let p : ℕ → Bool = λ u. nat_le (x * u) y in
-    let t = tilt_down x y d p (λ u e. leb-true (x * u) y e) (λ u e. let l = leb-false (x * u) y e in omega arith) ts ms b in
+    let t = tilt_down x y d p (λ u e. leb-true (x * u) y e)
+    (λ u e. let l = leb-false (x * u) y e in omega arith) ts ms b in
     let s : y * total (chosen p ts) ≤ x * weighted ts (chosen p ts) = down_of_test x y ts none each in
     let k : y * total (chosen p ts) * d ≤ x * weighted ts (chosen p ts) * d = mul-le-mul_right d s in
     omega arith
@@ -155,11 +158,13 @@ covers_of_cuts a ts rest e h none from upto d ms p b = ⊎_elim
     (λ (m : 0 < total ms).
     let u = up_of (step a) (top a e) ts (answer_up a e ts rest h (masses Nowhere ts) none)
     (each_more (λ c. IsWithin a e (answer_of ts rest (masses (From c) ts)))
-    (λ c. IsUp (step a) (top a e) ts (masses (From c) ts)) (λ c w. answer_up a e ts rest h (masses (From c) ts) w) ts from)
+    (λ c. IsUp (step a) (top a e) ts (masses (From c) ts))
+    (λ c w. answer_up a e ts rest h (masses (From c) ts) w) ts from)
     d ms b in
     let l = down_of (step a) (bottom a e) ts (answer_down a e ts rest h (masses Nowhere ts) none)
     (each_more (λ c. IsWithin a e (answer_of ts rest (masses (UpTo c) ts)))
-    (λ c. IsDown (step a) (bottom a e) ts (masses (UpTo c) ts)) (λ c w. answer_down a e ts rest h (masses (UpTo c) ts) w) ts
+    (λ c. IsDown (step a) (bottom a e) ts (masses (UpTo c) ts))
+    (λ c w. answer_down a e ts rest h (masses (UpTo c) ts) w) ts
     upto) d ms b in
     subst (IsWithin a e) (sym (answer_some ts rest ms m)) (within_back a e (weighted ts ms) (total ms) u l))
     (cases_zero (total ms))
@@ -221,11 +226,13 @@ cuts_next a ts rest i e x y t l h s ex ey =
       nowhere = within_more a e n (answer_of ts rest (masses Nowhere ts)) le s.nowhere;
       from = subst (λ j. Each (F n) (take j ts)) next
           (each_next (F n) ts i t l
-          (each_more (F e) (F n) (λ c w. within_more a e n (answer_of ts rest (masses (From c) ts)) le w) (take i ts) s.from)
+          (each_more (F e) (F n) (λ c w. within_more a e n (answer_of ts rest (masses (From c) ts)) le w)
+          (take i ts) s.from)
           (within_more a x n (answer_of ts rest (masses (From (get_or ts i t).at) ts)) lx ex.within));
       up_to = subst (λ j. Each (U n) (take j ts)) next
           (each_next (U n) ts i t l
-          (each_more (U e) (U n) (λ c w. within_more a e n (answer_of ts rest (masses (UpTo c) ts)) le w) (take i ts) s.up_to)
+          (each_more (U e) (U n) (λ c w. within_more a e n (answer_of ts rest (masses (UpTo c) ts)) le w)
+          (take i ts) s.up_to)
           (within_more a y n (answer_of ts rest (masses (UpTo (get_or ts i t).at) ts)) ly ey.within));
       least = λ f k.
           let a1 = s.least f k in
@@ -258,7 +265,8 @@ up_by : (x y : ℕ) (ts : List MassRange) → IsUp x y ts (masses (AtLeast x y) 
     → AreBetween d ts ms → IsUp x y ts ms
 up_by x y ts s d ms b =
     let p : ℕ → Bool = λ u. nat_le y (x * u) in
-    let t = tilt_up x y d p (λ u e. leb-true y (x * u) e) (λ u e. let l = leb-false y (x * u) e in omega arith) ts ms b in
+    let t = tilt_up x y d p (λ u e. leb-true y (x * u) e)
+    (λ u e. let l = leb-false y (x * u) e in omega arith) ts ms b in
     let k : x * weighted ts (chosen p ts) * d ≤ y * total (chosen p ts) * d = mul-le-mul_right d s in
     omega arith
 
@@ -266,7 +274,8 @@ down_by : (x y : ℕ) (ts : List MassRange) → IsDown x y ts (masses (AtMost x 
     → AreBetween d ts ms → IsDown x y ts ms
 down_by x y ts s d ms b =
     let p : ℕ → Bool = λ u. nat_le (x * u) y in
-    let t = tilt_down x y d p (λ u e. leb-true (x * u) y e) (λ u e. let l = leb-false (x * u) y e in omega arith) ts ms b in
+    let t = tilt_down x y d p (λ u e. leb-true (x * u) y e)
+    (λ u e. let l = leb-false (x * u) y e in omega arith) ts ms b in
     let k : y * total (chosen p ts) * d ≤ x * weighted ts (chosen p ts) * d = mul-le-mul_right d s in
     omega arith
 

@@ -33,7 +33,8 @@ tilt_up x y d p on off (t ∷ ts) (m ∷ ms) b =
     omega arith
   where
     by_test : (v : Bool) → (v ≡ true → y ≤ x * t.at) → (v ≡ false → x * t.at ≤ y)
-        → (x * t.at) * m + y * (d * (if v then t.high else t.low)) ≤ y * m + (x * t.at) * (d * (if v then t.high else t.low))
+        → (x * t.at) * m + y * (d * (if v then t.high else t.low))
+        ≤ y * m + (x * t.at) * (d * (if v then t.high else t.low))
     by_test true h g = one_more (x * t.at) y m (d * t.high) (h refl) (let l = b.1 in omega arith)
     by_test false h g = one_less (x * t.at) y m (d * t.low) (g refl) (let l = b.0 in omega arith)
 
@@ -50,6 +51,7 @@ tilt_down x y d p on off (t ∷ ts) (m ∷ ms) b =
     omega arith
   where
     by_test : (v : Bool) → (v ≡ true → x * t.at ≤ y) → (v ≡ false → y ≤ x * t.at)
-        → y * m + (x * t.at) * (d * (if v then t.high else t.low)) ≤ (x * t.at) * m + y * (d * (if v then t.high else t.low))
+        → y * m + (x * t.at) * (d * (if v then t.high else t.low))
+        ≤ (x * t.at) * m + y * (d * (if v then t.high else t.low))
     by_test true h g = one_more y (x * t.at) m (d * t.high) (h refl) (let l = b.1 in omega arith)
     by_test false h g = one_less y (x * t.at) m (d * t.low) (g refl) (let l = b.0 in omega arith)

@@ -103,12 +103,14 @@ HasBound-pair errors b valid x h f t r k n to top holds e = record {
 }
 
 cold_part : TermErrorsAre → IsValid heater → (h n : ℕ)
-    → n ≡ bound heater (term_errors heater cold_box) 1 power h (pair 1 127) → HasBound heater 1 power h (part 0 127 1 127) n
+    → n ≡ bound heater (term_errors heater cold_box) 1 power h (pair 1 127)
+    → HasBound heater 1 power h (part 0 127 1 127) n
 cold_part errors valid h n e = HasBound-pair errors heater valid power h 0 127 1 127 n (omega arith) (omega arith)
     (strong cold_rule (omega arith) (omega arith) (omega arith) refl cold_strong) e
 
 hot_part : TermErrorsAre → IsValid heater → (h n : ℕ)
-    → n ≡ bound heater (term_errors heater hot_box) 1 power h (pair 2 127) → HasBound heater 1 power h (part 128 255 2 127) n
+    → n ≡ bound heater (term_errors heater hot_box) 1 power h (pair 2 127)
+    → HasBound heater 1 power h (part 128 255 2 127) n
 hot_part errors valid h n e = HasBound-pair errors heater valid power h 128 255 2 127 n (omega arith) (omega arith)
     (strong hot_rule (omega arith) (omega arith) (omega arith) refl hot_strong) e
 
@@ -233,7 +235,8 @@ latch_greatest errors v =
     HasBound-pair errors latch v keeper 1 0 63 1 255 3922 (omega arith) (omega arith)
     (strong on_rule (omega arith) (omega arith) (omega arith) refl on_strong) on_bound in
     let second : HasBound latch 1 keeper 1 (part 64 191 0 0) 0 =
-    HasBound-pair errors latch v keeper 1 64 191 0 0 0 (omega arith) (omega arith) (silent refl refl silent_between) refl in
+    HasBound-pair errors latch v keeper 1 64 191 0 0 0 (omega arith) (omega arith)
+    (silent refl refl silent_between) refl in
     let third : HasBound latch 1 keeper 1 (part 192 255 2 255) 3922 =
     HasBound-pair errors latch v keeper 1 192 255 2 255 3922 (omega arith) (omega arith)
     (strong off_rule (omega arith) (omega arith) (omega arith) refl off_strong) off_bound in

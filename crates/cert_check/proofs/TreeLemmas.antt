@@ -229,9 +229,17 @@ boxes_are b _ _ _ _ (leaf box form rest) is = one_of (λ p. IsBoxOf b p.box) (re
 boxes_are b _ _ _ _ (split box i c nodes mid rest left right from cut l r) is =
     All-append (λ p. IsBoxOf b p.box) left right
     (boxes_are b (left_of (i - 1) c box) nodes left mid l
-    (record { count = left_count (i - 1) c box ∙ is.count; intervals = (IsBox-halves (i - 1) c box is.intervals cut).0 }))
+    (record {
+      count = left_count (i - 1) c box ∙ is.count;
+      intervals =
+          (IsBox-halves (i - 1) c box is.intervals cut).0;
+    }))
     (boxes_are b (right_of (i - 1) c box) mid right rest r
-    (record { count = right_count (i - 1) c box ∙ is.count; intervals = (IsBox-halves (i - 1) c box is.intervals cut).1 }))
+    (record {
+      count = right_count (i - 1) c box ∙ is.count;
+      intervals =
+          (IsBox-halves (i - 1) c box is.intervals cut).1;
+    }))
 
 -- they are among the nodes
 All-tail : {X : Type 0} (P : X → Type 0) (x : X) (xs : List X) → All P (x ∷ xs) → All P xs

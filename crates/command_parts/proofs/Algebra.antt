@@ -1,5 +1,6 @@
 -- Lines of items that are counted, texts that are written part by part, and refusals.
-use Rattle.std.proofs.Common.{refl, ◌≡◌, ◌<◌, ◌+◌, ℕ, true, List, [], ◌∷◌, ◌++◌, length, take, get_or, sym, subst, ◌∙◌, ap}
+use Rattle.std.proofs.Common.{refl, ◌≡◌, ◌<◌, ◌+◌, ℕ, true, List, [], ◌∷◌, ◌++◌, length, take, get_or, sym, subst}
+use Rattle.std.proofs.Common.{◌∙◌, ap}
 use Rattle.std.proofs.Common.{arith, append_assoc, add-one, inl, inr}
 use Rattle.std.specs.Prelude.{All, codes, map, Result, Ok, Err, IfErr, IsErrAnd}
 use Rattle.std.proofs.Math.Seq.{take-suc}

@@ -216,7 +216,8 @@ weighted_scaled k [] ms = omega arith
 weighted_scaled k (t ∷ ts) [] = omega arith
 weighted_scaled k (t ∷ ts) (m ∷ ms) = let e = weighted_scaled k ts ms in omega arith
 
-between_scaled : (k d : ℕ) (ts : List MassRange) (ms : List ℕ) → AreBetween d ts ms → AreBetween (k * d) ts (scaled k ms)
+between_scaled : (k d : ℕ) (ts : List MassRange) (ms : List ℕ) → AreBetween d ts ms
+    → AreBetween (k * d) ts (scaled k ms)
 between_scaled k d [] [] h = tt
 between_scaled k d [] (m ∷ ms) h = absurd h
 between_scaled k d (t ∷ ts) [] h = absurd h
@@ -315,7 +316,8 @@ within_answer : NumbersHaveTheirDegrees → NearestIsByte
     (centre (shares b xs o x) (option_map_or quotient_of x.default before))
 within_answer of_numbers is_byte b box o x h bytes xs n q before on some covers =
     let e = term_errors b box in
-    let ls = literals of_numbers b box bytes xs e on.valid on.cells on.within (term_errors-are b box on.valid on.box_is) in
+    let ls = literals of_numbers b box bytes xs e on.valid on.cells
+    on.within (term_errors-are b box on.valid on.box_is) in
     let hw = weights b on.valid in
     let vx = All-slice_get IsValidOutput b.outputs (o - 1) x on.valid.outputs on.output_is in
     let rs = rows_from b box bytes xs e o x 1 x.singletons in
@@ -359,7 +361,8 @@ within_answer of_numbers is_byte b box o x h bytes xs n q before on some covers 
     let i = close_of h x n q c (weighted_rows rs) (mass_sum rs) (weighted_sum ss) on.parts (omega arith) p sm.sum_is
     near2 in
     subst (IsClose w n (value_in h x q)) (sym (centre_some ss otherwise mp))
-    (subst (λ k. IsClose w n (value_in h x q) (record { num = weighted_sum ss; den = k * 10000 })) (sym sm.masses_is) i))
+    (subst (λ k. IsClose w n (value_in h x q) (record { num = weighted_sum ss; den = k * 10000 }))
+    (sym sm.masses_is) i))
     (cases_zero (mass_sum rs))
 
 pub answers_to_masses : NumbersHaveTheirDegrees → NearestIsByte → AnswersToMassesAreNear

@@ -197,7 +197,8 @@ module _ (t w d gg aa : ℕ) where
       omega arith
 
   pub mass_pos : (rs : List Row) → AllOk t w d gg aa rs → 0 < lows rs → 0 < mass_sum rs
-  mass_pos rs h some = positive (mass_sum rs) (255 * t) (lows rs * dens rs) (mul-pos some (dens_pos rs h)) (lows_sum rs h)
+  mass_pos rs h some = positive (mass_sum rs) (255 * t) (lows rs * dens rs) (mul-pos some (dens_pos rs h))
+      (lows_sum rs h)
     where
       positive : (m n k : ℕ) → 0 < k → k ≤ m * n → 0 < m
       positive zero n k p l = absurd (omega arith)

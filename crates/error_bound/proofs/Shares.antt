@@ -78,14 +78,16 @@ module _ (b : Block) (box : List Interval) (bytes : List ℕ) (xs : List Dec) (e
 
   byte_sum_is : (f : ByteShare → ℕ) (g : List Row → ℕ) → 0 ≡ g []
       → ((t : ℕ) (u : Dec) (us : List Dec) → g (rows_from b box bytes xs e o x t (u ∷ us))
-      ≡ f (record { byte = nearest_byte x u; mass = byte_mass b bytes o t }) + g (rows_from b box bytes xs e o x (t + 1) us))
+      ≡ f (record { byte = nearest_byte x u; mass = byte_mass b bytes o t }) + g
+      (rows_from b box bytes xs e o x (t + 1) us))
       → (t : ℕ) (us : List Dec) → sum_by f (byte_shares_from b bytes o x t us) ≡ g (rows_from b box bytes xs e o x t us)
   byte_sum_is f g none more t [] = none
   byte_sum_is f g none more t (u ∷ us) = omega (
     arith,
     byte_sum_is f g none more (t + 1) us,
     more t u us,
-    sum_by-cons f (record { byte = nearest_byte x u; mass = byte_mass b bytes o t }) (byte_shares_from b bytes o x (t + 1) us),
+    sum_by-cons f (record { byte = nearest_byte x u; mass = byte_mass b bytes o t })
+        (byte_shares_from b bytes o x (t + 1) us),
   )
 
   pub byte_total_is : (t : ℕ) (us : List Dec)

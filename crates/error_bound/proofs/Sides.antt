@@ -490,14 +490,16 @@ module _ (t : Points) (s e m : ℕ) (k : Bool) (v : Fraction) (hm : 0 < m) (he :
               → ((x : Fraction) → IsProper x → IsFromTo xs xe k x → x.num ≤ t.c * x.den → AtMost (rise_at a t.b x) v)
               → e ≤ t.b * m → AtMost (rise_end k a t.b xe) v
           early true a f g = f xe (record { pos = hm })
-              (at_end (record { cross = mul-le-mul_right m (le_of_lt he) }) (AtMost-refl xe) refl) (omega (arith, peak_c))
+              (at_end (record { cross = mul-le-mul_right m (le_of_lt he) }) (AtMost-refl xe) refl)
+              (omega (arith, peak_c))
           early false None f g =
               f xs ps (inside (AtMost-refl xs) (record { cross = (let p = scaled_less s e m he in omega arith) })) l
           early false (Some a) f g =
               rise_lim a t.b e m v hm (omega arith) pv
               (f (close e m (v.den + 2)) (close_proper e m (v.den + 2) hm (omega arith))
               (close_in s e m (v.den + 2) false hm (omega arith) he)
-              (let p : e * (v.den + 2) ≤ (t.c * m) * (v.den + 2) = mul-le-mul_right (v.den + 2) (omega (arith, peak_c)) in
+              (let p : e * (v.den + 2) ≤ (t.c * m) * (v.den + 2) =
+              mul-le-mul_right (v.den + 2) (omega (arith, peak_c)) in
               omega arith))
 
 -- ---- a term's points are in order

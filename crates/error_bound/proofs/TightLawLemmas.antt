@@ -360,7 +360,8 @@ greatest_if_some f m highs us k d n chosen old new some upto n_is small chosen_i
     let here : k - 1 ≡ k - 1 + 1 - 1 = omega arith in
     let value : chosen ≡ if_some highs (k - 1 + 1) (f (get_or us (k - 1) d)) =
     chosen_is ∙ ap₂ (λ j a. if slice_index highs j == 0 then 0 else a) here n_is in (
-      max_small new_is (subst (λ a. a ≤ m) (sym chosen_is) (chosen_small (slice_index highs (k - 1) == 0) small)) before.0,
+      max_small new_is (subst (λ a. a ≤ m) (sym chosen_is)
+          (chosen_small (slice_index highs (k - 1) == 0) small)) before.0,
       new_is ∙ ap₂ (λ a c. max a c) value before.1
           ∙ greatest_back (λ t s. if_some highs t (f s)) us k d some upto,
     )
@@ -394,7 +395,8 @@ pub AreGreatest-skipped : (f : Rule → ℕ) (n o : ℕ) (r : Rule) (rest rs : L
     → (concludes_some r o ≡ true → f r ≡ 0) → AreGreatest f n o rest values → AreGreatest f n o rs values
 AreGreatest-skipped f n o r rest rs values here none before = record {
   each = λ t few. before.each t few
-      ∙ skipped-is (concludes r o (t + 1)) (f r) (greatest_of f o (t + 1) rest) (λ c. none (any-some o (t + 1) r.concl c))
+      ∙ skipped-is (concludes r o (t + 1)) (f r) (greatest_of f o (t + 1) rest)
+      (λ c. none (any-some o (t + 1) r.concl c))
       ∙ sym (ap (greatest_of f o (t + 1)) here);
   small = before.small;
 }

@@ -119,14 +119,16 @@ moving_less b box e r = by_bool (is_still b box r)
     by_bool true = omega arith
     by_bool false = omega arith
 
-among_same : (e : ℕ → ℕ → ℕ) (o t : ℕ) (rs : List Rule) → greatest_of (rule_error e) o t rs ≡ output_error_among e o t rs
+among_same : (e : ℕ → ℕ → ℕ) (o t : ℕ) (rs : List Rule) → greatest_of (rule_error e) o t rs
+    ≡ output_error_among e o t rs
 among_same e o t [] = refl
 among_same e o t (r ∷ rs) = rw (among_same e o t rs) refl
 
 error_less : (b : Block) (box : List Interval) (e : ℕ → ℕ → ℕ) (o t : ℕ) → error_of b box e o t ≤ output_error b e o t
 error_less b box e o t =
     subst (λ m. error_of b box e o t ≤ m) (among_same e o t b.rules)
-    (greatest_of-mono (moving_error b box e) (rule_error e) o t b.rules (λ k d l. moving_less b box e (get_or b.rules k d)))
+    (greatest_of-mono (moving_error b box e) (rule_error e) o t b.rules
+    (λ k d l. moving_less b box e (get_or b.rules k d)))
 
 errors_over : (b : Block) (e : ℕ → ℕ → ℕ) (o w t : ℕ) (us : List Dec)
     → sum_over (λ t u. w * output_error b e o t) t us ≡ w * errors_from b e o t us
@@ -217,7 +219,8 @@ module _ (b : Block) (box : List Interval) (e : ℕ → ℕ → ℕ) (o : ℕ) (
       let m = sure_sum b box o x in
       let mp : 1 ≤ m = strong_sure.sum in
       let kp : 0 < billion * k = omega arith in
-      let l = crossed (swing b box e o x) sum w m (billion * k) (swing_less b box e o x vx.range vx.singletons) sum_least
+      let l = crossed (swing b box e o x) sum w m (billion * k)
+      (swing_less b box e o x vx.range vx.singletons) sum_least
       in
       ratio-mono w h h (255 * swing b box e o x) (w * m) (sum * 255) (billion * k) (live_offset b box o x)
       (greatest_offset x x.singletons) wp hh (omega arith) (mul-pos wp mp) kp l
@@ -441,7 +444,8 @@ module _ (b : Block) (box : List Interval) where
       → IsRuleMass b box r no_mass
   still_mass valid count box_is r still =
       let s = (rule_span b box r).high in
-      let proper : IsProper s = times_proper (highest b box r.cond) (weight_of r.weight) (highest_proper b box r.cond) in
+      let proper : IsProper s = times_proper (highest b box r.cond) (weight_of r.weight)
+      (highest_proper b box r.cond) in
       let upper : high_part b box r ≤ 0 = up_div-le (255 * billion * s.num) s.den 0 proper.pos
       (let z = still.high in omega arith) in
       let lower = rule_parts_ordered b box valid count box_is r in

@@ -23,7 +23,8 @@ use Rattle.box_tree.specs.declared.cert.Node.TheVariants.{Split, Leaf}
 use Rattle.box_tree.specs.{Certificates.IsNode, Certificates.IsLeaf, Certificates.IsPair, Certificates.IsCert}
 use Rattle.box_tree.specs.Laws.{OpenBoxesGoOn}
 use Rattle.cell_bounds.specs.{declared.claims.Claim.Claim, Claims.HasClaimBound, Claims.ClaimBoundsAreOne}
-use Rattle.cert_check.specs.{Trees.Part, Trees.IsTree, Trees.leaf, Trees.split, Trees.whole, Trees.left_of, Trees.right_of, BoxLaws.CutsHaveHalves}
+use Rattle.cert_check.specs.{Trees.Part, Trees.IsTree, Trees.leaf, Trees.split, Trees.whole, Trees.left_of}
+use Rattle.cert_check.specs.{Trees.right_of, BoxLaws.CutsHaveHalves}
 use Rattle.cert_check.specs.Acceptance.{IsAccepted, IsGreatestBound, claim_at}
 use Rattle.error_certifier.specs.Halving.{Halves, leaf as halved_leaf, split as halved_split, IsHalving, IsSettled}
 use Rattle.error_certifier.specs.{Halving.IsAbove}

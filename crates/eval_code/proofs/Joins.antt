@@ -1,5 +1,6 @@
 -- Parts of a firmware put one behind the other.
-use Rattle.eval_code.proofs.Words.{[], ◌*◌, ◌++◌, ◌∙◌, ◌∷◌, ◌≡◌, ◌≤◌, All, All-get_or, ap, ap₂, append_assoc, arith, Block}
+use Rattle.eval_code.proofs.Words.{[], ◌*◌, ◌++◌, ◌∙◌, ◌∷◌, ◌≡◌, ◌≤◌, All, All-get_or, ap, ap₂, append_assoc, arith}
+use Rattle.eval_code.proofs.Words.{Block}
 use Rattle.eval_code.proofs.Words.{block_code, block_items, bytes_at, code_at, eval_code, eval_code_over, Input}
 use Rattle.eval_code.proofs.Words.{Instr, IsValidInput, Item, length, List, map, map-append, MemoryMap, Op, Output}
 use Rattle.eval_code.proofs.Words.{Place, rule_bytes, rule_bytes_by, singleton_bytes, Slot, slots_of, sum_by}

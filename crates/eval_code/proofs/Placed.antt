@@ -37,7 +37,8 @@ pub rises_between : LayoutLaw → BlockRises
 rises_between law at l b w before behind rest o v limits low r =
     let h = parts law l b w before behind v limits in
     let spaced : IsSpaced l = record { tables = o.tables; singletons = o.singletons; weights = o.weights } in
-    block_rises at l b w before behind rest spaced h low (omega (arith, o.eval, o.code, length-code_bytes before, length-code_bytes behind))
+    block_rises at l b w before behind rest spaced h low
+    (omega (arith, o.eval, o.code, length-code_bytes before, length-code_bytes behind))
     (falls (l.rules + length (rule_bytes l.slots b)) (l.rules + 9984) rest (omega (arith, h.rules)) r)
 
 pub is_short : LayoutLaw → BlockIsShort
@@ -112,7 +113,16 @@ there l b w before behind image mem o size same h =
     let m = image_memory image in
     let code = code_bytes (block_code l b w before behind) in
     let few : l.code + length code ≤ l.tables =
-    omega (arith, o.eval, o.code, size.code, length-code_bytes (block_code l b w before behind), length-code_bytes before, length-code_bytes behind) in
+    omega (
+      arith,
+      o.eval,
+      o.code,
+      size.code,
+      length-code_bytes (block_code l b w before behind),
+      length-code_bytes
+          before,
+      length-code_bytes behind,
+    ) in
     let t = o.tables in
     let s = o.singletons in
     let x = o.weights in

@@ -14,7 +14,8 @@ module _ (files : LevelFiles) (slow fast : Block) where
   -- ---- certificates and traces
 
   pub by_fast_cert : (errors : List ℕ) → AcceptsCert Named Byte slow files.slow_cert errors → (s : Status)
-      → IsRefusal (cert_refusals Named Byte fast files.fast_cert) s → IsRefusal (certs_refusals files slow fast) (of_fast s)
+      → IsRefusal (cert_refusals Named Byte fast files.fast_cert) s
+      → IsRefusal (certs_refusals files slow fast) (of_fast s)
   by_fast_cert errors accepts status.Memory r = tt
   by_fast_cert errors accepts (status.Cert f) r = (r.0, ((errors, accepts), r.1))
   by_fast_cert errors accepts s r = absurd r.1

@@ -44,7 +44,8 @@ module _ (accepted : AcceptedErrorsAreOne) (inputs : SpelledInputsAreOne) where
       let errors : a.report.errors ≡ b.report.errors =
       errors_once p.block q.block files.inputs.cert a.report.errors b.report.errors one.0 x.compiled.spelled.valid
       x.inputs.accepted y.inputs.accepted in
-      let bytes = bytes_once p.block q.block files.inputs.trace p.samples q.samples one.0 x.inputs.in_range y.inputs.in_range in
+      let bytes = bytes_once p.block q.block files.inputs.trace p.samples q.samples one.0 x.inputs.in_range
+      y.inputs.in_range in
       let plan : p.plan ≡ q.plan = inputs.plans files.inputs.plan p.plan q.plan x.inputs.good_plan y.inputs.good_plan in
       let handlers = images files.handler p.handler q.handler x.handles.spelled y.handles.spelled in
       let rows : a.report.rows ≡ b.report.rows =
@@ -68,7 +69,8 @@ module _ (accepted : AcceptedErrorsAreOne) (inputs : SpelledInputsAreOne) where
       let errors : a.report.errors ≡ b.report.errors =
       errors_once p.block q.block files.inputs.cert a.report.errors b.report.errors one.0 x.compiled.spelled.valid
       x.inputs.accepted y.inputs.accepted in
-      let bytes = bytes_once p.block q.block files.inputs.trace p.samples q.samples one.0 x.inputs.in_range y.inputs.in_range in
+      let bytes = bytes_once p.block q.block files.inputs.trace p.samples q.samples one.0 x.inputs.in_range
+      y.inputs.in_range in
       let plan : p.plan ≡ q.plan = inputs.plans files.inputs.plan p.plan q.plan x.inputs.good_plan y.inputs.good_plan in
       let upsets : p.upsets ≡ q.upsets =
       spelled p.firmware.image.bytes files.upsets p.upsets q.upsets x.good_upsets

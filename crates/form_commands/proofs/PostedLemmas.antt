@@ -150,7 +150,8 @@ module _ (keep : AnswersKeepTheBound) (fit : SpelledBytesFit) (near : PostedAnsw
 
   last : waiting 0 posts ≢ 0 → (before : List ℕ) × (answered_samples report ≡ before ++ waiting 0 posts ∷ [])
   last some =
-      let at_end = lasts firmware.inputs (steps_of flags firmware bytes) 0 0 [] posts under.turns under.turns_are some in
+      let at_end = lasts firmware.inputs (steps_of flags firmware bytes) 0 0 [] posts under.turns
+      under.turns_are some in
       (at_end.0, of_turns ∙ at_end.1)
 
   of_block : AreAnswersOf Byte block firmware.instr_bound (λ o. 0) (map (bytes_of bytes) (answered_samples report))
@@ -165,7 +166,8 @@ module _ (keep : AnswersKeepTheBound) (fit : SpelledBytesFit) (near : PostedAnsw
   posted =
       let good = a.good_posts.good.posts_are in
       subst (λ (ks : List ℕ). All (IsOneOf (length samples)) ks) (sym of_turns)
-      (answered_of (length samples) firmware.inputs (steps_of flags firmware bytes) 0 0 [] posts under.turns under.turns_are (omega arith)
+      (answered_of (length samples) firmware.inputs (steps_of flags firmware bytes) 0 0 [] posts under.turns
+      under.turns_are (omega arith)
       (λ d k lt. (good d k lt).sample_to))
 
   pub posts_run : PostedRun flags files report

@@ -36,7 +36,8 @@ module _ {V E : Type 0} (told : V → Option Taken) (faults : V → ℕ) (reliab
   pub puts_behind : Puts {E = E} told faults reliable v v' front (Ok tt) → (r : Result Unit E)
       → Puts told faults reliable v' v'' text r → Puts told faults reliable v v'' (front ++ text) r
   puts_behind first r second = record {
-    whole = on_ok r (λ is. is ∙ ap (λ (t : Option Taken). gained t text) first.whole ∙ gained_behind (told v) front text)
+    whole = on_ok r (λ is. is ∙ ap (λ (t : Option Taken). gained t text) first.whole
+        ∙ gained_behind (told v) front text)
         second.whole;
     part = record {
       part = front ++ second.part.part;
@@ -52,7 +53,8 @@ module _ {V E : Type 0} (told : V → Option Taken) (faults : V → ℕ) (reliab
     };
     keeps = λ s. second.keeps (first.keeps s);
     steady = λ s room. second.steady (first.keeps s)
-        (subst (λ (t : Option Taken). HasRoom t (length text)) (sym first.whole) (room_behind (told v) front text room));
+        (subst (λ (t : Option Taken). HasRoom t (length text)) (sym first.whole)
+        (room_behind (told v) front text room));
   }
 
   -- the put of the first failed

@@ -108,7 +108,8 @@ AreKnown files (n ∷ ns) (c ∷ cs) = ((room : ℕ) × (files n ≡ known c roo
 -- there is room for what the command writes and puts, whatever that is
 abbrev pub RoomFor : List Text → Names → Option Taken → (Result SeenOutput Status → Type 0) → Type 0
 RoomFor words files told makes =
-    (output : SeenOutput) → makes (Ok output) → FileFits words output.file files × HasRoom told (length (concat output.lines))
+    (output : SeenOutput) → makes (Ok output) → FileFits words output.file files
+    × HasRoom told (length (concat output.lines))
 
 -- the words are of a command whose files are told, and there is room
 pub record IsReady (words : List Text) (old : World) (command : Command) (contents : List (List ℕ)) : Type 0 where

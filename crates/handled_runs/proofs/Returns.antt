@@ -66,6 +66,7 @@ leads_by before left known all is state counts done =
 
 -- and how it ends is told
 pub told_by : (before steps : ℕ) (known all : Returned) (end : HandlerEnd)
-    → end ≡ record { steps = steps; done = known.done } → before + known.steps ≡ steps → Leads before known all → end ≡ end_of all
+    → end ≡ record { steps = steps; done = known.done } → before + known.steps ≡ steps → Leads before known
+    all → end ≡ end_of all
 told_by before steps known all end is counts leads =
     is ∙ ap₂ (λ (n : ℕ) (d : Bool). record { steps = n; done = d }) (sym counts ∙ leads.counts) leads.done

@@ -71,7 +71,8 @@ module _ {E : Type 0} (Spells : Fields → E → Type 0) where
 
   -- rows each of which spells at most one entry
   module _ (entry_one : (fields : Fields) (q r : E) → Spells fields q → Spells fields r → q ≡ r) where
-    pub entries_one : (rows : List Fields) (ps qs : List E) → SpellAll Spells rows ps → SpellAll Spells rows qs → ps ≡ qs
+    pub entries_one : (rows : List Fields) (ps qs : List E) → SpellAll Spells rows ps → SpellAll
+        Spells rows qs → ps ≡ qs
     entries_one [] [] [] one other = refl
     entries_one [] [] (q ∷ qs) one other = absurd other
     entries_one [] (p ∷ ps) qs one other = absurd one

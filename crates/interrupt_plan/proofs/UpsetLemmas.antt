@@ -18,7 +18,8 @@ use Rattle.interrupt_plan.specs.UpsetTexts.{FirstUpsetFault, SpellUpsets, Spells
 use Rattle.interrupt_plan.specs.UpsetTexts.{UpsetRowFails, at_row, more, unread, not_table, not_ascending}
 use Rattle.interrupt_plan.proofs.{ByteLemmas.write_small, ApartLemmas.same_some}
 use Rattle.interrupt_plan.proofs.PlanLemmas.{count_small, fields_more, fields_split, length-fields}
-use Rattle.interrupt_plan.proofs.SpelledLemmas.{Split, ascends-snoc, entries_one, follows_last, own_of, spelled-length, spell-snoc}
+use Rattle.interrupt_plan.proofs.SpelledLemmas.{Split, ascends-snoc, entries_one, follows_last, own_of}
+use Rattle.interrupt_plan.proofs.SpelledLemmas.{spelled-length, spell-snoc}
 use Rattle.interrupt_plan.proofs.SpelledLemmas.{split_at}
 
 -- three fields, by their places

@@ -63,7 +63,8 @@ pub record IsCopyRun (flags n all : ℕ) (u : State) : Type 0 where
   pub counts : counted flags (n + 5) u ≡ n + 5
   pub outside : (j : ℕ) → j ≤ n + 5 → is_inside flags u j ≡ false
 
-module _ (laws : PlainStepLaws) (flags : ℕ) (f : Firmware) (n all : ℕ) (inputs : f.inputs ≡ n) (u : State) (here : IsHere u)
+module _ (laws : PlainStepLaws) (flags : ℕ) (f : Firmware) (n all : ℕ) (inputs : f.inputs ≡ n) (u : State)
+    (here : IsHere u)
     (run : IsAnswerRun f flags all u) where
   later : (j : ℕ) → 3 ≤ j → j < n + 5
       → (may_interrupt (uninterrupted flags j u) ≡ false) × (kind_at flags (uninterrupted flags j u) ≡ Plain)

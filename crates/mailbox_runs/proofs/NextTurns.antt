@@ -3,7 +3,8 @@ use Rattle.mailbox_runs.proofs.Words.{[], ◌&&◌, ◌++◌, ◌+◌, ◌-◌, 
 use Rattle.mailbox_runs.proofs.Words.{append-nil, append_assoc, ap₂, arith, asked, before_turns, Bool, drop}
 use Rattle.mailbox_runs.proofs.Words.{false, Firmware, FrameSeen, is_empty, is_over, length, List, no_turn, notes_of}
 use Rattle.mailbox_runs.proofs.Words.{Post, Ran, refl, run_from, RunSeen, slice_index, State, suc, sym, take, takes}
-use Rattle.mailbox_runs.proofs.Words.{Taking, TakingSummary, then_turns, true, turn_form, turns_from, waiting, waits_by, with_before}
+use Rattle.mailbox_runs.proofs.Words.{Taking, TakingSummary, then_turns, true, turn_form, turns_from, waiting}
+use Rattle.mailbox_runs.proofs.Words.{waits_by, with_before}
 use Rattle.mailbox_runs.proofs.Words.{with_rest, zero, ℕ}
 use Rattle.run_forms.specs.Rest.{SampleSummary, summary, after, rest_at}
 use Rattle.mailbox_runs.specs.{Counts.Counted, Counts.counted_at}
@@ -14,7 +15,8 @@ use Rattle.mailbox_runs.proofs.Running.{run_over, run_turn, slice_is}
 
 -- A turn begins: what is due is taken, which leads from counts t and state s to t1 and s1, and then sample v waits,
 -- where w did before.
-pub record Begins (flags : ℕ) (f : Firmware) (samples : List (List ℕ)) (posts : List Post) (w v : ℕ) (t t1 : Counts (Notes (Unit {0})))
+pub record Begins (flags : ℕ) (f : Firmware) (samples : List (List ℕ)) (posts : List Post) (w v : ℕ)
+    (t t1 : Counts (Notes (Unit {0})))
     (s s1 : State) : Type 0 where
   pub takes_are : with_before (notes_of.frames t.notes) (notes_of.told t.notes)
       (takes (turn_form flags f samples t.moment) t.moment (drop t.next posts) s)
@@ -61,8 +63,10 @@ stuck_by : (f : Firmware) (samples : List (List ℕ)) (g v : ℕ) (bs fs1 : List
 unfolding counted
 stuck_by f samples g v bs fs1 r rest posts t t2 s2 us answers before off is =
     let stays : r.arrived ≡ false = sym (ap (λ (k : SampleSummary (Unit {0})). k.arrived) is.counted) ∙ off in
-    let frames : fs1 ++ r.frames ≡ notes_of.frames t2.notes = sym (ap (λ (k : SampleSummary (Unit {0})). k.frames) is.counted) in
-    let resumed : t.resumed + r.resumed ≡ t2.resumed = sym (ap (λ (k : SampleSummary (Unit {0})). k.resumed) is.counted) in
+    let frames : fs1 ++ r.frames ≡ notes_of.frames t2.notes =
+    sym (ap (λ (k : SampleSummary (Unit {0})). k.frames) is.counted) in
+    let resumed : t.resumed + r.resumed ≡ t2.resumed =
+    sym (ap (λ (k : SampleSummary (Unit {0})). k.resumed) is.counted) in
     let go : then_turns f samples g v bs r rest ≡ no_turn false (bs ++ r.frames) r.resumed = rw stays refl in
     let all : notes_of.frames t.notes ++ (bs ++ r.frames) ≡ notes_of.frames t2.notes =
     sym (append_assoc (notes_of.frames t.notes) bs r.frames)
@@ -84,8 +88,10 @@ turn_by : (f : Firmware) (samples : List (List ℕ)) (g v : ℕ) (bs fs1 : List 
 unfolding counted
 turn_by f samples g v bs fs1 r rest posts t t2 s2 us answers answers2 w2 before off is answers_are waits_are =
     let comes : r.arrived ≡ true = sym (ap (λ (k : SampleSummary (Unit {0})). k.arrived) is.counted) ∙ off in
-    let frames : fs1 ++ r.frames ≡ notes_of.frames t2.notes = sym (ap (λ (k : SampleSummary (Unit {0})). k.frames) is.counted) in
-    let resumed : t.resumed + r.resumed ≡ t2.resumed = sym (ap (λ (k : SampleSummary (Unit {0})). k.resumed) is.counted) in
+    let frames : fs1 ++ r.frames ≡ notes_of.frames t2.notes =
+    sym (ap (λ (k : SampleSummary (Unit {0})). k.frames) is.counted) in
+    let resumed : t.resumed + r.resumed ≡ t2.resumed =
+    sym (ap (λ (k : SampleSummary (Unit {0})). k.resumed) is.counted) in
     let at : t2.moment ≡ g + r.steps = ap (λ (k : SampleSummary (Unit {0})). k.steps) is.counted in
     let left : drop t2.next posts ≡ r.left = is.left in
     let state : s2 ≡ r.state = ap (λ (k : SampleSummary (Unit {0})). k.state) is.counted in
@@ -114,7 +120,8 @@ turn_by f samples g v bs fs1 r rest posts t t2 s2 us answers answers2 w2 before 
     ∙ ap₂ (λ (fs : List (ℕ × FrameSeen)) (j : ℕ). counted (answers2 ++ k.answers) fs j) all_of sum
     ∙ ap (λ (x : RunSeen). with_rest answers2 t2 x) same
 
-module _ {flags : ℕ} {f : Firmware} {samples : List (List ℕ)} {posts : List Post} {w v : ℕ} {t t1 : Counts (Notes (Unit {0}))}
+module _ {flags : ℕ} {f : Firmware} {samples : List (List ℕ)} {posts : List Post} {w v : ℕ}
+    {t t1 : Counts (Notes (Unit {0}))}
     {s s1 : State} (b : Begins flags f samples posts w v t t1 s s1) (last n : ℕ) (answers : List AnswerSeen) where
   -- the run is over here
   pub over_here : (is_empty (drop t1.next posts) && (slice_index s1.mem f.memory_map.ready == 0)) ≡ true
@@ -152,8 +159,10 @@ module _ {flags : ℕ} {f : Firmware} {samples : List (List ℕ)} {posts : List 
       let same : run i t1.moment t1.inside ≡ run flags t.moment false =
       ap (λ (k : ℕ). run k t1.moment t1.inside) ei ∙ ap₂ (λ (m : ℕ) (k : Bool). run flags m k) b.begins b.fresh.0 in
       record {
-        counted = is ∙ ap (λ (r : Ran Post (Unit {0})). after t1.instrs t1.moment t1.resumed told frames (summary r)) same
-            ∙ ap₂ (λ (j m : ℕ). after j m t1.resumed told frames (summary (run flags t.moment false))) b.fresh.1 b.begins
+        counted = is ∙ ap (λ (r : Ran Post (Unit {0})). after t1.instrs t1.moment t1.resumed told
+            frames (summary r)) same
+            ∙ ap₂ (λ (j m : ℕ). after j m t1.resumed told frames
+            (summary (run flags t.moment false))) b.fresh.1 b.begins
             ∙ ap (λ (r : ℕ). after 0 t.moment r told frames (summary (run flags t.moment false))) b.fresh.2;
         left = left ∙ ap (λ (r : Ran Post (Unit {0})). r.left) same;
       }
@@ -213,7 +222,8 @@ module _ {flags : ℕ} {f : Firmware} {samples : List (List ℕ)} {posts : List 
       ap (with_rest answers t) (turn_goes on)
       ∙ turn_by f samples g v (takes (turn_form flags f samples g) g (drop t.next posts) s).frames
       (notes_of.frames t1.notes) r (turns_from flags f samples last n) posts t t2 s2
-      (notes_of.told t1.notes) answers answers2 w2 (ap (λ (k : TakingSummary Post (Unit {0})). k.frames) b.takes_are) off
+      (notes_of.told t1.notes) answers answers2 w2
+      (ap (λ (k : TakingSummary Post (Unit {0})). k.frames) b.takes_are) off
       turn (answers_are ∙ ap (λ (l : List Post). answers ++ answers_by f samples g v l t2.moment t2.instrs s2) taken)
       (waits_are ∙ ap (λ (l : List Post). waits_by g v l) taken)
 

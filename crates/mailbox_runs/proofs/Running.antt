@@ -3,7 +3,8 @@ use Rattle.mailbox_runs.proofs.Words.{[], ◌&&◌, ◌++◌, ◌+◌, ◌-◌, 
 use Rattle.mailbox_runs.proofs.Words.{ap₂, arith, asked, behind, bytes_of, drop, false, Firmware, FrameSeen}
 use Rattle.mailbox_runs.proofs.Words.{is_empty, is_over, length, length-append, List, nat_tests, no_turn, Post, Ran}
 use Rattle.mailbox_runs.proofs.Words.{refl, run_from, slice_index, State, suc, sym, take, takes, Taking, TakingSummary}
-use Rattle.mailbox_runs.proofs.Words.{then_turns, true, turn_form, TurnForm, turns_from, up_to, values_in, waiting, waits_by}
+use Rattle.mailbox_runs.proofs.Words.{then_turns, true, turn_form, TurnForm, turns_from, up_to, values_in, waiting}
+use Rattle.mailbox_runs.proofs.Words.{waits_by}
 use Rattle.mailbox_runs.proofs.Words.{with_before, zero, ℕ}
 use Rattle.std.proofs.{Common.length-drop}
 use Rattle.run_forms.proofs.Algebra.{taken_told}

@@ -95,7 +95,8 @@ begins k (x ∷ es) (f ∷ fs) b c r s he hf hb hc e =
     let right = ahead (k + 1) fs c s in
     let here : error_line (codes "error ") k x ++ left ≡ error_line (codes "error ") k f ++ right =
     sym (append_assoc (error_line (codes "error ") k x) (errors_from (k + 1) es) (line (codes "instructions ") b ++ r))
-    ∙ (e ∙ append_assoc (error_line (codes "error ") k f) (errors_from (k + 1) fs) (line (codes "instructions ") c ++ s)) in
+    ∙ (e ∙ append_assoc (error_line (codes "error ") k f) (errors_from (k + 1) fs)
+    (line (codes "instructions ") c ++ s)) in
     let lines = sym (error_then k x left) ∙ (here ∙ error_then k f right) in
     let labelled = append_cancel_left (codes "error ") (decimal k ++ (codes " " ++ (decimal x ++ 10 ∷ left)))
     (decimal k ++ (codes " " ++ (decimal f ++ 10 ∷ right))) lines in

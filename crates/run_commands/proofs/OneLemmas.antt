@@ -28,7 +28,8 @@ runs_once firmwares accepted inputs run files output other a b =
     let one = firmwares (Alone run.width) files.fcl p.block q.block p.firmware q.firmware x.compiled y.compiled in
     let errors : a.report.errors ≡ b.report.errors =
     accepted run.kind run.width p.block files.inputs.cert a.report.errors b.report.errors x.compiled.spelled.valid
-    x.inputs.accepted (subst (λ (c : Block). AcceptsCert run.kind run.width c files.inputs.cert b.report.errors) (sym one.0)
+    x.inputs.accepted (subst (λ (c : Block). AcceptsCert run.kind run.width c files.inputs.cert
+    b.report.errors) (sym one.0)
     y.inputs.accepted) in
     let bytes : map input_bytes p.samples ≡ map input_bytes q.samples =
     inputs.samples p.block.inputs files.inputs.trace p.samples q.samples x.inputs.in_range

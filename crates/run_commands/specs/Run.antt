@@ -10,7 +10,8 @@ use Rattle.byte_scaling.specs.declared.width.Width.{Width}
 use Rattle.interrupt_plan.specs.declared.Request.{Request}
 use Rattle.trace_io.specs.declared.sample.Sample.{Sample}
 use Rattle.srecord.specs.Texts.{GivesImage}
-use Rattle.command_parts.specs.{SeenOutputs.SeenOutput, SeenOutputs.only_lines, Images.RefusesImage, Contents.content_at}
+use Rattle.command_parts.specs.{SeenOutputs.SeenOutput, SeenOutputs.only_lines, Images.RefusesImage}
+use Rattle.command_parts.specs.{Contents.content_at}
 use Rattle.command_parts.specs.Firmwares.{OfFirmware, RefusesText}
 use Rattle.command_parts.specs.declared.firmware.Form.TheVariants.{Alone}
 use Rattle.fz_status.specs.{Words.flags_of, declared.status.Status.Status, Refusals.Refusals, Refusals.Refuses}

@@ -165,7 +165,8 @@ pub record PassesOn {T : Type 0} (o o2 : RestHere T) : Type 0 where
   pub less : length o2.later < length o.later
 
 -- a position further, and then by parts that were done at once
-passed : {A U R S B T : Type 0} (flags : ℕ) (h : Harness A U R S B T) (plan : List A) (p : RunState U R) (st : SampleState U)
+passed : {A U R S B T : Type 0} (flags : ℕ) (h : Harness A U R S B T) (plan : List A) (p : RunState U R)
+    (st : SampleState U)
     (o : RestHere T)
     (s t : State) (at : Position) (states : List State) → o ≡ at_position at (from_here (rest_here flags h plan p s))
     → after_takes flags h (requests_at plan p) p.sample s ≡ after_states states
@@ -206,8 +207,10 @@ passes_on flags i j h plan l p st r s t at states ei ej goes on =
     (after_takes k h (requests_at plan p) st t)) ej on)
 
 -- a run is under way where its sample's state further on may go on
-pub under_way_on : {A U R S B T : Type 0} {fits : U → ℕ → Type 0} {h : Harness A U R S B T} {plan : List A} {p : RunState U R} {st : SampleState U}
-    → IsUnderWay fits h plan p → IsSteady fits (requests_at plan p) st → IsUnderWay fits h plan (record p { sample = st })
+pub under_way_on : {A U R S B T : Type 0} {fits : U → ℕ → Type 0} {h : Harness A U R S B T} {plan : List A}
+    {p : RunState U R} {st : SampleState U}
+    → IsUnderWay fits h plan p → IsSteady fits (requests_at plan p) st → IsUnderWay fits h plan
+    (record p { sample = st })
 under_way_on under_way steady = record {
   few = under_way.few;
   number = under_way.number;

@@ -53,7 +53,8 @@ pub record CountedFew {U : Type 0} (n : ℕ) (t t2 : Counts U) : Type 0 where
   pub most : t2.moment ≤ t.moment + n
   pub resumed : t2.arrived ≡ true → t.resumed ≤ t.moment → t2.resumed ≤ t2.moment
 
-pub counted_few : {S A U B : Type 0} (f : Form S A B) (seen : SeenNotes U B) (n : ℕ) (qs : List A) (t t2 : Counts U) (s s2 : State)
+pub counted_few : {S A U B : Type 0} (f : Form S A B) (seen : SeenNotes U B) (n : ℕ) (qs : List A) (t t2 : Counts U)
+    (s s2 : State)
     → counted_at seen t2 s2 ≡ rest_at seen f n qs t s → CountedFew n t t2
 counted_few {B = B} f seen n qs t t2 s s2 e =
     let k = counts_few f n t.moment t.inside (drop t.next qs) s in

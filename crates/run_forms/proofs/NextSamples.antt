@@ -21,7 +21,8 @@ abbrev pub next_requests : {A U R S B T : Type 0} → Harness A U R S B T → Li
 next_requests h plan p = requests_first h.parts.place (p.number + 1) (drop p.behind plan)
 
 -- A run under way has one more sample: its room stands before these, it has n requests, and its run begins so.
-pub record HasNext {A U R S B T : Type 0} (fits : U → ℕ → Type 0) (h : Harness A U R S B T) (plan : List A) (p : RunState U R) (n : ℕ)
+pub record HasNext {A U R S B T : Type 0} (fits : U → ℕ → Type 0) (h : Harness A U R S B T) (plan : List A)
+    (p : RunState U R) (n : ℕ)
     (room : U) (rooms : List U) (st : SampleState U) : Type 0 where
   pub under_way : IsUnderWay fits h plan p
   pub more : p.number < length h.samples
@@ -44,7 +45,8 @@ with_next n p q = record q {
 abbrev pub requests_from : {A : Type 0} → List A → ℕ → ℕ → List A
 requests_from plan first n = take (first + n - first) (drop first plan)
 
-module _ {A U R S B T : Type 0} {fits : U → ℕ → Type 0} {h : Harness A U R S B T} {plan : List A} {p : RunState U R} {n : ℕ} {room : U}
+module _ {A U R S B T : Type 0} {fits : U → ℕ → Type 0} {h : Harness A U R S B T} {plan : List A} {p : RunState U R}
+    {n : ℕ} {room : U}
     {rooms : List U} {st : SampleState U} (next : HasNext fits h plan p n room rooms st) where
   counted : n ≡ length (next_requests h plan p)
   counted = count_there h.parts.place (p.number + 1) p.behind n plan next.count
@@ -69,13 +71,15 @@ module _ {A U R S B T : Type 0} {fits : U → ℕ → Type 0} {h : Harness A U R
       let further = rest_further place k p.behind n plan counted in
       let fewer : length h.samples - p.number - 1 ≡ length h.samples - k = omega arith in
       subst (λ (l : List A). HaveRoom fits h.notes place (k + 1) (length h.samples - k) l rooms) (sym further)
-      (subst (λ (j : ℕ). HaveRoom fits h.notes place (k + 1) j (drop (length (next_requests h plan p)) (drop p.behind plan)) rooms)
+      (subst (λ (j : ℕ). HaveRoom fits h.notes place (k + 1) j
+      (drop (length (next_requests h plan p)) (drop p.behind plan)) rooms)
       fewer next_rooms.1)
 
   -- what is left of its room before its first boundary
   pub next_room : fits st.counts.notes (length (requests_from plan p.behind n) - st.counts.next)
   next_room =
-      given_room fits h.notes (requests_from plan p.behind n) (next_requests h plan p) room st.counts next.counts next_rooms.0
+      given_room fits h.notes (requests_from plan p.behind n) (next_requests h plan p) room st.counts
+      next.counts next_rooms.0
       (slice_first h.parts.place (p.number + 1) p.behind n (drop p.behind plan) counted)
       (few_there plan p.behind (p.behind + n - p.behind) next.under_way.few)
 
@@ -126,7 +130,8 @@ module _ {A U R S B T : Type 0} {fits : U → ℕ → Type 0} {h : Harness A U R
       let st2 : SampleState U = q.sample in
       let y = is_there h.samples p.number next.more in
       let empty = next_rooms.0 in
-      let comes : after_takes flags h qs st2 t ≡ rest_of_ran (run_from form p.most 0 false qs (form.give y.sample past)) =
+      let comes : after_takes flags h qs st2 t ≡ rest_of_ran
+      (run_from form p.most 0 false qs (form.give y.sample past)) =
       subst (λ (l : ℕ). after_takes l h qs st2 t ≡ before_takes l h qs st given) (eij ∙ ej) came
       ∙ fresh_rest flags h p.most qs room st given next.counts next.left empty.no_frames empty.none_told
       ∙ ap (λ (u : State). rest_of_ran (run_from form p.most 0 false qs u)) (egiven y.sample y.at) in
@@ -140,4 +145,5 @@ module _ {A U R S B T : Type 0} {fits : U → ℕ → Type 0} {h : Harness A U R
       (rest_further place k p.behind n plan counted) comes (states_here flags h qs st2 t) begins
       (sample_next p.number h.samples ∙ y.at)
       ∙ ap (λ (l : List S). rest_before flags h p.most k rest l seen past) (sym y.rest)
-      ∙ ap₂ (λ (rs : List T) (u : State). rest_before flags h p.most k rest (drop p.number h.samples) rs u) rows_are epast
+      ∙ ap₂ (λ (rs : List T) (u : State). rest_before flags h p.most k rest (drop p.number h.samples)
+      rs u) rows_are epast

@@ -112,7 +112,8 @@ after_more place k (suc n) plan =
     let f : k + suc n ≡ suc k + n = omega arith in
     rw (e, f) (after_more place (suc k) n (drop (length (requests_first place k plan)) plan))
 
-pub room_more : {A U B : Type 0} (fits : U → ℕ → Type 0) (seen : SeenNotes U B) (place : A → ℕ × ℕ) (k n : ℕ) (plan : List A) (rooms : List U) (room : U)
+pub room_more : {A U B : Type 0} (fits : U → ℕ → Type 0) (seen : SeenNotes U B) (place : A → ℕ × ℕ) (k n : ℕ)
+    (plan : List A) (rooms : List U) (room : U)
     → HaveRoom fits seen place k n plan rooms
     → HasRoom fits seen (requests_first place (k + n) (requests_after place k n plan)) room
     → HaveRoom fits seen place k (n + 1) plan (rooms ++ room ∷ [])
@@ -131,7 +132,8 @@ room_more fits seen place k (suc n) plan (first ∷ rooms) room h r =
     (h.0, room_more fits seen place (suc k) n (drop (length (requests_first place k plan)) plan) rooms room h.1 there)
 
 -- the first room, and those that are left
-pub room_first : {A U B : Type 0} (fits : U → ℕ → Type 0) (seen : SeenNotes U B) (place : A → ℕ × ℕ) (k n : ℕ) (plan : List A) (room : U) (rooms : List U)
+pub room_first : {A U B : Type 0} (fits : U → ℕ → Type 0) (seen : SeenNotes U B) (place : A → ℕ × ℕ) (k n : ℕ)
+    (plan : List A) (room : U) (rooms : List U)
     → 0 < n → HaveRoom fits seen place k n plan (room ∷ rooms)
     → HasRoom fits seen (requests_first place k plan) room
     × HaveRoom fits seen place (k + 1) (n - 1) (drop (length (requests_first place k plan)) plan) rooms
@@ -140,8 +142,10 @@ room_first fits seen place k (suc n) plan room rooms l h =
     let e : suc n - 1 ≡ n = omega arith in
     let f : suc k ≡ k + 1 = omega arith in (
       h.0,
-      subst (λ (j : ℕ). HaveRoom fits seen place (k + 1) j (drop (length (requests_first place k plan)) plan) rooms) (sym e)
-          (subst (λ (j : ℕ). HaveRoom fits seen place j n (drop (length (requests_first place k plan)) plan) rooms) f h.1),
+      subst (λ (j : ℕ). HaveRoom fits seen place (k + 1) j
+          (drop (length (requests_first place k plan)) plan) rooms) (sym e)
+          (subst (λ (j : ℕ). HaveRoom fits seen place j n
+          (drop (length (requests_first place k plan)) plan) rooms) f h.1),
     )
 
 pub slice_first : {A : Type 0} (place : A → ℕ × ℕ) (k first count : ℕ) (rest : List A)

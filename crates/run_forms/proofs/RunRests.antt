@@ -33,11 +33,13 @@ abbrev pub standing : {U R : Type 0} → RunState U R → State → Position
 standing p s = record { sample = p.number; moment = p.sample.counts.moment; state = s }
 
 -- where a session stands is the first of the states to come
-pub states_here : {A U R S B T : Type 0} (flags : ℕ) (h : Harness A U R S B T) (qs : List A) (st : SampleState U) (s : State)
+pub states_here : {A U R S B T : Type 0} (flags : ℕ) (h : Harness A U R S B T) (qs : List A)
+    (st : SampleState U) (s : State)
     → (after_takes flags h qs st s).states ≡ s ∷ drop 1 (after_takes flags h qs st s).states
 states_here flags h qs st s = by st.over (next_of flags s)
   where
-    by : (b : Bool) (o : Result Next ℕ) → (if b then at_end h.notes qs st.counts s else by_step flags h qs st s o).states ≡ s
+    by : (b : Bool) (o : Result Next ℕ) → (if b then at_end h.notes qs st.counts s else by_step flags h qs st s
+        o).states ≡ s
         ∷ drop 1 (if b then at_end h.notes qs st.counts s else by_step flags h qs st s o).states
     by true o = refl
     by false (Ok next) = refl
@@ -75,17 +77,20 @@ fresh_rest {A = A} {U = U} {S = S} {B = B} flags h n qs room st s et el ef eu =
 
 -- a sample that ends here
 pub ends_here : {A U R S B T : Type 0} (flags : ℕ) (h : Harness A U R S B T) (plan : List A) (p : RunState U R)
-    (s : State) → after_takes flags h (requests_at plan p) p.sample s ≡ at_end h.notes (requests_at plan p) p.sample.counts s
+    (s : State) → after_takes flags h (requests_at plan p) p.sample s
+    ≡ at_end h.notes (requests_at plan p) p.sample.counts s
     → rest_here flags h plan p s ≡ at_position (standing p s)
     (rest_before flags h p.most (p.number + 1) (drop p.behind plan) (drop p.number h.samples) (rows_here h p s)
     (state_here h p s))
 ends_here {A = A} {B = B} flags h plan p s e =
-    ap (λ (c : SampleRest A B). rest_by flags h p.most p.number p.sample.counts.moment (sample_at p.number h.samples) s c
+    ap (λ (c : SampleRest A B). rest_by flags h p.most p.number p.sample.counts.moment
+    (sample_at p.number h.samples) s c
     (drop p.behind plan) (drop p.number h.samples) (map h.seen p.rows.items)) e
 
 -- the last sample, at its end
 pub last_here : {A U R S B T : Type 0} (flags : ℕ) (h : Harness A U R S B T) (plan : List A) (p : RunState U R)
-    (s : State) → after_takes flags h (requests_at plan p) p.sample s ≡ at_end h.notes (requests_at plan p) p.sample.counts s
+    (s : State) → after_takes flags h (requests_at plan p) p.sample s
+    ≡ at_end h.notes (requests_at plan p) p.sample.counts s
     → length h.samples ≤ p.number
     → rest_here flags h plan p s ≡ at_position (standing p s) (made [] (rows_here h p s) (state_here h p s))
 last_here {A = A} {S = S} {B = B} {T = T} flags h plan p s e last =
@@ -95,7 +100,8 @@ last_here {A = A} {S = S} {B = B} {T = T} flags h plan p s e last =
     let rows : List T = rows_here h p s in
     let u : State = state_here h p s in
     ends_here flags h plan p s e
-    ∙ ap (λ (l : List S). at_position here (rest_before flags h p.most k rest l rows u)) (drop_all p.number h.samples last)
+    ∙ ap (λ (l : List S). at_position here (rest_before flags h p.most k rest l rows u))
+    (drop_all p.number h.samples last)
     ∙ ap (λ (all : Rows S A B). at_position here
     (made (all_numbered k all.states) (rows ++ shown h.shows all) all.state))
     (no_row (plan_form flags h.parts) h.parts.place p.most rest k u)
@@ -103,7 +109,8 @@ last_here {A = A} {S = S} {B = B} {T = T} flags h plan p s e last =
 
 -- a sample that ends here, and the next at its first boundary, to which a run comes from what is the same
 pub next_here : {A U R S B T : Type 0} (flags j : ℕ) (h : Harness A U R S B T) (plan : List A) (p q : RunState U R)
-    (st : SampleState U) (s u t : State) → after_takes flags h (requests_at plan p) p.sample s ≡ at_end h.notes (requests_at plan p) p.sample.counts s
+    (st : SampleState U) (s u t : State) → after_takes flags h (requests_at plan p) p.sample s
+    ≡ at_end h.notes (requests_at plan p) p.sample.counts s
     → st ≡ p.sample → u ≡ s → j ≡ flags
     → from_here (rest_here j h plan q t)
     ≡ rest_before j h p.most (p.number + 1) (drop p.behind plan) (drop p.number h.samples)
@@ -112,7 +119,8 @@ pub next_here : {A U R S B T : Type 0} (flags j : ℕ) (h : Harness A U R S B T)
 next_here {U = U} flags j h plan p q st s u t e same_sample same_state same_flags comes =
     let here = standing p s in
     ends_here flags h plan p s e
-    ∙ ap₂ (λ (k : SampleState U) (v : State). at_position here (rest_before flags h p.most (p.number + 1) (drop p.behind plan)
+    ∙ ap₂ (λ (k : SampleState U) (v : State). at_position here
+    (rest_before flags h p.most (p.number + 1) (drop p.behind plan)
     (drop p.number h.samples) (rows_here h (record p { sample = k }) v) (state_here h p v)))
     (sym same_sample) (sym same_state)
     ∙ ap (at_position here) (sym
@@ -177,7 +185,8 @@ given_rest {A = A} {S = S} {B = B} {T = T} flags h most n m plan plan2 qs o y re
   where
     full : SampleRest A B → List A → Option S → RunRest T
     full d p x =
-        let next = rest_before flags h most (n + 1 + 1) p rest (with_row rows (shown_by h.shows h.parts.answers d.summary) x)
+        let next = rest_before flags h most (n + 1 + 1) p rest
+        (with_row rows (shown_by h.shows h.parts.answers d.summary) x)
         (left_by h.parts.leave x d.summary.state) in
         made (numbered (n + 1) 0 d.states ++ next.left) next.rows next.state
 
@@ -213,7 +222,8 @@ sample_before zero samples h = absurd (omega (arith, h))
 sample_before (suc n) samples h = let e : n ≡ suc n - 1 = omega arith in ap (λ (k : ℕ). slice_get samples k) e
 
 -- there is room before a sample's first boundary
-pub given_room : {A U B : Type 0} (fits : U → ℕ → Type 0) (seen : SeenNotes U B) (qs first : List A) (room : U) (t : Counts U) → t ≡ fresh room
+pub given_room : {A U B : Type 0} (fits : U → ℕ → Type 0) (seen : SeenNotes U B) (qs first : List A) (room : U)
+    (t : Counts U) → t ≡ fresh room
     → HasRoom fits seen first room → qs ≡ first → length qs ≤ 10000 → fits t.notes (length qs - t.next)
 given_room {A = A} {U = U} fits seen qs first room t et h eq few =
     let all : length qs - 0 ≡ length qs = omega arith in
@@ -234,7 +244,8 @@ first_goes {T = T} shows first o n p q all e f =
     ∙ ap (λ (a : RunRest T). made (positions first all) a.rows a.state) same
 
 -- and where there are no samples, that one is the only one
-pub first_stays : {S A B T : Type 0} (shows : RowSeen S → List B → T) (first : State) (o : RestHere T) (all : Rows S A B)
+pub first_stays : {S A B T : Type 0} (shows : RowSeen S → List B → T) (first : State) (o : RestHere T)
+    (all : Rows S A B)
     → o ≡ at_position (record { sample = 0; moment = 0; state = first })
     (made (all_numbered 1 all.states) (shown shows all) all.state) → o.later ≡ []
     → from_here o ≡ shown_run shows first all
@@ -247,7 +258,8 @@ first_stays {T = T} shows first o all e none =
     ∙ ap (λ (ps : List Position). made (positions_or first ps) rows all.state) there
 
 -- the sample's state before the first sample
-pub steady_before : {A U B : Type 0} (fits : U → ℕ → Type 0) (seen : SeenNotes U B) (room : U) (st : SampleState U) → st.counts ≡ fresh room
+pub steady_before : {A U B : Type 0} (fits : U → ℕ → Type 0) (seen : SeenNotes U B) (room : U) (st : SampleState U)
+    → st.counts ≡ fresh room
     → HasRoom {A = A} fits seen [] room → IsSteady {A = A} fits [] (record st { over = true })
 steady_before {A = A} {U = U} fits seen room st et empty =
     let t : Counts U = st.counts in

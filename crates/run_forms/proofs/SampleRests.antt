@@ -16,8 +16,10 @@ sample_rest : {A B : Type 0} → SampleSummary B → List A → List State → S
 sample_rest b qs ss = record { summary = b; requests = qs; states = ss }
 
 -- a sample that is over here
-pub over_here : {A U R S B T : Type 0} (flags : ℕ) (h : Harness A U R S B T) (qs : List A) (st : SampleState U) (s : State)
-    → h.parts.ends st.counts.moment s ≡ true → at_end h.notes qs (record (st.counts) { arrived = true }) s ≡ before_takes flags h qs st s
+pub over_here : {A U R S B T : Type 0} (flags : ℕ) (h : Harness A U R S B T) (qs : List A)
+    (st : SampleState U) (s : State)
+    → h.parts.ends st.counts.moment s ≡ true → at_end h.notes qs (record (st.counts) { arrived = true }) s
+    ≡ before_takes flags h qs st s
 unfolding sample_rest
 over_here {A = A} {S = S} {B = B} flags h qs st s e =
     let t = st.counts in
@@ -28,8 +30,10 @@ over_here {A = A} {S = S} {B = B} flags h qs st s e =
     sym
     (ap₂ (λ (x : SampleSummary B) (r : Ran A B). sample_rest x r.left r.states) a b)
 
-pub spent_here : {A U R S B T : Type 0} (flags : ℕ) (h : Harness A U R S B T) (qs : List A) (st : SampleState U) (s : State)
-    → st.left ≡ 0 → h.parts.ends st.counts.moment s ≡ st.counts.arrived → at_end h.notes qs st.counts s ≡ before_takes flags h qs st s
+pub spent_here : {A U R S B T : Type 0} (flags : ℕ) (h : Harness A U R S B T) (qs : List A)
+    (st : SampleState U) (s : State)
+    → st.left ≡ 0 → h.parts.ends st.counts.moment s ≡ st.counts.arrived → at_end h.notes qs st.counts s
+    ≡ before_takes flags h qs st s
 unfolding sample_rest
 spent_here {A = A} {S = S} {B = B} flags h qs st s z e =
     let t = st.counts in
@@ -78,7 +82,8 @@ takes_are {U = U} notes st t resumed taken rest alive some resumes taken_is =
 
 -- what is to come is the same after what is taken
 pub taken_here : {A U R S B T : Type 0} (flags : ℕ) (h : Harness A U R S B T) (qs : List A) (st st2 : SampleState U)
-    (s s2 : State) (taken : Bool) → st2.over ≡ false → h.parts.ends st.counts.moment s ≡ false → Takes h.notes st st2 taken
+    (s s2 : State) (taken : Bool) → st2.over ≡ false → h.parts.ends st.counts.moment s ≡ false
+    → Takes h.notes st st2 taken
     → with_before (h.notes.frames st.counts.notes) (h.notes.told st.counts.notes)
     (takes (plan_form flags h.parts) st.counts.moment (drop st.counts.next qs) s)
     ≡ record {
@@ -91,7 +96,8 @@ pub taken_here : {A U R S B T : Type 0} (flags : ℕ) (h : Harness A U R S B T) 
     → after_takes flags h qs st2 s2 ≡ before_takes flags h qs st s
 unfolding sample_rest
 taken_here {A = A} {S = S} {B = B} flags h qs st st2 s s2 taken goes_on on k te =
-    ap (λ (b : Bool). if b then at_end h.notes qs st2.counts s2 else by_step flags h qs st2 s2 (next_of flags s2)) goes_on
+    ap (λ (b : Bool). if b then at_end h.notes qs st2.counts s2 else by_step flags h qs st2 s2
+    (next_of flags s2)) goes_on
     ∙ by (next_of flags s2) refl
   where
     g : Form S A B
@@ -132,13 +138,15 @@ stepped_here {U = U} flags h qs st st2 s s2 kind on e es =
     ap₂ (λ (b : Bool) (o : Result Next ℕ). if b then at_end h.notes qs st.counts s else by_step flags h qs st s o) on e
     ∙ ap (λ (k : SampleState U). after_state s (before_takes flags h qs k s2)) (sym es)
 
-pub stuck_here : {A U R S B T : Type 0} (flags : ℕ) (h : Harness A U R S B T) (qs : List A) (st : SampleState U) (s : State)
+pub stuck_here : {A U R S B T : Type 0} (flags : ℕ) (h : Harness A U R S B T) (qs : List A)
+    (st : SampleState U) (s : State)
     (byte : ℕ) → st.over ≡ false → next_of flags s ≡ Err byte
     → after_takes flags h qs st s ≡ at_end h.notes qs st.counts s
 stuck_here flags h qs st s byte on e =
     ap₂ (λ (b : Bool) (o : Result Next ℕ). if b then at_end h.notes qs st.counts s else by_step flags h qs st s o) on e
 
-pub over_there : {A U R S B T : Type 0} (flags : ℕ) (h : Harness A U R S B T) (qs : List A) (st : SampleState U) (s : State)
+pub over_there : {A U R S B T : Type 0} (flags : ℕ) (h : Harness A U R S B T) (qs : List A)
+    (st : SampleState U) (s : State)
     → st.over ≡ true → after_takes flags h qs st s ≡ at_end h.notes qs st.counts s
 over_there flags h qs st s e =
     ap (λ (b : Bool). if b then at_end h.notes qs st.counts s else by_step flags h qs st s (next_of flags s)) e

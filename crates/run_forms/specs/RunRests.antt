@@ -102,7 +102,8 @@ pub record IsUnderWay {A U R S B T : Type 0} (fits : U → ℕ → Type 0) (h : 
   pub behind : p.behind ≤ length plan
   pub follow : Follow h.parts.place (p.number + 1) (drop p.behind plan)
   pub rooms :
-      HaveRoom fits h.notes h.parts.place (p.number + 1) (length h.samples - p.number) (drop p.behind plan) p.rooms.items
+      HaveRoom fits h.notes h.parts.place (p.number + 1) (length h.samples - p.number) (drop p.behind plan)
+      p.rooms.items
   pub rows : vec_len p.rows ≡ p.number - 1
   pub room : length h.samples ≤ vec_capacity p.rows
   pub sample : IsSteady fits (requests_at plan p) p.sample

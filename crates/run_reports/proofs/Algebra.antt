@@ -83,7 +83,8 @@ bare-numbers (n ∷ ns) = bare-append (decimal n) (numbers ns) (bare-decimal n) 
 
 pub bare-answers : (answers : List ℕ) (instrs : ℕ) → has_no_end (answers_told answers instrs) ≡ true
 bare-answers answers instrs =
-    bare-append (numbers answers) (codes " instructions " ++ decimal instrs) (bare-numbers answers) (bare-decimal instrs)
+    bare-append (numbers answers) (codes " instructions " ++ decimal instrs) (bare-numbers answers)
+    (bare-decimal instrs)
 
 pub bare-answered : (bytes answers : List ℕ) (instrs : ℕ) → has_no_end (answered bytes answers instrs) ≡ true
 bare-answered bytes answers instrs =
@@ -95,7 +96,8 @@ bare-sample k r =
     let resumed = codes " resumed " ++ (decimal r.resumed ++ frames) in
     let steps = codes " steps " ++ (decimal r.steps ++ resumed) in
     let own = answered r.sample r.answers r.instrs in
-    bare-append (decimal k) (own ++ steps) (bare-decimal k) (bare-append own steps (bare-answered r.sample r.answers r.instrs)
+    bare-append (decimal k) (own ++ steps) (bare-decimal k)
+    (bare-append own steps (bare-answered r.sample r.answers r.instrs)
     (bare-append (decimal r.steps) resumed (bare-decimal r.steps)
     (bare-append (decimal r.resumed) frames (bare-decimal r.resumed) (bare-decimal (length r.frames)))))
 

@@ -95,11 +95,13 @@ same_place b c after rest line other g h f e as_long same give_b give_c fails mo
 pub faults_one : (text : List ℕ) (f h : SrecFault) → HasFault text f → HasFault text h → f ≡ h
 faults_one text _ _ (at_line b after line g f same give fails) (at_line c rest other h e too gives also) =
     elim (cases_lt (length b) (length c)) [
-      | inl lt ↦ absurd (not_before b c after (other ∷ rest) line g h (length b + 1) f lt (sym too ∙ same) gives give fails)
+      | inl lt ↦ absurd (not_before b c after (other ∷ rest) line g h (length b + 1) f lt
+          (sym too ∙ same) gives give fails)
       | inr ge ↦ elim (cases_eq (length b) (length c)) [
         | inl as_long ↦ same_place b c after rest line other g h f e as_long (sym same ∙ too) give gives fails also
         | inr longer ↦ absurd
-            (not_before c b rest (line ∷ after) other h g (length c + 1) e (omega arith) (sym same ∙ too) give gives also)
+            (not_before c b rest (line ∷ after) other h g (length c + 1) e (omega arith)
+            (sym same ∙ too) give gives also)
       ]
     ]
 faults_one text _ _ (at_line b after line g f same give fails) (no_end h all ended) =

@@ -1,5 +1,6 @@
 -- The image of bytes has one text.
-use Rattle.std.proofs.Common.{◌≡◌, ◌≤◌, ◌+◌, ◌∙◌, ℕ, zero, suc, List, [], ◌∷◌, ◌++◌, length, arith, refl, sym, ap, subst, inl, inr, ⊎_elim}
+use Rattle.std.proofs.Common.{◌≡◌, ◌≤◌, ◌+◌, ◌∙◌, ℕ, zero, suc, List, [], ◌∷◌, ◌++◌, length, arith, refl, sym, ap}
+use Rattle.std.proofs.Common.{subst, inl, inr, ⊎_elim}
 use Rattle.cpu12_asm.specs.Bytes.{placed}
 use Rattle.srecord.specs.Images.{AreCut, ImageText, IsPiece, Piece, StartsAt, data_text, next, none}
 use Rattle.srecord.specs.{Laws.ImageTextsAreOne, Lines.record_text}

@@ -1,7 +1,8 @@
 -- What is seen of a fast run, by what was counted of it.
 use Rattle.two_level_runs.proofs.Words.{[], ◌-◌, ◌<◌, ◌∙◌, ◌∷◌, ◌≡◌, ap, ap₂, arith, bytes_at, counted_at}
 use Rattle.two_level_runs.proofs.Words.{fast_map, fast_run, FastSeen, from, get_or, inner_notes, input_bytes, length}
-use Rattle.two_level_runs.proofs.Words.{length-map, List, map, None, Ran, sample_of, SampleSummary, seen_of, slice_get, Some, State}
+use Rattle.two_level_runs.proofs.Words.{length-map, List, map, None, Ran, sample_of, SampleSummary, seen_of}
+use Rattle.two_level_runs.proofs.Words.{slice_get, Some, State}
 use Rattle.two_level_runs.proofs.Words.{suc, sym, zero, ℕ}
 use Rattle.std.proofs.{Common.Option, Common.Bor}
 use Rattle.std.specs.{Prelude.MatchOption}
@@ -23,7 +24,8 @@ seen number answers c = record {
   frames = inner_frames_seen c.notes.items;
 }
 
-pub seen_by_counts : (number outputs : ℕ) (c : Counts (ArrayVec InnerFrame)) (s : State) (r : Ran ℕ (Unit {0})) (answers : List ℕ)
+pub seen_by_counts : (number outputs : ℕ) (c : Counts (ArrayVec InnerFrame)) (s : State) (r : Ran ℕ (Unit {0}))
+    (answers : List ℕ)
     → counted_at inner_notes c s ≡ summary r
     → answers ≡ bytes_at s.mem (from fast_map.outputs outputs)
     → seen number answers c ≡ seen_of number outputs r

@@ -7,7 +7,8 @@ use Rattle.cpu12_parts.specs.State.{State}
 use Rattle.cpu12_emul.specs.{Simulation.OnStackOnly, Take.FrameSeen}
 use Rattle.run_law.specs.{Uninterrupted.taken_at, Following.Follows}
 use Rattle.run_law.specs.Soundness.{Sound, WritesAreQuiet, Ascend}
-use Rattle.two_level_runs.specs.{Runs.fast_form, Runs.fast_run, Steps.is_open_inside, Steps.IsFastState, Steps.IsFastRun}
+use Rattle.two_level_runs.specs.{Runs.fast_form, Runs.fast_run, Steps.is_open_inside, Steps.IsFastState}
+use Rattle.two_level_runs.specs.{Steps.IsFastRun}
 
 -- any moment is good
 abbrev pub AnyMoment : ℕ → Type 0

@@ -45,7 +45,8 @@ row_with t bytes answers = record {
 }
 
 -- a row with FAULT is what is shown
-pub row_is : (f : Firmware) (x : Watched) (t : Counts (Notes (Unit {0}))) (end : State) (row : RowSeen (List ℕ)) (fault : ℕ)
+pub row_is : (f : Firmware) (x : Watched) (t : Counts (Notes (Unit {0}))) (end : State)
+    (row : RowSeen (List ℕ)) (fault : ℕ)
     → (bytes answers : List ℕ) → row ≡ record {
       sample = bytes;
       answers = answers;

@@ -59,7 +59,8 @@ start_execution decodes flags l image f vector start =
     let same : SameHigh image m = high_set image image l.ready 0 (omega arith) (λ at le. refl) in
     let d0 : decode_at image s0.regs.pc ≡ Ok (LdsImmediate 0x2000) =
     ap (decode_at image) p0
-    ∙ decodes image l.code (LdsImmediate 0x2000) (omega arith) (omega arith) (start.0, (start.1.0, (start.1.1.0, tt))) in
+    ∙ decodes image l.code (LdsImmediate 0x2000) (omega arith) (omega arith)
+    (start.0, (start.1.0, (start.1.1.0, tt))) in
     let at1 : l.code + 1 + 1 + 1 ≡ l.code + 3 = omega arith in
     let b1 : HasBytes image (l.code + 3) (121 ∷ l.ready / 2 ^ 8 ∷ l.ready % 2 ^ 8 ∷ 16 ∷ 239 ∷ []) =
     subst (λ p. HasBytes image p (121 ∷ l.ready / 2 ^ 8 ∷ l.ready % 2 ^ 8 ∷ 16 ∷ 239 ∷ [])) at1 start.1.1.1 in

@@ -65,7 +65,8 @@ has_frame c shown f a h =
       shown = shown;
       from = omega arith;
       to = omega arith;
-      load = ap (decode_at c.image) w ∙ c.decodes c.image (l.code + 8) (LdaaExtended l.ready) (omega arith) (omega arith) h.load;
+      load = ap (decode_at c.image) w ∙ c.decodes c.image (l.code + 8) (LdaaExtended l.ready) (omega arith)
+          (omega arith) h.load;
       rest = subst (λ p. Stands c p (turn_code l)) e3
           (stands_of c (l.code + 8 + 3) (turn_code l)
           (omega arith, (omega arith, (omega arith, (omega arith, tt)))) h.turn (omega arith)

@@ -78,8 +78,19 @@ main_inside : IsInCode main_map
 main_inside = record { from = omega arith; to = omega arith }
 
 main_frame_fits : FitCode (frame_code main_map)
-main_frame_fits =
-    (omega arith, (omega arith, (omega arith, (omega arith, (omega arith, (omega arith, (omega arith, (omega arith, (tt, tt)))))))))
+main_frame_fits = (
+  omega arith,
+  (
+    omega arith,
+    (
+      omega arith,
+      (
+        omega arith,
+        (omega arith, (omega arith, (omega arith, (omega arith, (tt, tt))))),
+      ),
+    ),
+  ),
+)
 
 -- what runs are under that are beside handlers to which these bytes are open
 abbrev over_main : LowerLaws → (open_to : ℕ → Bool) → LeavesMapped open_to main_map → List ℕ → (flags : ℕ)

@@ -162,7 +162,8 @@ copies_run p h s at =
     let step4 : Masked p 0 s3 s4 =
     masked_step p (Andcc 0xEF) s3 s4 (0xC00F + 6 * p.n + 3) (0xC00F + 6 * p.n + 3 + 2) w3.lives w3.pc_is
     r.stands.1.0 false w4 in
-    let kept : (q : ℕ) → q ≢ 0x1028 → get_or s4.mem q 0 ≡ get_or m2 q 0 = λ q ne. get_or-set_other m2 0x1028 q 0 0 ne in (
+    let kept : (q : ℕ) → q ≢ 0x1028 → get_or s4.mem q 0 ≡ get_or m2 q 0 =
+    λ q ne. get_or-set_other m2 0x1028 q 0 0 ne in (
       s4,
       record {
         masked = s1;

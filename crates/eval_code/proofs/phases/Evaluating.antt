@@ -94,7 +94,8 @@ pub record Evals (c : Ctx) (l : MemoryMap) (b : Block) (w : Width) (bytes bs : L
 -- code and what stands behind it
 behind : (c : Ctx) (code rest : List Instr) (n k m j : ℕ) (s : State) (p : ℕ) (t : State) (mem : List ℕ)
     → Goes c n k s t → t.regs.sp ≡ s.regs.sp
-    → Reaches c m j t (p + code_size code + code_size rest) mem → Reaches c (n + m) (k + j) s (p + code_size (code ++ rest)) mem
+    → Reaches c m j t (p + code_size code + code_size rest) mem
+    → Reaches c (n + m) (k + j) s (p + code_size (code ++ rest)) mem
 behind c code rest n k m j s p t mem g es r =
     let e = code_size-append code rest in
     reaches_at c _ _ _ _ s _ _ _ _ (omega arith) (omega arith) (omega arith) refl
@@ -320,7 +321,8 @@ inputs_on c b w bytes bs s p h live ep ex ey st hi hb =
     fuzzify_run c b.inputs bytes c.memory_map.inputs s p c.memory_map.tables c.memory_map.slots live ep
     (stands_front c p code rest st) ex ey h.input.count hi h.rom.tables (omega arith) (omega arith) (omega arith)
     (omega (arith, h.input.count, h.valid.few_inputs)) (omega arith) (omega arith) in
-    let q = slots_on c b w bytes bs s.mem r.t (p + code_size code) h r.live r.pc_is (stands_back c p code rest st) live.size
+    let q = slots_on c b w bytes bs s.mem r.t (p + code_size code) h r.live r.pc_is
+    (stands_back c p code rest st) live.size
     r.mem_is hb in
     behind c code rest (length b.inputs + input_term_count b) 0 _ _ s p r.t (evaluated c.memory_map b w bytes bs s.mem)
     r.goes r.sp_is q

@@ -39,7 +39,8 @@ stands_of decodes c p (i ∷ is) u h lo hi =
         fits = u.0;
         decoded = decodes c.image p i u.0 (omega arith) (bytes_front c.image p (encode_of i) (code_bytes is) h);
       },
-      stands_of decodes c (p + length (encode_of i)) is u.1 (bytes_back c.image p (encode_of i) (code_bytes is) h) (omega arith)
+      stands_of decodes c (p + length (encode_of i)) is u.1 (bytes_back c.image p (encode_of i) (code_bytes is) h)
+          (omega arith)
           (omega arith),
     )
 
@@ -201,5 +202,6 @@ eval_answers laws l b w flags bytes before s a v lim fits i k =
       masks = refl;
       same = λ at h. refl;
     } in
-    begun laws.decodes laws.rules_give_masses laws.nearest_is_byte c b w bytes before s v (block_facts laws.layout_law b v) lim i
+    begun laws.decodes laws.rules_give_masses laws.nearest_is_byte c b w bytes before s v
+    (block_facts laws.layout_law b v) lim i
     k.eval live k

@@ -165,7 +165,8 @@ block_fits_between encoded near l b w before behind rest v facts a front back ot
     let few = facts.few_slots in
     let top = a.slots in
     let small : form_of b ≡ form.Rev → length (slots_of b) ≤ 254 = λ e. (rev_is_plain b facts e).0 in
-    let eval : ItemsFit (map Op (eval_code l b w)) = fit_code encoded (eval_code l b w) (fit_answer near l b w a v facts) in
+    let eval : ItemsFit (map Op (eval_code l b w)) =
+    fit_code encoded (eval_code l b w) (fit_answer near l b w a v facts) in
     let code : ItemsFit (map Op (block_code l b w before behind)) =
     joined before (eval_code l b w ++ behind) front (joined (eval_code l b w) behind eval back) in
     let rules : Below 256 (rule_bytes l.slots b) =
@@ -180,8 +181,11 @@ block_fits_between encoded near l b w before behind rest v facts a front back ot
               (fit_bytes (singleton_bytes b) (singletons_fit near b.outputs v.outputs)) (
                 tt,
                 fit_append (map Byte (weight_bytes b)) _
-                    (fit_bytes (weight_bytes b) (weights_fit (form_of b) (weights_of b) (weights_below b facts)))
-                    (tt, fit_append (map Byte (rule_bytes l.slots b)) rest (fit_bytes (rule_bytes l.slots b) rules) others),
+                    (fit_bytes (weight_bytes b) (weights_fit (form_of b) (weights_of b) (weights_below b facts))) (
+                      tt,
+                      fit_append (map Byte (rule_bytes l.slots b)) rest
+                          (fit_bytes (rule_bytes l.slots b) rules) others,
+                    ),
               ),
         ),
       ),

@@ -134,7 +134,8 @@ pub record Adds (c : Setting) (n : ℕ) (s : State) (pc sum : ℕ) : Type 0 wher
   pub mem_is : t.mem ≡ s.mem
   pub b_is : t.regs.b ≡ sum
 
-adds_after : (c : Setting) (n m : ℕ) (s u : State) (pc sum : ℕ) → Bounded (Step c) n 0 s u → u.regs.sp ≡ s.regs.sp → u.mem ≡ s.mem
+adds_after : (c : Setting) (n m : ℕ) (s u : State) (pc sum : ℕ) → Bounded (Step c) n 0 s u → u.regs.sp ≡ s.regs.sp
+    → u.mem ≡ s.mem
     → Adds c m u pc sum → Adds c (n + m) s pc sum
 adds_after c n m s u pc sum g es em r = record {
   t = r.t;
@@ -184,7 +185,8 @@ turn go c above s p end l ep h low less top =
     let x1 : s1.regs.x ≡ s.regs.x + 1 = omega arith in
     record {
       t = s2;
-      goes = bounded_on (Step c) 1 0 1 0 s s1 s2 (bounded_one (Step c) 0 s s1 n1.step) (bounded_one (Step c) 0 s1 s2 n2.step);
+      goes = bounded_on (Step c) 1 0 1 0 s s1 s2 (bounded_one (Step c) 0 s s1 n1.step)
+          (bounded_one (Step c) 0 s1 s2 n2.step);
       live = n2.live;
       pc_is = n2.pc_is ∙ omega arith;
       x_is = x1;
@@ -231,7 +233,8 @@ loop go c above s p end (suc n) l ep h low e top =
     ap₂ (λ (x y : ℕ). (x + y) % 2 ^ 8) r.b_is same
     ∙ sum_on s.regs.b (get_or s.mem s.regs.x 0) (sum_from s.mem (s.regs.x + 1) (suc n)) in
     adds_at c (2 + 1 + 3 * suc n) (3 * suc (suc n)) s (p + 7) (p + 7) _ _ (omega arith) refl total
-    (adds_after c (2 + 1) (3 * suc n) s u (p + 7) _ (bounded_on (Step c) 2 0 1 0 s r.t u r.goes (bounded_one (Step c) 0 r.t u k.step)) r.sp_is
+    (adds_after c (2 + 1) (3 * suc n) s u (p + 7) _
+    (bounded_on (Step c) 2 0 1 0 s r.t u r.goes (bounded_one (Step c) 0 r.t u k.step)) r.sp_is
     r.mem_is rest)
 
 -- what stands where segments are, summed, and how many instructions that takes

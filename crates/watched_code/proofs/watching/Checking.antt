@@ -94,7 +94,8 @@ passed_by go c s at check to gs shown d e =
       t = v;
       goes = subst (λ (m : ℕ). Bounded (Step c) m 0 s v) count
           (bounded_on (Step c) (2 + count_in gs) 0 2 0 s d.t v d.goes
-          (bounded_on (Step c) 1 0 1 0 d.t u v (bounded_one (Step c) 0 d.t u n.step) (bounded_one (Step c) 0 u v k.step)));
+          (bounded_on (Step c) 1 0 1 0 d.t u v (bounded_one (Step c) 0 d.t u n.step)
+          (bounded_one (Step c) 0 u v k.step)));
       live = k.live;
       pc_is = k.pc_is ∙ omega arith;
       sp_is = d.sp_is;

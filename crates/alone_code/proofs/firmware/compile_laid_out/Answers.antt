@@ -34,4 +34,5 @@ returns-clause-answers c =
 
 pub returns-clause-uninterrupted : goal.returns-clause-uninterrupted
 returns-clause-uninterrupted c =
-    c.firmware_is_uninterrupted.ensures c.args.block.now _ c.requires.valid c.requires.limits (returns-clause-firmware c)
+    c.firmware_is_uninterrupted.ensures c.args.block.now _ c.requires.valid c.requires.limits
+    (returns-clause-firmware c)

@@ -13,7 +13,8 @@ loop-k-preserved c =
     record {
       count = omega (arith, length-set {A = MassRange}, count);
       done = fill_next (slice_index c.args.lows.now) (slice_index c.args.highs.now) c.args.output.now.lo
-          c.as_slice-singletons.result.now c.loop-k.ranges c.loop-k.k c.above.result (get_or c.args.highs.now (c.loop-k.k - 1) 0)
+          c.as_slice-singletons.result.now c.loop-k.ranges c.loop-k.k c.above.result
+          (get_or c.args.highs.now (c.loop-k.k - 1) 0)
           (record { 0 = pos 0 }) c.loop-k-test.true c.loop-k.auto.k (omega arith) c.above.ensures refl
           c.loop-k.invariant.done;
     }

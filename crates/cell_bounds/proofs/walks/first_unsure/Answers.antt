@@ -43,7 +43,8 @@ loop-place-preserved c =
           let e : place + 1 ≡ j = omega arith in
           let next : IfSome (output_at b (place + 1))
           (λ x. CellsAreWithin b c.copied-in-loop-place.result.0.items (place + 1) x c.args.parts 1000000) =
-          sure_next b c.args.parts place c.copied-in-loop-place.result.0.items (0 ∷ 0 ∷ 0 ∷ 0 ∷ []) c.in-Ok.field-0 (omega arith) c.in-Ok.ensures.raised
+          sure_next b c.args.parts place c.copied-in-loop-place.result.0.items (0 ∷ 0 ∷ 0 ∷ 0 ∷ []) c.in-Ok.field-0
+          (omega arith) c.in-Ok.ensures.raised
           c.in-Ok.ensures.within in
           subst (λ i. IfSome (output_at b i) (λ x. CellsAreWithin b box i x c.args.parts 1000000)) e
           (subst (λ y. IfSome (output_at b (place + 1)) (λ x. CellsAreWithin b y (place + 1) x c.args.parts 1000000))

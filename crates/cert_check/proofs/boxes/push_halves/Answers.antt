@@ -31,5 +31,6 @@ push-requires-in-Some c =
 
 pub returns-in-Some-clause-boxes : goal.returns-in-Some-clause-boxes
 returns-in-Some-clause-boxes c =
-    c.push-in-Some.ensures.boxes ∙ ap₂ (λ (x : List Interval) (xs : List (List Interval)). x ∷ xs) c.halves-left.ensures.left
+    c.push-in-Some.ensures.boxes ∙ ap₂ (λ (x : List Interval) (xs : List (List Interval)). x ∷ xs)
+    c.halves-left.ensures.left
     (c.push.ensures.boxes ∙ ap (λ (x : List Interval). x ∷ stack_of c.args.boxes.now.items) c.halves-left.ensures.right)

@@ -10,4 +10,8 @@ returns c =
     let x = c.index-as_slice-out.result in
     let found = slice_get-read c.as_slice.result.now outputs (c.args.out - 1) x c.as_slice.ensures
     (omega (arith, c.requires.from, c.requires.to)) c.index-as_slice-out.is in
-    record { found = found; valid = All-slice_get IsValidOutput outputs (c.args.out - 1) x c.requires.block.outputs found }
+    record {
+      found = found;
+      valid = All-slice_get IsValidOutput outputs (c.args.out - 1) x
+          c.requires.block.outputs found;
+    }

@@ -13,7 +13,8 @@ halve-requires c =
     let e = c.in-Ok.ensures in
     record {
       task = e.task;
-      bytes = box_for c.in-Ok.task.block.now c.args.block.now c.whole_box-2.result.0.items e.block c.whole_box-2.ensures;
+      bytes = box_for c.in-Ok.task.block.now c.args.block.now c.whole_box-2.result.0.items e.block
+          c.whole_box-2.ensures;
       table = subst (λ b. IsTable b c.over-table.result) (sym e.block) c.over-table.ensures.table;
       tree = tree_for c.in-Ok.task.block.now c.args.block.now c.in-Ok-new.tree c.len.result e.block
           c.in-Ok-new.ensures.errors c.len.ensures c.in-Ok-new.ensures.leaves;

@@ -10,5 +10,6 @@ returns c =
     c.in_ok-push_outer.ensures
     ∙ made_with c.args.lines.now.items _ (counted (λ n f. outer_lines c.args.k row.fast n (boundary_seen f)) 1 frames) _
     c.in_ok-push.ensures.items
-    ∙ ap₂ (λ l ls. c.args.lines.now.items ++ l ∷ ls) (c.in_ok-of.ensures ∙ (λ i. ended (c.in_ok-told_sample.ensures.told i)))
+    ∙ ap₂ (λ l ls. c.args.lines.now.items ++ l ∷ ls)
+    (c.in_ok-of.ensures ∙ (λ i. ended (c.in_ok-told_sample.ensures.told i)))
     (sym (counted-map (outer_lines c.args.k row.fast) boundary_seen 1 frames))

@@ -4,4 +4,5 @@ use Rattle.form_commands.proofs.srun.lines.Given as goal
 
 abbrev pub invariant-loop-at : goal.invariant-loop-at
 invariant-loop-at l =
-    l.lines.items ≡ begun_lines l.errors l.bound ++ counted (λ k r. watched_row_lines k (row_seen r)) 1 (take l.at l.rows)
+    l.lines.items ≡ begun_lines l.errors l.bound ++ counted (λ k r. watched_row_lines k (row_seen r)) 1
+    (take l.at l.rows)

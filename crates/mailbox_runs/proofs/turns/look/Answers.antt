@@ -18,5 +18,6 @@ returns-clause-waits g c =
 pub returns-clause-few : goal.returns-clause-few
 returns-clause-few g c =
     let a = c.args in
-    wait_taken (length a.form.now.samples.now) a.waits c.posted_last.result a.t.now.next c.take_due.new.t.next a.posts.now
+    wait_taken (length a.form.now.samples.now) a.waits c.posted_last.result a.t.now.next
+    c.take_due.new.t.next a.posts.now
     c.requires.waits c.requires.good.posts_are c.take_due.ensures.next.0 c.posted_last.ensures

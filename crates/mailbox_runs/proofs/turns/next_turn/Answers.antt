@@ -6,7 +6,8 @@ use Rattle.mailbox_runs.proofs.turns.next_turn.Goals as goal
 -- the turn as it begins
 begins_there : (g : Over) (c : After-look-seen g)
     → Begins c.args.m.now.flags c.args.firmware.now (map input_bytes c.args.samples.now) c.args.posts.now
-    c.args.waits.now c.look-seen.result c.args.st.now.counts c.look-seen.new.t c.args.m.now.state c.look-seen.new.m.state
+    c.args.waits.now c.look-seen.result c.args.st.now.counts c.look-seen.new.t c.args.m.now.state
+    c.look-seen.new.m.state
 begins_there g c = record {
   takes_are = c.look-seen.ensures.takes;
   waits = c.look-seen.ensures.waits;

@@ -12,7 +12,8 @@ returns-then-not-next_turn g c =
     let more : suc (l.left - 1) ≡ l.left = omega (arith, some) in
     sym (c.next_turn.ensures.ends c.if-not-next_turn.true (l.left - 1))
     ∙ ap₂ (λ (k n : ℕ). with_rest (map answer_seen l.answers.items) l.st.counts
-    (turns_from k a.firmware.now samples a.last n l.st.counts.moment l.waits (drop l.st.counts.next a.posts.now) l.m.state))
+    (turns_from k a.firmware.now samples a.last n l.st.counts.moment l.waits
+    (drop l.st.counts.next a.posts.now) l.m.state))
     l.invariant.flags more
     ∙ l.invariant.rest
 

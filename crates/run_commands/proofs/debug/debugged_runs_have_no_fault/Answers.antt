@@ -9,7 +9,8 @@ returns c debug files output (status.Fcl f) gives is =
     c.spelled_texts_have_no_fault.ensures files.fcl gives.block f a.compiled.spelled a.compiled.limits is.0 is.1
 returns c debug files output (status.Image f) gives (carries, (other, others, gives_other, refuses)) =
     let a = gives.accepts in
-    let one = c.given_firmwares_are_one.ensures (Alone Byte) files.fcl other gives.block others gives.firmware gives_other
+    let one = c.given_firmwares_are_one.ensures (Alone Byte) files.fcl other gives.block others
+    gives.firmware gives_other
     a.compiled in
     c.given_images_have_no_fault.ensures files.image gives.firmware.image f a.image
     (subst (λ (g : Firmware). RefusesImage files.image g.image f) one.1 refuses)
@@ -19,7 +20,8 @@ returns c debug files output (status.Script n) gives (carries, (other, others, g
     cc
 returns c debug files output s gives (carries, (other, others, gives_other, refuses)) =
     let a = gives.accepts in
-    let one = c.given_firmwares_are_one.ensures (Alone Byte) files.fcl other gives.block others gives.firmware gives_other
+    let one = c.given_firmwares_are_one.ensures (Alone Byte) files.fcl other gives.block others
+    gives.firmware gives_other
     a.compiled in
     c.spelled_samples_have_no_fault.ensures gives.block files.trace files.plan gives.samples gives.plan s a.in_range
     a.good_plan (subst (λ (b : Block). sample_refusals b files.trace files.plan s) one.0 refuses.1)

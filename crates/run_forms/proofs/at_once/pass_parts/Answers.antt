@@ -15,7 +15,8 @@ passes g c =
     (λ (s : State). (s.regs.pc ≡ a.m.now.state.regs.pc) × (s.regs.sp ≡ a.m.now.state.regs.sp))
     a.m.now.flags h a.requests.now c.steps_alone-most.result done.result a.st.now c.count_parts.new.st a.m.now.state
     done.new.self.state
-    (λ k s stays. c.goes_on_here.ensures c.if-not-goes_on_here.false k s stays.0 stays.1) c.if-st.false c.if-not-st.false
+    (λ k s stays. c.goes_on_here.ensures c.if-not-goes_on_here.false k s stays.0 stays.1) c.if-st.false
+    c.if-not-st.false
     c.requires.steady c.steps_alone-most.ensures.left c.steps_alone-most.ensures.none done.ensures.most
     done.ensures.steps c.count_parts.ensures
 

@@ -18,9 +18,11 @@ returns-clause-under_way g c =
       first = omega arith;
       behind = omega arith;
       follow = order.follow;
-      rooms = subst (λ (n : ℕ). HaveRoom g.F.SampleForm.fits h.notes h.parts.place 1 n a.plan.now a.rooms.items) (sym all) c.requires.rooms;
+      rooms = subst (λ (n : ℕ). HaveRoom g.F.SampleForm.fits h.notes h.parts.place 1 n a.plan.now a.rooms.items)
+          (sym all) c.requires.rooms;
       rows = omega (arith, len.0, none);
       room = c.requires.room;
-      sample = steady_before g.F.SampleForm.fits h.notes a.none c.fresh_sample-sample.result c.fresh_sample-sample.ensures.counts
+      sample = steady_before g.F.SampleForm.fits h.notes a.none c.fresh_sample-sample.result
+          c.fresh_sample-sample.ensures.counts
           c.requires.empty;
     }

@@ -15,7 +15,8 @@ further g c =
     let n = c.advance.new in
     let q = c.pass_parts.new in
     let rest = c.pass_parts.ensures.rest in
-    passes_on c.args.m.now.flags l.m.flags n.m.flags (g.F.SampleForm.harness c.args.form.now) c.args.plan.now l.p n.p q.st
+    passes_on c.args.m.now.flags l.m.flags n.m.flags (g.F.SampleForm.harness c.args.form.now)
+    c.args.plan.now l.p n.p q.st
     l.m.state n.m.state q.m.state _ rest.0
     l.invariant.flags (c.advance.ensures.flags ∙ l.invariant.flags) (c.advance.ensures.goes c.loop-m-test.true) rest.1
 

@@ -6,7 +6,8 @@ use Rattle.run_forms.proofs.run_state.give_next.Goals as goal
 
 -- the sample that is given, where it begins
 next_there : (g : Over) (c : After-count_of g)
-    → HasNext g.F.SampleForm.fits (g.F.SampleForm.harness c.args.form.now) c.args.plan.now c.args.p.now c.count_of.result c.in-Some.room
+    → HasNext g.F.SampleForm.fits (g.F.SampleForm.harness c.args.form.now) c.args.plan.now c.args.p.now
+    c.count_of.result c.in-Some.room
     c.pop_front.new.self.items c.replace-sample.new.dest
 next_there g c = record {
   under_way = c.requires.under_way;

@@ -1,4 +1,5 @@
-use Rattle.std.proofs.Common.{◌≡◌, ◌∙◌, ◌+◌, ◌≤◌, ◌++◌, ◌∷◌, [], ℕ, List, length, length-drop, drop, ap, sym, subst, arith}
+use Rattle.std.proofs.Common.{◌≡◌, ◌∙◌, ◌+◌, ◌≤◌, ◌++◌, ◌∷◌, [], ℕ, List, length, length-drop, drop, ap, sym, subst}
+use Rattle.std.proofs.Common.{arith}
 use Rattle.std.specs.Prelude.{if◌then◌else◌, is_ok}
 use Rattle.run_forms.specs.Slices.{HasRoom, HaveRoom, requests_first, requests_after}
 use Rattle.run_forms.proofs.PlanSlices.{first_few, after_more, room_more, rest_further, count_there}
@@ -21,13 +22,17 @@ loop-next-preserved g c =
       none_told = r.ensures.told;
       enough = subst (λ (j : ℕ). j ≤ 10000 → g.F.SampleForm.fits r.room j) count r.ensures.fits;
     } in
-    let there : HasRoom g.F.SampleForm.fits h.notes (requests_first place (1 + l.next) (requests_after place 1 l.next plan)) r.room =
-    subst (λ (j : ℕ). HasRoom g.F.SampleForm.fits h.notes (requests_first place j (requests_after place 1 l.next plan)) r.room) (sym order)
-    (subst (λ (rest : List g.row.A.Denot). HasRoom g.F.SampleForm.fits h.notes (requests_first place k rest) r.room) l.invariant.rest room) in
+    let there : HasRoom g.F.SampleForm.fits h.notes
+    (requests_first place (1 + l.next) (requests_after place 1 l.next plan)) r.room =
+    subst (λ (j : ℕ). HasRoom g.F.SampleForm.fits h.notes
+    (requests_first place j (requests_after place 1 l.next plan)) r.room) (sym order)
+    (subst (λ (rest : List g.row.A.Denot). HasRoom g.F.SampleForm.fits h.notes (requests_first place k rest) r.room)
+    l.invariant.rest room) in
     let items = c.push_back.ensures.items
     ∙ ap (λ o. if is_ok o then l.rooms.items ++ r.room ∷ [] else l.rooms.items) c.in-Ok-push_back.is in
     record {
-      rooms = subst (λ (rooms : List g.row.U.Denot). HaveRoom g.F.SampleForm.fits h.notes place 1 k plan rooms) (sym items)
+      rooms = subst (λ (rooms : List g.row.U.Denot). HaveRoom g.F.SampleForm.fits h.notes place 1 k
+          plan rooms) (sym items)
           (room_more g.F.SampleForm.fits h.notes place 1 l.next plan l.rooms.items r.room l.invariant.rooms there);
       rest = rest_further place k l.first n plan count
           ∙ ap (λ (rest : List g.row.A.Denot). drop (length (requests_first place k rest)) rest) l.invariant.rest

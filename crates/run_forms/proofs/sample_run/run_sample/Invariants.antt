@@ -15,4 +15,5 @@ invariant-loop-m g l = record {
 }
 
 abbrev pub decreases-loop-m : goal.decreases-loop-m
-decreases-loop-m g l = length (after_takes l.fn.m.flags (g.F.SampleForm.harness l.form) l.requests l.st l.m.state).states
+decreases-loop-m g l = length (after_takes l.fn.m.flags (g.F.SampleForm.harness l.form) l.requests l.st
+    l.m.state).states

@@ -47,7 +47,8 @@ loop-place-preserved c =
     (λ x. IsRaised b y (place + 1) x w.parts (slice_index raised place) new)) same c.in-Ok.ensures.raised in
     record {
       count = omega (arith, length-set raised place new, count);
-      done = raised_next b w.parts w.first place box c.args.so_far raised new few i.done (i.rest place (omega arith)) one;
+      done = raised_next b w.parts w.first place box c.args.so_far raised new few i.done
+          (i.rest place (omega arith)) one;
       rest = λ k l. set_beside raised place k new (inr (omega arith)) ∙ i.rest k (omega arith);
       small = small_next w.limit place new raised few i.small c.in-Ok.ensures.within;
     }

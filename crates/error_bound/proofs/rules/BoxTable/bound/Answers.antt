@@ -39,7 +39,8 @@ returns c =
     let x = c.output_of-output in
     let some = c.if-leaf-eq0.false in
     record {
-      holds = Holds-strong c.args.block.now c.args.out c.args.leaf.now c.requires.pair some c.args.self.now.bytes.0.items
+      holds = Holds-strong c.args.block.now c.args.out c.args.leaf.now c.requires.pair some
+          c.args.self.now.bytes.0.items
           c.end_of_rule-low.result c.end_of_rule-low.ensures c.in_default.ensures.low c.in_default.ensures.byte_low;
       bound = IsBound-strong c.args.block.now c.args.self.now c.args.out x.result.now c.args.parts c.args.leaf.now
           c.strong_bound.result c.requires.block c.requires.table x.ensures.found c.sum_of_errors-sum.result some

@@ -41,7 +41,8 @@ loop-n-preserved-then-concludes_some c =
           (before.small t few);
     }
 
-not_concluded : (r : Rule) (o t : ℕ) → concludes_some r o ≡ false → (e n : ℕ) → n ≡ (if concludes r o t then max e n else n)
+not_concluded : (r : Rule) (o t : ℕ) → concludes_some r o ≡ false → (e n : ℕ) → n
+    ≡ (if concludes r o t then max e n else n)
 not_concluded r o t none e n = by_test (concludes r o t) refl
   where
     by_test : (p : Bool) → concludes r o t ≡ p → n ≡ (if p then max e n else n)

@@ -97,7 +97,8 @@ loop-n-preserved c =
           c.loop-n.byte_lows here (λ one. sym (none one).byte_low) before.byte_lows;
       byte_highs = AreGreatest-skipped (λ q. (rule_byte_span b box q).high) 255 c.args.out r.0 rest (drop j rules)
           c.loop-n.byte_highs here (λ one. sym (none one).byte_high) before.byte_highs;
-      errors = AreGreatest-skipped (moving_error b box (term_errors b box)) 3000000000 c.args.out r.0 rest (drop j rules)
+      errors = AreGreatest-skipped (moving_error b box (term_errors b box)) 3000000000 c.args.out r.0 rest
+          (drop j rules)
           c.loop-n.errors here (λ one. sym (none one).error) before.errors;
     }
 

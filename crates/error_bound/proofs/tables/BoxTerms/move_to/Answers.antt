@@ -28,7 +28,8 @@ loop-i-preserved c =
     slice_get-get_or_slice c.deref.result.now wanted i none c.deref.ensures.0 (omega arith) in
     elim c.if-not-is_same.branch [
       | then-not-is_same w ↦
-          let items : new.bytes.0.items ≡ slice_set olds i to = ap (λ (t : BoxTerms). t.bytes.0.items) w.self-is ∙ w.set_interval.ensures in
+          let items : new.bytes.0.items ≡ slice_set olds i to =
+          ap (λ (t : BoxTerms). t.bytes.0.items) w.self-is ∙ w.set_interval.ensures in
           let rows : new.rows ≡ slice_set old.rows i w.row_in.result = ap (λ (t : BoxTerms). t.rows) w.self-is in
           let x = w.index-inputs-i.result in
           record {

@@ -16,7 +16,8 @@ returns c =
       posted = posts_run c.answers_keep_the_bound.ensures c.spelled_bytes_fit.ensures c.posted_answers_are_near.ensures
           c.last_is_answered.ensures c.args.self.flags c.args.files.now a.compiled.block a.compiled.firmware
           a.errors.items a.samples.items a.posts c.in_ok-accepted.ensures.accepted answers frames run.resumed
-          (rw c.deref.ensures.value at c.in_ok-told.ensures.answers) (rw c.deref.ensures.value at c.in_ok-told.ensures.frames)
+          (rw c.deref.ensures.value at c.in_ok-told.ensures.answers)
+          (rw c.deref.ensures.value at c.in_ok-told.ensures.frames)
           (rw c.deref.ensures.value at c.in_ok-told.ensures.resumed)
           (rw c.deref.ensures.value at c.in_ok-told.ensures.by_turns);
       output_is = ap only_lines (c.in_ok-lines.ensures ∙ ap lines_of c.deref-2.ensures.value);

@@ -16,7 +16,8 @@ returns c =
       watched = watches c.faultless_answers_are_near.ensures c.spelled_bytes_fit.ensures c.args.self.flags
           c.args.files.now a.compiled.block a.compiled.firmware a.inputs.errors.items a.inputs.samples.items
           c.deref.result.now a.inputs.plan a.upsets (map row_seen c.in_ok-rows.rows.items)
-          c.in_ok-accepted.ensures.accepted c.deref.ensures.value c.in_ok-rows.ensures.rows c.in_ok-rows.ensures.answers;
+          c.in_ok-accepted.ensures.accepted c.deref.ensures.value c.in_ok-rows.ensures.rows
+          c.in_ok-rows.ensures.answers;
       output_is = ap only_lines (c.in_ok-lines.ensures ∙ ap₂ lines_of c.deref-2.ensures.value c.deref-3.ensures.value
           ∙ ap (λ ls. begun_lines a.inputs.errors.items bound ++ ls) (sym each));
     }

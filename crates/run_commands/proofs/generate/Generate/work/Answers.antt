@@ -17,7 +17,8 @@ compiled-requires-clause-limits c =
 
 -- where halving stops at the block, it stops at the one that is drawn
 stopped : (number : ℕ) (block : Block) → block ≡ drawn_block (draw number 0 5) → (s : Status)
-    → IsRefusal (target_refusals Named Byte generated_target block) s → IsFaultOf (GenerateMakes (generate_with number)) s
+    → IsRefusal (target_refusals Named Byte generated_target block) s
+    → IsFaultOf (GenerateMakes (generate_with number)) s
 stopped number block same status.Memory r = tt
 stopped number block same (status.NotReached stop) r =
     (r.0, subst (λ (b : Block). StopsHalving Named Byte generated_target b stop) same r.1)

@@ -13,7 +13,8 @@ returns c =
       certified = certifies c.answers_are_reported.ensures c.args.self c.args.files.now
           a.compiled.block a.compiled.firmware a.inputs.errors.items a.inputs.samples.items c.deref.result.now
           a.inputs.plan
-          (map row_seen c.in_ok-rows.rows.items) c.left_in.result c.in_ok-accepted.ensures.accepted c.deref.ensures.value
+          (map row_seen c.in_ok-rows.rows.items) c.left_in.result c.in_ok-accepted.ensures.accepted
+          c.deref.ensures.value
           c.in_ok-rows.ensures.answers (c.left_in.ensures ∙ ap left_of c.in_ok-rows.ensures.memory);
       output_is = ap only_lines (c.in_ok-lines.ensures ∙ ap₂ lines_of c.deref-2.ensures.value c.deref-3.ensures.value);
     }
