@@ -2,7 +2,7 @@
 use Rattle.std.proofs.Common.{◌≡◌, ◌≤◌, ◌+◌, ◌∙◌, ℕ, zero, suc, List, [], ◌∷◌, ◌++◌, length, arith, refl, sym, ap}
 use Rattle.std.proofs.Common.{subst, inl, inr, ⊎_elim}
 use Rattle.cpu12_asm.specs.Bytes.{placed}
-use Rattle.srecord.specs.Images.{AreCut, ImageText, IsPiece, Piece, StartsAt, data_text, next, none}
+use Rattle.srecord.specs.Images.{AreCut, IsPiece, Piece, StartsAt, data_text, next, none}
 use Rattle.srecord.specs.{Laws.ImageTextsAreOne, Lines.record_text}
 use Rattle.std.specs.Prelude.{◌⊎◌, codes}
 

@@ -1,11 +1,10 @@
 -- Bytes of memory have a text.
-use Rattle.std.proofs.Common.{◌≡◌, ◌≢◌, ◌≤◌, ◌<◌, ◌+◌, ◌^◌, ◌∙◌, ℕ, suc, List, [], ◌∷◌, ◌++◌, length, Some, arith}
-use Rattle.std.proofs.Common.{refl, sym, ap, subst, inl, inr, append_assoc, length-append}
-use Rattle.std.specs.Prelude.{◌⊎◌, codes}
+use Rattle.std.proofs.Common.{◌≡◌, ◌≢◌, ◌≤◌, ◌<◌, ◌+◌, ◌^◌, ℕ, List, [], ◌∷◌, ◌++◌, length, Some, arith, refl, ap, subst, inl, inr, length-append}
+use Rattle.std.specs.Prelude.{◌⊎◌}
 use Rattle.std.proofs.lemmas.Bool.{cases_eq, cases_lt}
 use Rattle.std.proofs.lemmas.Bool.Decides.{nat_tests}
 use Rattle.cpu12_asm.specs.Bytes.{byte_at, placed}
-use Rattle.srecord.specs.Images.{AreCut, IsPiece, Piece, StartsAt, next, none}
+use Rattle.srecord.specs.Images.{AreCut, Piece, StartsAt, next, none}
 use Rattle.srecord.specs.Laws.{AreMemoryBytes, ImagesHaveTexts}
 use Rattle.srecord.proofs.{WrittenBytes.RiseFrom, WrittenBytes.none_below, WrittenBytes.rise}
 use Rattle.srecord.proofs.WrittenLines.{AreBytes, are_bytes_with, bytes_at}

@@ -1,12 +1,10 @@
 -- Each number draws a workload.
-use Rattle.std.proofs.Common.{arith, ◌≡◌, ◌≤◌, ◌<◌, ◌+◌, ◌*◌, ◌∙◌, ℕ, zero, suc, List, [], ◌∷◌, ◌++◌, length, map}
-use Rattle.std.proofs.Common.{refl, ap}
+use Rattle.std.proofs.Common.{arith, ◌≡◌, ◌≤◌, ◌+◌, ◌*◌, ◌∙◌, ℕ, zero, suc, List, [], ◌∷◌, ◌++◌, map, refl, ap}
 use Rattle.std.specs.List.{range_with_len}
-use Rattle.arrayvec.specs.ArrayVec.{ArrayVec}
 use Rattle.byte_scaling.specs.Cells.{bytes_of}
 use Rattle.csv.specs.Writing.{default_writer, row_text}
 use Rattle.fz_num.specs.declared.dec.Dec.{Dec}
-use Rattle.interrupt_plan.specs.{Plans.SpellsRequest, declared.Request.Request}
+use Rattle.interrupt_plan.specs.{Plans.SpellsRequest}
 use Rattle.trace_io.specs.{Traces.SpellsSample, declared.sample.Sample.Sample}
 use Rattle.workload.specs.{Draws.draw, Laws.DrawnTextsSpellBlocks, Laws.NumbersHaveWorkloads, Texts.fcl_text}
 use Rattle.workload.specs.{Texts.request_fields, Texts.sample_fields, Workloads.drawn_request, Workloads.drawn_values}
