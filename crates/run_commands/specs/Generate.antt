@@ -15,7 +15,8 @@ use Rattle.fz_status.specs.{Refusals.Refusals, Refusals.Refuses, Words.Text, Wor
 use Rattle.fz_status.specs.declared.status.Status.{Status}
 use Rattle.fz_status.specs.declared.status.Status.TheVariants as status
 use Rattle.run_reports.specs.Reports.{IsReportOf, Report}
-use Rattle.command_parts.specs.{Certs.StopsHalving, Firmwares.GivesFirmware, Words.number_up_to, Lines.line}
+use Rattle.command_parts.specs.{Certs.StopsHalving, Firmwares.GivesFirmware, Firmwares.IsOfForm, Lines.line}
+use Rattle.command_parts.specs.{Words.number_up_to}
 use Rattle.command_parts.specs.{declared.firmware.Form.TheVariants.Alone}
 use Rattle.command_parts.specs.SeenOutputs.{HasOutput, SeenOutput, only_lines}
 use Rattle.command_parts.specs.Lines.{error_lines}
@@ -89,19 +90,14 @@ abbrev pub GenerateMakes : Generate → Result SeenOutput Status → Type 0
 GenerateMakes generate (Ok output) = GenerateGives generate.number output
 GenerateMakes generate (Err s) = Refuses (generate_refusals generate.number) s
 
--- The texts spell what the number draws, the block has this firmware, and halving it ends with this certificate.
-pub record AcceptsNumber (number : ℕ) (block : Block) (firmware : Firmware) (samples : List Sample)
-    (requests : List Request) (cert : Cert) : Type 0 where
-  pub text : List ℕ
-  pub trace : List ℕ
-  pub plan : List ℕ
-  pub workload : IsWorkload number text trace plan block samples requests
-  pub gives : GivesFirmware (Alone Byte) text block firmware
+-- The block that is drawn has this firmware, and halving it ends with this certificate.
+pub record AcceptsBlock (block : Block) (firmware : Firmware) (cert : Cert) : Type 0 where
+  pub compiled : IsOfForm (Alone Byte) block firmware
   pub halving : IsHalving Named block (parts Byte) generated_target cert
 
 abbrev pub GenerateAccepts : Generate → Type 0
-GenerateAccepts generate = (block : Block) × (firmware : Firmware) × (samples : List Sample)
-    × (requests : List Request) × (cert : Cert) × AcceptsNumber generate.number block firmware samples requests cert
+GenerateAccepts generate = (firmware : Firmware) × (cert : Cert)
+    × AcceptsBlock (drawn_block (draw generate.number 0 5)) firmware cert
 
 -- a number that is accepted makes an output
 abbrev pub AcceptedNumbersMakeOutput : Type 0

@@ -28,7 +28,7 @@ use fz_status::{Status, word};
 use rule_layout::{LayoutFault, limits_have_no_fault};
 use run_reports::laws::answers_are_reported;
 use std::alloc::{AllocError, Global};
-use workload::{drawn_blocks_are_within_limits, workloads_are_one};
+use workload::{drawn_blocks_are_within_limits, numbers_have_workloads, workloads_are_one};
 
 /// `gen NUMBER`.
 #[derive(Clone, Copy, Debug, PartialEq, Eq)]
@@ -166,7 +166,9 @@ pub fn accepted_numbers_make_output()
     ensures { AcceptedNumbersMakeOutput }
 {
     answers_are_reported();
-    answers_under_plans()
+    answers_under_plans();
+    numbers_have_workloads();
+    drawn_blocks_are_within_limits()
 }
 
 /// A number makes at most one output.
