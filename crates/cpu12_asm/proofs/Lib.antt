@@ -15,3 +15,4 @@ pub mod Labelling
 pub mod Standing
 pub mod Shapes
 pub mod Ascending
+pub mod SourceBytes

@@ -1,6 +1,6 @@
 //! Laws of the definitions.
 ghost use Rattle.cpu12_asm.specs.Labels.{EquatesAreValues, LabelsArePlaces, LinesStand};
-ghost use Rattle.cpu12_asm.specs.Laws.{AscendingBytesAreOne, SourcesHaveOneFault};
+ghost use Rattle.cpu12_asm.specs.Laws.{AscendingBytesAreOne, SourcesGiveBytes, SourcesHaveOneFault};
 ghost use Rattle.cpu12_asm.specs.Rising.{RisesBehindFirst, EndsInMemory, RisesBehindPart};
 
 /// A label has the place of its line, at which the line's bytes stand in the image, and the name of an `EQU` the
@@ -26,4 +26,9 @@ pub fn rising_items()
 /// Bytes whose addresses ascend are one list where each address has the same byte or none.
 pub fn ascending_bytes_are_one()
     ensures { AscendingBytesAreOne }
+{}
+
+/// What a source gives are bytes.
+pub fn sources_give_bytes()
+    ensures { SourcesGiveBytes }
 {}

@@ -22,5 +22,8 @@ mod values;
 
 pub use image::{ByteMap, Image};
 pub use items::{AsmFault, Item, assemble_items};
-pub use laws::{ascending_bytes_are_one, labels_are_places, rising_items, sources_have_one_fault};
+pub use laws::{
+    ascending_bytes_are_one, labels_are_places, rising_items, sources_give_bytes,
+    sources_have_one_fault,
+};
 pub use sources::assemble;
