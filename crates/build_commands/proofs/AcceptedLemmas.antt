@@ -1,5 +1,6 @@
 -- Contents that are accepted make an output.
 use Rattle.std.proofs.Common.{ℕ, List, refl}
+use Rattle.cpu12_asm.specs.Laws.{SourcesGiveBytes}
 use Rattle.error_certifier.specs.Laws.{HalvingsAreWithinTheirTarget}
 use Rattle.srecord.specs.Laws.{ImagesHaveTexts}
 use Rattle.two_level_code.specs.Standing.{TwoStandBeside}
@@ -8,12 +9,14 @@ use Rattle.build_commands.specs.{declared.certify.Certify.Certify, declared.comp
 use Rattle.build_commands.specs.Certify.{CertifyAccepts, CertifyMakes}
 use Rattle.build_commands.specs.Compile.{CompileAccepts, CompileMakes}
 use Rattle.build_commands.specs.Lcompile.{LcompileAccepts, LcompileMakes}
-use Rattle.build_commands.proofs.RecordLemmas.{RecordLaws, firmware_records, has_records, image_records}
+use Rattle.build_commands.proofs.RecordLemmas.{RecordLaws, firmware_records, has_records, image_records, source_bytes}
 use Rattle.command_parts.specs.SeenOutputs.{HasOutput}
 
-asm_made : ImagesHaveTexts → (source : List ℕ) → AsmAccepts source → HasOutput (AsmMakes source)
-asm_made texts source (image, a) =
-    let records = has_records texts image a.ascending a.start a.bytes in (
+asm_made : ImagesHaveTexts → SourcesGiveBytes → (source : List ℕ) → AsmAccepts source → HasOutput (AsmMakes source)
+asm_made texts gives source (image, a) =
+    let given = a.assembles.given in
+    let bytes = source_bytes image.bytes given.bytes a.assembles.holds (gives source given a.assembles.assembled) in
+    let records = has_records texts image a.ascending a.start bytes in (
       _,
       record {
         image = image;
@@ -74,7 +77,7 @@ lcompile_made laws beside slow fast (slow_block, fast_block, two, gives) =
 
 pub accepted_made : RecordLaws → TwoStandBeside → HalvingsAreWithinTheirTarget → AcceptedContentsMakeOutput
 accepted_made laws beside halvings = record {
-  asm = asm_made laws.texts;
+  asm = asm_made laws.texts laws.sources;
   certify = certify_made halvings;
   check = λ check text cert a. (
     _,

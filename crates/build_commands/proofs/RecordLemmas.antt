@@ -4,11 +4,12 @@ use Rattle.std.proofs.Common.{ap, subst}
 use Rattle.std.specs.{BTreeMap.is_at, Prelude.IfSome, Prelude.slice_index}
 use Rattle.std.proofs.lemmas.Bool.{cond_both}
 use Rattle.std.proofs.lemmas.Bool.Decides.{nat_tests}
+use Rattle.std.proofs.lemmas.List.Elements.{All-head, All-tail}
 use Rattle.fuzzy_meaning.specs.{Blocks.IsValid, declared.block.Block.Block}
 use Rattle.rule_layout.specs.Layouts.{IsWithinLimits}
 use Rattle.cpu12_isa.specs.Fits.{AreBytes}
 use Rattle.cpu12_asm.specs.Bytes.{FitsMemory, Holds, IsAscending, byte_at, start_of, word_or_zero}
-use Rattle.cpu12_asm.specs.Items.{given_by}
+use Rattle.cpu12_asm.specs.{Items.given_by, Laws.GiveBytes, Laws.SourcesGiveBytes}
 use Rattle.cpu12_asm.specs.declared.{image.Image.Image, items.Item.Item}
 use Rattle.cpu12_emul.specs.Image.{HoldsImage, byte_or_zero, image_memory}
 use Rattle.alone_code.specs.{Images.IsImageOf, Standing.FirmwareIsBytes, Standing.MailboxIsBytes}
@@ -40,6 +41,20 @@ memory_fits holds bytes given h are at byte has =
     let there : slice_index (image_memory bytes) at ≡ byte = (holds bytes).1 at lt ∙ ap byte_or_zero has in
     (lt, omega (arith, are at, there))
 
+byte_given : (given : List (ℕ × ℕ)) (at : ℕ) → GiveBytes given → IfSome (byte_at given at) (λ byte. byte < 2 ^ 8)
+byte_given [] at bytes = tt
+byte_given (b ∷ given) at bytes =
+    cond_both (is_at (nat_cmp at) b.0) (Some b.1) (byte_at given at) (λ o. IfSome o (λ byte. byte < 2 ^ 8))
+    (λ is. All-head (λ (p : ℕ × ℕ). p.1 < 2 ^ 8) b given bytes)
+    (λ is. byte_given given at (All-tail (λ (p : ℕ × ℕ). p.1 < 2 ^ 8) b given bytes))
+
+pub source_bytes : (bytes given : List (ℕ × ℕ)) → Holds bytes given → GiveBytes given → AreMemoryBytes bytes
+source_bytes bytes given h are at byte has =
+    let there : byte_at given at ≡ Some byte = sym (h.bytes at) ∙ has in (
+      subst (λ (o : Option ℕ). IfSome o (λ v. at < 2 ^ 16)) there (at_address given at h.fits),
+      subst (λ (o : Option ℕ). IfSome o (λ v. v < 2 ^ 8)) there (byte_given given at are),
+    )
+
 start_fits : (bytes : List (ℕ × ℕ)) → AreMemoryBytes bytes → start_of bytes < 2 ^ 16
 start_fits bytes are =
     word (byte_at bytes 65534) (byte_at bytes 65535) (λ v is. (are 65534 v is).1) (λ v is. (are 65535 v is).1)
@@ -62,9 +77,10 @@ pub image_records : ImagesHaveTexts → HoldsImage → (items : List Item) (imag
 image_records texts holds items image is are =
     has_records texts image is.ascending is.start (memory_fits holds image.bytes (given_by items) is.bytes are)
 
--- what images of firmware rest on
+-- what images rest on
 pub record RecordLaws : Type 0 where
   pub texts : ImagesHaveTexts
+  pub sources : SourcesGiveBytes
   pub holds : HoldsImage
   pub alone : FirmwareIsBytes
   pub mailbox : MailboxIsBytes

@@ -5,7 +5,6 @@ use Rattle.cpu12_asm.specs.{Bytes.IsAscending, Bytes.start_of, Sources.Assembles
 use Rattle.cpu12_asm.specs.declared.image.Image.{Image}
 use Rattle.command_parts.specs.{SeenOutputs.SeenOutput, Lines.line}
 use Rattle.build_commands.specs.Written.{WritesImage}
-use Rattle.srecord.specs.Laws.{AreMemoryBytes}
 use Rattle.fz_status.specs.{Refusals.Refusals, Refusals.Refuses, declared.status.Status.Status}
 use Rattle.fz_status.specs.declared.status.Status.TheVariants as status
 
@@ -30,12 +29,11 @@ abbrev pub AsmMakes : List ℕ → Result SeenOutput Status → Type 0
 AsmMakes source (Ok output) = AsmGives source output
 AsmMakes source (Err s) = Refuses (source_refusals source) s
 
--- the source gives this image, which is one of bytes
+-- the source gives this image
 pub record AcceptsSource (source : List ℕ) (image : Image) : Type 0 where
   pub assembles : Assembles source image.bytes
   pub ascending : IsAscending image.bytes
   pub start : image.start ≡ start_of image.bytes
-  pub bytes : AreMemoryBytes image.bytes
 
 abbrev pub AsmAccepts : List ℕ → Type 0
 AsmAccepts source = (image : Image) × AcceptsSource source image

@@ -7,7 +7,7 @@ use crate::exec::exec_outputs_are_one;
 use alone_code::firmware_is_bytes;
 use command_parts::firmware::given_firmwares_are_one;
 use command_parts::twos::given_twos_are_one;
-use cpu12_asm::ascending_bytes_are_one;
+use cpu12_asm::{ascending_bytes_are_one, sources_give_bytes};
 use cpu12_emul::laws::holds_image;
 use error_certifier::halvings_are_within_their_target;
 use handler_check::laws::answers_are_one;
@@ -20,6 +20,7 @@ pub fn accepted_contents_make_output()
     ensures { AcceptedContentsMakeOutput }
 {
     images_have_texts();
+    sources_give_bytes();
     holds_image();
     firmware_is_bytes();
     watched_is_bytes();

@@ -6,6 +6,7 @@ returns c =
     accepted_made
     (record {
       texts = c.images_have_texts.ensures;
+      sources = c.sources_give_bytes.ensures;
       holds = c.holds_image.ensures;
       alone = c.firmware_is_bytes.ensures.alone;
       mailbox = c.firmware_is_bytes.ensures.mailbox;
