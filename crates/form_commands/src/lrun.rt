@@ -25,9 +25,7 @@ use command_parts::twos::{CompiledTwo, given_twos_are_one, two_of};
 use command_parts::words::flags;
 use fuzzy_meaning::Block;
 use fz_status::{Status, word};
-use interrupt_plan::{
-    Levels, PlanFault, read_levels, spelled_entries_are_one, spelled_levels_have_no_fault,
-};
+use interrupt_plan::{Levels, read_levels, spelled_entries_are_one, spelled_levels_have_no_fault};
 use run_reports::files::LevelFiles;
 use run_reports::inputs::samples_of;
 use run_reports::laws::{
@@ -206,11 +204,7 @@ fn levels_of(alloc: Global, text: &Content, fast: &[Sample]) -> Result<Levels, S
     ensures levels { IfOk result (SpellsLevels (length fast.now) text.now) }
     ensures fault { IfErr result (IsRefusal (levels_refusals (length fast.now) text.now)) }
 {
-    match read_levels(alloc, text.bytes(), fast.len() as u32) {
-        Ok(levels) => Ok(levels),
-        Err(PlanFault::Memory) => Err(Status::Memory),
-        Err(fault) => Err(Status::Plan(fault)),
-    }
+    Ok(read_levels(alloc, text.bytes(), fast.len() as u32)?)
 }
 
 /// Files that make an output make no fault.

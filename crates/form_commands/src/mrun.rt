@@ -23,9 +23,7 @@ use command_parts::images::{given_images_have_no_fault, require_image};
 use command_parts::output::Output;
 use command_parts::words::flags;
 use fz_status::{Status, word};
-use interrupt_plan::{
-    PlanFault, Posts, read_posts, spelled_entries_are_one, spelled_posts_have_no_fault,
-};
+use interrupt_plan::{Posts, read_posts, spelled_entries_are_one, spelled_posts_have_no_fault};
 use mailbox_runs::{last_is_answered, posts_are_answered, run_posts};
 use run_reports::files::PostedFiles;
 use run_reports::inputs::samples_of;
@@ -135,11 +133,7 @@ fn posts_of(alloc: Global, text: &Content, samples: &[Sample]) -> Result<Posts, 
     ensures posts { IfOk result (SpellsPosts (length samples.now) text.now) }
     ensures fault { IfErr result (IsRefusal (posts_refusals (length samples.now) text.now)) }
 {
-    match read_posts(alloc, text.bytes(), samples.len() as u32) {
-        Ok(posts) => Ok(posts),
-        Err(PlanFault::Memory) => Err(Status::Memory),
-        Err(fault) => Err(Status::Plan(fault)),
-    }
+    Ok(read_posts(alloc, text.bytes(), samples.len() as u32)?)
 }
 
 /// Files that make an output make no fault.

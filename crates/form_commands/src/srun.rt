@@ -26,9 +26,7 @@ use command_parts::words::flags;
 use cpu12_asm::Image;
 use fz_shelf::Line;
 use fz_status::{Status, word};
-use interrupt_plan::{
-    UpsetFault, Upsets, read_upsets, spelled_entries_are_one, spelled_upsets_have_no_fault,
-};
+use interrupt_plan::{Upsets, read_upsets, spelled_entries_are_one, spelled_upsets_have_no_fault};
 use run_reports::files::{InputFiles, WatchedFiles};
 use run_reports::inputs::{Inputs, inputs_of};
 use run_reports::laws::{accepted_inputs_have_no_fault, spelled_bytes_fit, spelled_inputs_are_one};
@@ -134,11 +132,7 @@ fn upsets_of(alloc: Global, text: &Content, image: &Image) -> Result<Upsets, Sta
     ensures upsets { IfOk result (SpellsUpsets image.now.bytes text.now) }
     ensures fault { IfErr result (IsRefusal (upset_refusals image.now.bytes text.now)) }
 {
-    match read_upsets(alloc, text.bytes(), image) {
-        Ok(upsets) => Ok(upsets),
-        Err(UpsetFault::Memory) => Err(Status::Memory),
-        Err(fault) => Err(Status::Upset(fault)),
-    }
+    Ok(read_upsets(alloc, text.bytes(), image)?)
 }
 
 /// The errors, the bound on instructions, and each sample with its frames.

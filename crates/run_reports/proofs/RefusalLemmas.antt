@@ -4,26 +4,15 @@ use Rattle.fuzzy_meaning.specs.declared.block.Block.{Block}
 use Rattle.box_tree.specs.declared.cert.CertKind.{CertKind}
 use Rattle.byte_scaling.specs.declared.width.Width.{Width}
 use Rattle.interrupt_plan.specs.OneReading.{SpelledPlansHaveNoFault}
-use Rattle.trace_io.specs.{OneReading.SpelledTracesHaveNoFault, Traces.Spells as SpellsTrace}
-use Rattle.trace_io.specs.declared.sample.Sample.{Sample}
+use Rattle.trace_io.specs.OneReading.{SpelledTracesHaveNoFault}
 use Rattle.command_parts.specs.Certs.{AcceptedCertsHaveNoFault, AcceptsCert, cert_refusals}
-use Rattle.run_reports.specs.Inputs.{input_refusals, plan_refusals, sample_refusals, trace_refusals}
+use Rattle.run_reports.specs.Inputs.{input_refusals, sample_refusals}
 use Rattle.run_reports.specs.Laws.{AcceptedInputsHaveNoFault, SpelledSamplesHaveNoFault}
 use Rattle.run_reports.specs.declared.files.InputFiles.{InputFiles}
 use Rattle.fz_status.specs.declared.status.Status.{Status}
 use Rattle.fz_status.specs.declared.status.Status.TheVariants as status
 
--- ---- what refuses one file
-
-module _ (block : Block) (trace plan : List ℕ) where
-  pub by_trace : (s : Status) → trace_refusals block trace s → sample_refusals block trace plan s
-  by_trace (status.Trace f) r = r
-  by_trace s r = absurd r
-
-  pub by_plan : (samples : List Sample) → SpellsTrace block.inputs trace samples → (s : Status) → plan_refusals plan s
-      → sample_refusals block trace plan s
-  by_plan samples spells (status.Plan f) r = (samples, spells, r)
-  by_plan samples spells s r = absurd r
+-- ---- what refuses one file, or those behind it
 
 module _ (block : Block) (files : InputFiles) (kind : CertKind) (width : Width) where
   pub by_cert : (s : Status) → cert_refusals kind width block files.cert s → input_refusals kind width block files s

@@ -23,10 +23,6 @@ abbrev pub trace_refusals : Block → List ℕ → Refusals
 trace_refusals block text (status.Trace f) = TraceHasFault block.inputs text f
 trace_refusals block text s = ⊥
 
-abbrev pub plan_refusals : List ℕ → Refusals
-plan_refusals text (status.Plan f) = PlanHasFault text f
-plan_refusals text s = ⊥
-
 -- why a trace is refused, and why a plan is, the trace spelling samples beside
 abbrev pub sample_refusals : Block → List ℕ → List ℕ → Refusals
 sample_refusals block trace plan (status.Trace f) = TraceHasFault block.inputs trace f

@@ -4,8 +4,7 @@ ghost use Rattle.fuzzy_meaning.specs.Blocks.{IsValid};
 ghost use Rattle.interrupt_plan.specs.Plans.{Spells as SpellsPlan};
 ghost use Rattle.trace_io.specs.Traces.{Spells};
 ghost use Rattle.fz_status.specs.Refusals.{IsRefusal};
-ghost use Rattle.run_reports.specs.Inputs.{AcceptsInputs, input_refusals, plan_refusals, sample_refusals};
-ghost use Rattle.run_reports.specs.Inputs.{trace_refusals};
+ghost use Rattle.run_reports.specs.Inputs.{AcceptsInputs, input_refusals, sample_refusals, trace_refusals};
 
 use crate::files::InputFiles;
 use box_tree::CertKind;
@@ -14,9 +13,9 @@ use command_parts::certs::errors_under;
 use command_parts::contents::Content;
 use fuzzy_meaning::Block;
 use fz_status::Status;
-use interrupt_plan::{Plan, PlanFault, read_plan};
+use interrupt_plan::{Plan, read_plan};
 use std::alloc::Global;
-use trace_io::{Sample, TraceFault, read_trace};
+use trace_io::{Sample, read_trace};
 
 /// What a certificate, a trace and a plan give, where all three are accepted.
 #[derive(Drop)]
@@ -63,8 +62,8 @@ pub fn samples_and_plan(
     ensures plan { IfOk result (λ r. SpellsPlan plan.now r.1) }
     ensures fault { IfErr result (IsRefusal (sample_refusals block.now trace.now plan.now)) }
 {
-    let samples = samples_of(alloc, block, trace)?;
-    let plan = plan_of(alloc, plan)?;
+    let samples = read_trace(alloc, trace.bytes(), block)?;
+    let plan = read_plan(alloc, plan.bytes())?;
     Ok((samples, plan))
 }
 
@@ -74,21 +73,5 @@ pub fn samples_of(alloc: Global, block: &Block, text: &Content) -> Result<Vec<Sa
     ensures samples { IfOk result (λ samples. Spells block.now.inputs text.now samples.items) }
     ensures fault { IfErr result (IsRefusal (trace_refusals block.now text.now)) }
 {
-    match read_trace(alloc, text.bytes(), block) {
-        Ok(samples) => Ok(samples),
-        Err(TraceFault::Memory) => Err(Status::Memory),
-        Err(fault) => Err(Status::Trace(fault)),
-    }
-}
-
-/// The plan that a text spells.
-fn plan_of(alloc: Global, text: &Content) -> Result<Plan, Status>
-    ensures plan { IfOk result (SpellsPlan text.now) }
-    ensures fault { IfErr result (IsRefusal (plan_refusals text.now)) }
-{
-    match read_plan(alloc, text.bytes()) {
-        Ok(plan) => Ok(plan),
-        Err(PlanFault::Memory) => Err(Status::Memory),
-        Err(fault) => Err(Status::Plan(fault)),
-    }
+    Ok(read_trace(alloc, text.bytes(), block)?)
 }
