@@ -8,7 +8,9 @@ use Rattle.std.specs.{Prelude.length}
 use Rattle.fuzzy_meaning.specs.{Blocks.IsValid}
 use Rattle.handled_runs.specs.{Answering.HandlersRunAlike}
 use Rattle.command_parts.specs.{Certs.AcceptedErrorsAreOne, SeenOutputs.OutputsAreOne, Twos.GivenTwosAreOne}
-use Rattle.run_reports.specs.{Laws.SpelledInputsAreOne}
+use Rattle.run_reports.specs.{Inputs.AcceptsInputs, Laws.SpelledInputsAreOne}
+use Rattle.run_reports.specs.declared.files.InputFiles.{InputFiles}
+use Rattle.interrupt_plan.specs.declared.Request.{Request}
 use Rattle.form_commands.specs.{Hrun.HrunMakes, Hrun.hrun_lines, Lrun.LrunMakes, Mrun.MrunMakes, Srun.SrunMakes}
 use Rattle.form_commands.specs.{Srun.srun_lines}
 use Rattle.eval_code.specs.Bounds.{instruction_bound}
@@ -33,6 +35,17 @@ module _ (accepted : AcceptedErrorsAreOne) (inputs : SpelledInputsAreOne) where
       inputs.samples block.inputs trace samples those a
       (subst (λ (c : Block). SpellsTrace c.inputs trace those) (sym same) b)
 
+  inputs_once : (block other : Block) (files : InputFiles) (errors others : List ℕ) (samples those : List Sample)
+      (plan plans : List Request) → block ≡ other → IsValid block
+      → AcceptsInputs Named Byte block files errors samples plan
+      → AcceptsInputs Named Byte other files others those plans
+      → (errors ≡ others) × (map input_bytes samples ≡ map input_bytes those) × (plan ≡ plans)
+  inputs_once block other files errors others samples those plan plans same valid a b = (
+    errors_once block other files.cert errors others same valid a.accepted b.accepted,
+    bytes_once block other files.trace samples those same a.in_range b.in_range,
+    inputs.plans files.plan plan plans a.good_plan b.good_plan,
+  )
+
   pub handled_once : GivenFirmwaresAreOne → ImagesAreOne → HandlersRunAlike → (hrun : Hrun) (files : HandledFiles)
       → OutputsAreOne (HrunMakes hrun files)
   handled_once firmwares images alike hrun files output other a b =
@@ -41,21 +54,17 @@ module _ (accepted : AcceptedErrorsAreOne) (inputs : SpelledInputsAreOne) where
       let x = p.accepts in
       let y = q.accepts in
       let one = firmwares (Alone Byte) files.fcl p.block q.block p.firmware q.firmware x.compiled y.compiled in
-      let errors : a.report.errors ≡ b.report.errors =
-      errors_once p.block q.block files.inputs.cert a.report.errors b.report.errors one.0 x.compiled.spelled.valid
-      x.inputs.accepted y.inputs.accepted in
-      let bytes = bytes_once p.block q.block files.inputs.trace p.samples q.samples one.0 x.inputs.in_range
-      y.inputs.in_range in
-      let plan : p.plan ≡ q.plan = inputs.plans files.inputs.plan p.plan q.plan x.inputs.good_plan y.inputs.good_plan in
+      let same = inputs_once p.block q.block files.inputs a.report.errors b.report.errors p.samples q.samples p.plan
+      q.plan one.0 x.compiled.spelled.valid x.inputs y.inputs in
       let handlers = images files.handler p.handler q.handler x.handles.spelled y.handles.spelled in
       let rows : a.report.rows ≡ b.report.rows =
       p.ran
       ∙ alike p.firmware p.handler.bytes q.handler.bytes (map input_bytes p.samples) p.plan hrun.flags handlers.1
-      ∙ (λ i. handled_seen (one.1 i) q.handler.bytes (bytes i) (plan i) hrun.flags) ∙ sym q.ran in
+      ∙ (λ i. handled_seen (one.1 i) q.handler.bytes (same.1 i) (same.2 i) hrun.flags) ∙ sym q.ran in
       let bound : a.report.bound ≡ b.report.bound =
       p.reported.bound ∙ ap (instruction_bound Byte) one.0 ∙ sym q.reported.bound in
       a.output_is
-      ∙ (λ i. only_lines (hrun_lines (record { errors = errors i; bound = bound i; rows = rows i })))
+      ∙ (λ i. only_lines (hrun_lines (record { errors = same.0 i; bound = bound i; rows = rows i })))
       ∙ sym b.output_is
 
   pub watched_once : GivenFirmwaresAreOne → SpelledUpsetsAreOne → (srun : Srun) (files : WatchedFiles)
@@ -66,21 +75,17 @@ module _ (accepted : AcceptedErrorsAreOne) (inputs : SpelledInputsAreOne) where
       let x = p.accepts in
       let y = q.accepts in
       let one = firmwares Watched files.fcl p.block q.block p.firmware q.firmware x.compiled y.compiled in
-      let errors : a.report.errors ≡ b.report.errors =
-      errors_once p.block q.block files.inputs.cert a.report.errors b.report.errors one.0 x.compiled.spelled.valid
-      x.inputs.accepted y.inputs.accepted in
-      let bytes = bytes_once p.block q.block files.inputs.trace p.samples q.samples one.0 x.inputs.in_range
-      y.inputs.in_range in
-      let plan : p.plan ≡ q.plan = inputs.plans files.inputs.plan p.plan q.plan x.inputs.good_plan y.inputs.good_plan in
+      let same = inputs_once p.block q.block files.inputs a.report.errors b.report.errors p.samples q.samples p.plan
+      q.plan one.0 x.compiled.spelled.valid x.inputs y.inputs in
       let upsets : p.upsets ≡ q.upsets =
       spelled p.firmware.image.bytes files.upsets p.upsets q.upsets x.good_upsets
       (subst (λ (f : Firmware). SpellsUpsets f.image.bytes files.upsets q.upsets) (sym one.1) y.good_upsets) in
       let rows : a.report.rows ≡ b.report.rows =
-      p.ran ∙ (λ i. faults_of (one.1 i) (upset_rows (one.1 i) (bytes i) (plan i) (upsets i) srun.flags))
+      p.ran ∙ (λ i. faults_of (one.1 i) (upset_rows (one.1 i) (same.1 i) (same.2 i) (upsets i) srun.flags))
       ∙ sym q.ran in
       let bound : a.report.bound ≡ b.report.bound = p.bound ∙ ap watched_bound one.0 ∙ sym q.bound in
       a.output_is
-      ∙ (λ i. only_lines (srun_lines (record { errors = errors i; bound = bound i; rows = rows i })))
+      ∙ (λ i. only_lines (srun_lines (record { errors = same.0 i; bound = bound i; rows = rows i })))
       ∙ sym b.output_is
 
   count_once : (samples those : List Sample) → map input_bytes samples ≡ map input_bytes those
