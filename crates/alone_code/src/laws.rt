@@ -10,13 +10,13 @@ ghost use Rattle.alone_code.specs.Turns.{MailboxIsUninterrupted, MailboxTakesPos
 ghost use Rattle.alone_code.specs.Uninterrupted.{AnsweredAreUninterrupted, FirmwareIsUninterrupted, UninterruptedAreOne};
 
 use byte_scaling::nearest_is_byte;
-use cpu12_asm::ascending_bytes_are_one;
+use cpu12_asm::laws::ascending_bytes_are_one;
 use cpu12_isa::laws::stays_fit;
 use cpu12_parts::executions::executions_are_one;
 use eval_code::laws::{
     blocks_are_placed, bounds_are_few, code_is_decoded, eval_answers, placed_items_stand,
 };
-use rule_layout::layout_law;
+use rule_layout::laws::layout_law;
 
 /// What the laws on the forms of firmware rest on.
 fn lower_laws()

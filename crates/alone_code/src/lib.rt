@@ -17,9 +17,4 @@ mod mailbox;
 
 pub use firmware::{Firmware, compile, compile_for, compile_laid_out, compile16, image_of};
 pub use items::{firmware_items, frame_code, push_vectors};
-pub use laws::{
-    firmware_answers, firmware_is_bytes, firmware_is_uninterrupted, firmwares_are_one,
-    mailbox_is_uninterrupted, mailbox_steps_are_few, mailbox_takes_posts, mailbox_takes_samples,
-    mailboxes_are_one, uninterrupted_are_one,
-};
 pub use mailbox::compile_post;

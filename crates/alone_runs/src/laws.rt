@@ -11,7 +11,7 @@ use alone_code::laws::{
 use cpu12_emul::laws::{step_agrees, wavr_goes_on};
 use cpu12_isa::laws::writes_stay;
 use cpu12_parts::laws::wav_suspends;
-use firmware_runs::{answers_are_values, given_is_put, instructions_are_steps};
+use firmware_runs::laws::{answers_are_values, given_is_put, instructions_are_steps};
 use run_forms::laws::arrives_plainly;
 use run_law::laws::{runs_follow, taken_at_once};
 

@@ -10,7 +10,7 @@
 
 mod cert;
 mod header;
-mod laws;
+pub mod laws;
 mod lines;
 mod nodes;
 mod reader;
@@ -18,7 +18,6 @@ mod text;
 mod writer;
 
 pub use cert::{Cert, CertFault, CertKind, LeafForm, Node};
-pub use laws::{cert_texts_have_no_fault, certs_are_one, faults_are_one, open_boxes_go_on};
 pub use lines::Lines;
 pub use reader::{read, read_for, read16};
 pub use writer::{write, write_for, write16};

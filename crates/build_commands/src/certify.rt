@@ -16,8 +16,8 @@ use command_parts::firmware::{
 use command_parts::lines::{labelled, push_errors};
 use command_parts::output::Output;
 use command_parts::words::{Number, number_in};
-use error_certifier::answers_are_one;
-use fcl_check::spelled_blocks_are_one;
+use error_certifier::laws::answers_are_one;
+use fcl_check::laws::spelled_blocks_are_one;
 use fz_shelf::Line;
 use fz_status::{Status, word};
 use std::alloc::{AllocError, Global};

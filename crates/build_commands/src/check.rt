@@ -13,7 +13,7 @@ use command_parts::firmware::{
 };
 use command_parts::lines::{labelled, push_errors};
 use command_parts::output::Output;
-use fcl_check::spelled_blocks_are_one;
+use fcl_check::laws::spelled_blocks_are_one;
 use fz_shelf::Line;
 use fz_status::Status;
 use std::alloc::{AllocError, Global};

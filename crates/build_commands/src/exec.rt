@@ -19,7 +19,7 @@ use cpu12_isa::instr::Regs;
 use cpu12_isa::pages::PageMem;
 use fz_shelf::Line;
 use fz_status::{Status, word};
-use srecord::images_are_one;
+use srecord::laws::images_are_one;
 use std::alloc::{AllocError, Global};
 use std::fmt::Write;
 

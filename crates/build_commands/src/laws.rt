@@ -4,16 +4,16 @@ ghost use Rattle.build_commands.specs.{Accepted.AcceptedContentsMakeOutput, OneO
 use crate::certify::certify_outputs_are_one;
 use crate::check::check_outputs_are_one;
 use crate::exec::exec_outputs_are_one;
-use alone_code::firmware_is_bytes;
+use alone_code::laws::firmware_is_bytes;
 use command_parts::firmware::given_firmwares_are_one;
 use command_parts::twos::given_twos_are_one;
-use cpu12_asm::{ascending_bytes_are_one, sources_give_bytes};
+use cpu12_asm::laws::{ascending_bytes_are_one, sources_give_bytes};
 use cpu12_emul::laws::holds_image;
-use error_certifier::halvings_are_within_their_target;
+use error_certifier::laws::halvings_are_within_their_target;
 use handler_check::laws::answers_are_one;
-use srecord::{image_texts_are_one, images_are_one, images_have_texts};
+use srecord::laws::{image_texts_are_one, images_are_one, images_have_texts};
 use two_level_code::laws::two_stand_beside;
-use watched_code::watched_is_bytes;
+use watched_code::laws::watched_is_bytes;
 
 /// Contents that are accepted make an output.
 pub fn accepted_contents_make_output()

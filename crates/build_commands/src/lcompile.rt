@@ -14,7 +14,8 @@ use command_parts::twos::two_of;
 use fz_shelf::Line;
 use fz_status::Status;
 use std::alloc::{AllocError, Global};
-use two_level_code::{Two, alone_has_byte_bounds};
+use two_level_code::Two;
+use two_level_code::laws::alone_has_byte_bounds;
 
 /// The words SLOW and FAST.
 pub static INPUTS: [u32; 2] = [2, 3];

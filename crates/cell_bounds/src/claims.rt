@@ -9,12 +9,8 @@ ghost use Rattle.cell_bounds.specs.Claims.{CountsAreLeast, BoxCountsAreOne, Coun
 
 use crate::laws::boxes_of_cells_answer;
 use box_tree::CertKind;
-use error_bound::{
-    BoxTable, Leaf, answers_are_near, best_bounds_are_least, best_leaves_are_one, best_leaves_hold,
-    bounds_are_determined, bounds_fall_with_parts, faulty_leaves_fail, tight_answers_are_near,
-    tight_bounds_are_least, tight_bounds_are_one, tight_bounds_fall_with_parts,
-    tight_bounds_hold_inside,
-};
+use error_bound::{BoxTable, Leaf, best_bounds_are_least, best_leaves_are_one, best_leaves_hold, tight_answers_are_near, tight_bounds_are_least, tight_bounds_are_one, tight_bounds_fall_with_parts, tight_bounds_hold_inside};
+use error_bound::laws::{answers_are_near, bounds_are_determined, bounds_fall_with_parts, faulty_leaves_fail};
 use fuzzy_meaning::Block;
 
 /// What a leaf says of an output.

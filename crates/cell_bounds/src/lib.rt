@@ -4,7 +4,7 @@
 
 mod cells;
 mod claims;
-mod laws;
+pub mod laws;
 mod masses;
 mod walks;
 
@@ -12,9 +12,5 @@ pub use cells::{cell_bound, cell_error};
 pub use claims::{
     Claim, best_claim, box_counts_are_one, claim_answers_are_near, claim_bounds_are_one,
     claim_bounds_fall_with_parts, counts_are_least, counts_are_one, tight_claims_are_least,
-};
-pub use laws::{
-    answers_on_cells_are_near, boxes_of_cells_answer, cell_counts_are_one, cells_bounds_are_one,
-    cells_bounds_fall_inside, errors_on_cells_are_one, unsure_cells_have_none,
 };
 pub use walks::{CellAbove, MOST_CELLS, cells_bounds, has_few_cells, low_bytes, sure_cells_bounds};

@@ -4,13 +4,13 @@ ghost use Rattle.cert_check.specs.Laws.{FaultyCertsFail, CheckFaultsAreOne, Text
 ghost use Rattle.cert_check.specs.Laws.{WideIsAccepted, WideTextsAreAccepted, TightIsAccepted, TightTextsAreAccepted};
 ghost use Rattle.cert_check.specs.Examples.{ExamplesAreAccepted};
 
-use box_tree::{cert_texts_have_no_fault, certs_are_one, faults_are_one};
+use box_tree::laws::{cert_texts_have_no_fault, certs_are_one, faults_are_one};
 use byte_scaling::numbers_lie_in_their_cells;
 use cell_bounds::{
     claim_answers_are_near, claim_bounds_are_one, claim_bounds_fall_with_parts,
     tight_claims_are_least,
 };
-use error_bound::{faulty_leaves_fail, leaf_faults_are_one, term_errors_are};
+use error_bound::laws::{faulty_leaves_fail, leaf_faults_are_one, term_errors_are};
 use fuzzy_meaning::examples_are_valid;
 
 /// Each list of bytes of a box lies in exactly one leaf of a tree over it.

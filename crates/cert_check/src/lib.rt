@@ -12,7 +12,7 @@
 mod box_laws;
 mod boxes;
 mod checker;
-mod laws;
+pub mod laws;
 mod leaves;
 mod text;
 mod walk;
@@ -20,10 +20,5 @@ mod walk;
 pub use box_laws::{cuts_have_halves, leaves_are_around};
 pub use boxes::{halves, whole_box};
 pub use checker::{CheckFault, check, check_for, check16};
-pub use laws::{
-    accepted_answers_are_near, check_faults_are_one, errors_are_determined, examples_are_accepted,
-    faulty_certs_fail, named_certs_have_no_cells, one_leaf_has_the_bytes, text_answers_are_one,
-    tight_is_accepted, tight_texts_are_accepted, wide_is_accepted, wide_texts_are_accepted,
-};
 pub use leaves::raise;
 pub use text::{TextFault, check_text, check_text_for, check_text16};

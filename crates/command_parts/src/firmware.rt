@@ -8,15 +8,20 @@ ghost use Rattle.command_parts.specs.Firmwares.{GivenFirmwaresAreOne, SpelledTex
 ghost use Rattle.fz_status.specs.Refusals.{IsRefusal};
 
 use crate::contents::Content;
-use alone_code::{Firmware, compile_for, compile_post, firmwares_are_one, mailboxes_are_one};
+use alone_code::{Firmware, compile_for, compile_post};
+use alone_code::laws::{firmwares_are_one, mailboxes_are_one};
 use byte_scaling::Width;
-use fcl_check::{load, load_faults_are_one, spelled_blocks_are_one};
-use fcl_syntax::{first_faults_are_one, parse};
+use fcl_check::load;
+use fcl_check::laws::{load_faults_are_one, spelled_blocks_are_one};
+use fcl_syntax::parse;
+use fcl_syntax::laws::first_faults_are_one;
 use fuzzy_meaning::Block;
 use fz_status::Status;
-use rule_layout::{Flat, LayoutFault, limits_have_no_fault, spread};
+use rule_layout::{Flat, LayoutFault, spread};
+use rule_layout::laws::limits_have_no_fault;
 use std::alloc::Global;
-use watched_code::{compile_scrub, watched_firmwares_are_one};
+use watched_code::compile_scrub;
+use watched_code::laws::watched_firmwares_are_one;
 
 /// A block with its firmware.
 #[derive(Drop)]

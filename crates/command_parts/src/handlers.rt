@@ -9,7 +9,7 @@ use cpu12_asm::Image;
 use fz_status::Status;
 use handler_check::laws::handlers_have_no_fault;
 use handler_check::{Handler, check_handler};
-use srecord::images_are_one;
+use srecord::laws::images_are_one;
 use std::alloc::Global;
 
 /// A handler that was accepted, with its image.

@@ -8,7 +8,7 @@ ghost use Rattle.fz_status.specs.Refusals.{IsRefusal};
 use crate::contents::Content;
 use cpu12_asm::Image;
 use fz_status::{ImageFault, Status};
-use srecord::images_are_one;
+use srecord::laws::images_are_one;
 use std::alloc::Global;
 
 /// The image that a text of records gives, or the status of its first fault.

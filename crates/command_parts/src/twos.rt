@@ -5,11 +5,12 @@ ghost use Rattle.fz_status.specs.Refusals.{IsRefusal};
 
 use crate::contents::Content;
 use crate::firmware::laid_out_block_of;
-use fcl_check::spelled_blocks_are_one;
+use fcl_check::laws::spelled_blocks_are_one;
 use fuzzy_meaning::Block;
 use fz_status::Status;
 use std::alloc::Global;
-use two_level_code::{Two, compile_two_laid_out, twos_are_one};
+use two_level_code::{Two, compile_two_laid_out};
+use two_level_code::laws::twos_are_one;
 
 /// A slow and a fast block with the firmware of both.
 #[derive(Drop)]

@@ -13,7 +13,7 @@ mod expressions;
 mod faults;
 mod image;
 mod items;
-mod laws;
+pub mod laws;
 mod lines;
 mod operands;
 mod sources;
@@ -22,8 +22,4 @@ mod values;
 
 pub use image::{ByteMap, Image};
 pub use items::{AsmFault, Item, assemble_items};
-pub use laws::{
-    ascending_bytes_are_one, labels_are_places, rising_items, sources_give_bytes,
-    sources_have_one_fault,
-};
 pub use sources::assemble;

@@ -3,7 +3,7 @@
 //!
 //! [`leaf_bound`] gives the Bound of a leaf that holds, or exactly its first fault, and a Bound is at
 //! least the distance of each answer from the exact one, in millionths of the output's range
-//! ([`answers_are_near`]). For many leaves of one box a [`BoxTable`] is made once, and for
+//! ([`laws::answers_are_near`]). For many leaves of one box a [`BoxTable`] is made once, and for
 //! many boxes a [`BlockTable`]; only this takes memory.
 #![tactic(auto)]
 
@@ -15,7 +15,7 @@ mod choosing;
 mod degrees;
 mod ends;
 mod flattening;
-mod laws;
+pub mod laws;
 mod leaves;
 mod literal_errors;
 mod nowhere;
@@ -30,11 +30,6 @@ pub use best_leaves::{best_bounds_are_least, best_leaves_are_one, best_leaves_ho
 pub use boxes::{ByteBox, Interval, Leaf, LeafFault};
 pub use cells::term_error;
 pub use choosing::best;
-pub use laws::{
-    answers_are_near, bounds_are_determined, bounds_fall_inside, bounds_fall_with_parts,
-    cells_have_bounds, faulty_leaves_fail, leaf_faults_are_one, leaves_hold_inside,
-    term_errors_are,
-};
 pub use leaves::{is_pair_for, leaf_bound, leaf_bound16, output_of};
 pub use rules::BoxTable;
 pub use tables::BlockTable;

@@ -11,8 +11,7 @@
 mod boxes;
 mod certifier;
 mod halving;
-mod laws;
+pub mod laws;
 mod leaves;
 
 pub use certifier::{NotReached, certify, certify_for, certify16};
-pub use laws::{answers_are_one, cells_are_out_of_reach, halvings_are_within_their_target};

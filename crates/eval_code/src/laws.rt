@@ -6,11 +6,11 @@ ghost use Rattle.eval_code.specs.Standing.{BytesStand, CodeIsBytes, CodeStands, 
 ghost use Rattle.eval_code.specs.Standing.{ZeroBelow};
 
 use byte_scaling::nearest_is_byte;
-use cpu12_asm::rising_items;
+use cpu12_asm::laws::rising_items;
 use cpu12_emul::laws::holds_image;
 use cpu12_isa::decode::decodes_encoded;
 use cpu12_isa::laws::{encoded_are_bytes, stays_fit};
-use rule_layout::{layout_law, mass_law};
+use rule_layout::laws::{layout_law, mass_law};
 
 /// The rules leave in the slots of the outputs' terms their masses.
 pub fn rules_give_masses()

@@ -4,7 +4,7 @@ ghost use Rattle.fcl_check.specs.OneBlock.{BlocksAreOne, SpelledBlocksAreOne};
 ghost use Rattle.fcl_check.specs.{Courses.CourseLaw, Kept.NumbersAreKept, Order.PlacesAscend};
 ghost use Rattle.fcl_check.specs.Texts.{EachTextIsJudged, LoadFaultsAreOne, SpelledBlocksAreValid, TreesHaveBlocks};
 
-use fcl_syntax::{each_text_is_read, numbers_in_scale, offsets_ascend, trees_are_one};
+use fcl_syntax::laws::{each_text_is_read, numbers_in_scale, offsets_ascend, trees_are_one};
 
 /// In a tree that a text spells, the places of each kind of load fault ascend, so that the first
 /// place, which [`load`](crate::load) answers, is the least offset in the text.

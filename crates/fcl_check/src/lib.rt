@@ -11,7 +11,7 @@ mod checks;
 mod conditions;
 mod fault;
 mod inputs;
-mod laws;
+pub mod laws;
 mod loading;
 mod names;
 mod numbers;
@@ -24,8 +24,4 @@ mod variables;
 mod walk;
 
 pub use fault::LoadFault;
-pub use laws::{
-    blocks_are_one, course_law, each_text_is_judged, load_faults_are_one, numbers_are_kept,
-    places_ascend, spelled_blocks_are_one, spelled_blocks_are_valid, trees_have_blocks,
-};
 pub use loading::load;

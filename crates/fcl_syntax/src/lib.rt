@@ -8,7 +8,7 @@
 mod block;
 mod conditions;
 mod fault;
-mod laws;
+pub mod laws;
 mod lexer;
 mod repeated;
 mod rules;
@@ -19,10 +19,6 @@ mod token;
 mod tree;
 mod variables;
 
-pub use laws::{
-    cuts_are_tokens, each_text_is_read, first_faults_are_one, numbers_in_scale, offsets_ascend,
-    trees_are_one,
-};
 pub use text::{SyntaxFault, parse};
 pub use token::{Amount, Word};
 pub use tree::{

@@ -22,7 +22,7 @@ use command_parts::firmware::{
 use command_parts::handlers::{AcceptedHandler, given_handlers_have_no_fault, handler_of};
 use command_parts::output::Output;
 use command_parts::words::flags;
-use fcl_check::spelled_blocks_are_one;
+use fcl_check::laws::spelled_blocks_are_one;
 use fz_shelf::Line;
 use fz_status::{Status, word};
 use handled_runs::laws::{handled_answers, handlers_run_alike};
@@ -33,7 +33,7 @@ use run_reports::laws::{
     accepted_inputs_have_no_fault, answers_are_reported, spelled_bytes_fit, spelled_inputs_are_one,
 };
 use run_reports::row_lines::{begun, push_labelled_row};
-use srecord::images_are_one;
+use srecord::laws::images_are_one;
 use std::alloc::{AllocError, Global};
 
 /// `hrun FCL HANDLER CERT TRACE PLAN FLAGS`

@@ -25,7 +25,8 @@ use command_parts::twos::{CompiledTwo, given_twos_are_one, two_of};
 use command_parts::words::flags;
 use fuzzy_meaning::Block;
 use fz_status::{Status, word};
-use interrupt_plan::{Levels, read_levels, spelled_entries_are_one, spelled_levels_have_no_fault};
+use interrupt_plan::{Levels, read_levels};
+use interrupt_plan::laws::{spelled_entries_are_one, spelled_levels_have_no_fault};
 use run_reports::files::LevelFiles;
 use run_reports::inputs::samples_of;
 use run_reports::laws::{
@@ -34,9 +35,11 @@ use run_reports::laws::{
 };
 use run_reports::nearness::posted_answers_are_near;
 use std::alloc::Global;
-use trace_io::{Sample, spelled_traces_have_no_fault};
-use two_level_code::alone_has_byte_bounds;
-use two_level_runs::{answers_under_levels, levels_make_a_plan, rows_are_seen, run_two};
+use trace_io::Sample;
+use trace_io::laws::spelled_traces_have_no_fault;
+use two_level_code::laws::alone_has_byte_bounds;
+use two_level_runs::run_two;
+use two_level_runs::laws::{answers_under_levels, levels_make_a_plan, rows_are_seen};
 
 /// `lrun SLOW FAST IMAGE SCERT FCERT STRACE FTRACE LEVELS FLAGS`
 #[derive(Clone, Copy, Debug, PartialEq, Eq)]

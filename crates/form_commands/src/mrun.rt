@@ -23,8 +23,10 @@ use command_parts::images::{given_images_have_no_fault, require_image};
 use command_parts::output::Output;
 use command_parts::words::flags;
 use fz_status::{Status, word};
-use interrupt_plan::{Posts, read_posts, spelled_entries_are_one, spelled_posts_have_no_fault};
-use mailbox_runs::{last_is_answered, posts_are_answered, run_posts};
+use interrupt_plan::{Posts, read_posts};
+use interrupt_plan::laws::{spelled_entries_are_one, spelled_posts_have_no_fault};
+use mailbox_runs::run_posts;
+use mailbox_runs::laws::{last_is_answered, posts_are_answered};
 use run_reports::files::PostedFiles;
 use run_reports::inputs::samples_of;
 use run_reports::laws::{
@@ -33,7 +35,8 @@ use run_reports::laws::{
 };
 use run_reports::nearness::posted_answers_are_near;
 use std::alloc::Global;
-use trace_io::{Sample, spelled_traces_have_no_fault};
+use trace_io::Sample;
+use trace_io::laws::spelled_traces_have_no_fault;
 
 /// `mrun FCL IMAGE CERT TRACE POSTS FLAGS`
 #[derive(Clone, Copy, Debug, PartialEq, Eq)]

@@ -12,7 +12,7 @@ mod block;
 mod condition;
 mod degrees;
 mod examples;
-mod laws;
+pub mod laws;
 mod masses;
 mod truths;
 
@@ -21,6 +21,5 @@ pub use block::{Block, Input, Output, Rule, Trapezoid};
 pub use condition::{Condition, Node};
 pub use degrees::{degree, numbers_have_their_degrees};
 pub use examples::{examples_are_valid, heater};
-pub use laws::parts_are_valid;
 pub use masses::{concludes, mass, strength};
 pub use truths::truth;

@@ -4,8 +4,7 @@
 //! than a caller takes. A row is a [`csv::ByteRecord`].
 #![tactic(auto)]
 
-mod laws;
+pub mod laws;
 mod rows;
 
-pub use laws::first_rows_are_one;
 pub use rows::first_rows;

@@ -11,7 +11,7 @@
 
 mod command;
 mod delivery;
-mod laws;
+pub mod laws;
 mod program;
 mod reading;
 
@@ -25,7 +25,6 @@ pub use form_commands::hrun::Hrun;
 pub use form_commands::lrun::Lrun;
 pub use form_commands::srun::Srun;
 pub use fz_status::{CertRefusal, FclFault, ImageFault, Status};
-pub use laws::commands_make_one_output;
 pub use program::fuzz12;
 pub use run_commands::debug::DebugRun;
 pub use run_commands::generate::Generate;

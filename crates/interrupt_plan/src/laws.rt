@@ -9,28 +9,28 @@ ghost use Rattle.interrupt_plan.specs.UpsetTexts.{SpelledUpsetsHaveNoFault};
 pub fn spelled_plans_have_no_fault()
     ensures { SpelledPlansHaveNoFault }
 {
-    fz_rows::first_rows_are_one();
+    fz_rows::laws::first_rows_are_one();
 }
 
 /// Nor has one that spells posts.
 pub fn spelled_posts_have_no_fault()
     ensures { SpelledPostsHaveNoFault }
 {
-    fz_rows::first_rows_are_one();
+    fz_rows::laws::first_rows_are_one();
 }
 
 /// Nor has one that spells levels.
 pub fn spelled_levels_have_no_fault()
     ensures { SpelledLevelsHaveNoFault }
 {
-    fz_rows::first_rows_are_one();
+    fz_rows::laws::first_rows_are_one();
 }
 
 /// A text that spells upsets of an image has no fault for it.
 pub fn spelled_upsets_have_no_fault()
     ensures { SpelledUpsetsHaveNoFault }
 {
-    fz_rows::first_rows_are_one();
+    fz_rows::laws::first_rows_are_one();
 }
 
 /// A text has one first fault: as a plan, as posts, as levels, and as upsets of an image.
@@ -40,7 +40,7 @@ pub fn first_faults_are_one()
     ensures levels { LevelFaultsAreOne }
     ensures upsets { UpsetFaultsAreOne }
 {
-    fz_rows::first_rows_are_one();
+    fz_rows::laws::first_rows_are_one();
 }
 
 /// A text spells one plan, and one list of posts, of levels, and of upsets of an image.
@@ -50,5 +50,5 @@ pub fn spelled_entries_are_one()
     ensures levels { SpelledLevelsAreOne }
     ensures upsets { SpelledUpsetsAreOne }
 {
-    fz_rows::first_rows_are_one();
+    fz_rows::laws::first_rows_are_one();
 }

@@ -22,16 +22,12 @@ use std::alloc::Global;
 use thiserror::Error;
 
 mod entry;
-mod laws;
+pub mod laws;
 mod levels;
 mod reader;
 mod row;
 mod upsets;
 
-pub use laws::{
-    first_faults_are_one, spelled_entries_are_one, spelled_levels_have_no_fault,
-    spelled_plans_have_no_fault, spelled_posts_have_no_fault, spelled_upsets_have_no_fault,
-};
 pub use levels::{Level, Levels, read_levels};
 pub use reader::{read_plan, read_posts};
 pub use row::{count_in, word_in};

@@ -17,7 +17,7 @@ use cpu12_emul::laws::{
 };
 use cpu12_isa::laws::{stack_is_hidden, writes_agree, writes_stay};
 use cpu12_parts::laws::wav_suspends;
-use firmware_runs::instructions_are_steps;
+use firmware_runs::laws::instructions_are_steps;
 use run_forms::laws::plain_is_one_step;
 use run_law::laws::{run_follows, taken_at_first_open};
 

@@ -10,7 +10,7 @@ ghost use Rattle.promise.specs.Laws.{PrintedNumbersAreOne};
 ghost use Rattle.promise.specs.OtherRuns.{OtherRunsServe};
 
 use alone_code::laws::firmware_answers;
-use eval_code::bounds_are_few;
+use eval_code::laws::bounds_are_few;
 use run_commands::run::accepted_runs_make_output;
 use run_forms::laws::{arrives_plainly, plain_is_one_step};
 use run_law::laws::taken_at_once;

@@ -6,12 +6,12 @@
 //!
 //! `spread` answers exactly the layout of its definition, or refuses exactly where the
 //! conjunctions are more than 512 or else the list would have more than 9984 bytes. Spreading
-//! keeps the truth of each condition ([`spreading_law`]), and so the list leaves each output term
-//! its byte mass ([`mass_law`]).
+//! keeps the truth of each condition ([`laws::spreading_law`]), and so the list leaves each output term
+//! its byte mass ([`laws::mass_law`]).
 #![tactic(auto)]
 
 mod flat;
-mod laws;
+pub mod laws;
 mod layout;
 mod lists;
 mod sizes;
@@ -19,7 +19,4 @@ mod slots;
 mod spreading;
 
 pub use flat::{Conjunction, Flat, Form, LayoutFault, Slot};
-pub use laws::{
-    flat_has_parts, layout_law, limits_have_no_fault, mass_law, slot_number_laws, spreading_law,
-};
 pub use layout::spread;

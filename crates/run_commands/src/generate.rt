@@ -12,7 +12,8 @@ ghost use Rattle.run_commands.specs.Generate.{AcceptedNumbersMakeOutput, Generat
 ghost use Rattle.run_commands.specs.Generate.{frames_of, resumed_of, answers_of};
 ghost use Rattle.run_commands.specs.declared.generate.Generate.{Generate as TheGenerate};
 
-use alone_code::{Firmware, compile, firmwares_are_one};
+use alone_code::{Firmware, compile};
+use alone_code::laws::firmwares_are_one;
 use alone_runs::laws::answers_under_plans;
 use alone_runs::{Row, run};
 use box_tree::CertKind;
@@ -21,14 +22,15 @@ use command_parts::certs::{halved, halved_blocks_do_not_stop};
 use command_parts::lines::{labelled, push_errors};
 use command_parts::output::Output;
 use command_parts::words::number32_in;
-use error_certifier::answers_are_one;
+use error_certifier::laws::answers_are_one;
 use fuzzy_meaning::Block;
 use fz_shelf::Line;
 use fz_status::{Status, word};
-use rule_layout::{LayoutFault, limits_have_no_fault};
+use rule_layout::LayoutFault;
+use rule_layout::laws::limits_have_no_fault;
 use run_reports::laws::answers_are_reported;
 use std::alloc::{AllocError, Global};
-use workload::{drawn_blocks_are_within_limits, numbers_have_workloads, workloads_are_one};
+use workload::laws::{drawn_blocks_are_within_limits, numbers_have_workloads, workloads_are_one};
 
 /// `gen NUMBER`.
 #[derive(Clone, Copy, Debug, PartialEq, Eq)]

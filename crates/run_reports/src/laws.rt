@@ -5,9 +5,9 @@ ghost use Rattle.run_reports.specs.Laws.{SpelledInputsAreOne, SpelledTracesAreSh
 
 use crate::nearness::answers_are_within_errors;
 use command_parts::certs::accepted_certs_have_no_fault;
-use fz_rows::first_rows_are_one;
-use interrupt_plan::{spelled_entries_are_one, spelled_plans_have_no_fault};
-use trace_io::spelled_traces_have_no_fault;
+use fz_rows::laws::first_rows_are_one;
+use interrupt_plan::laws::{spelled_entries_are_one, spelled_plans_have_no_fault};
+use trace_io::laws::spelled_traces_have_no_fault;
 
 /// A trace spells at most 10000 samples.
 pub fn spelled_traces_are_short()

@@ -8,7 +8,7 @@ ghost use Rattle.run_reports.specs.Posted.{PostedAnswersAreNear};
 pub fn answers_are_within_errors()
     ensures { AnswersAreWithinErrors }
 {
-    cert_check::accepted_answers_are_near();
+    cert_check::laws::accepted_answers_are_near();
 }
 
 /// The rows of a firmware with watched tables in which FAULT was 0 are within the errors of each
@@ -17,7 +17,7 @@ pub fn answers_are_within_errors()
 pub fn faultless_answers_are_near()
     ensures { FaultlessAnswersAreNear }
 {
-    cert_check::accepted_answers_are_near();
+    cert_check::laws::accepted_answers_are_near();
 }
 
 /// A block's answers to samples of a trace that are posted are within the errors of each accepted
@@ -25,5 +25,5 @@ pub fn faultless_answers_are_near()
 pub fn posted_answers_are_near()
     ensures { PostedAnswersAreNear }
 {
-    cert_check::accepted_answers_are_near();
+    cert_check::laws::accepted_answers_are_near();
 }

@@ -8,7 +8,7 @@
 
 mod fault;
 mod fields;
-mod laws;
+pub mod laws;
 mod lines;
 mod pieces;
 mod reader;
@@ -16,9 +16,5 @@ mod records;
 mod writer;
 
 pub use fault::SrecFault;
-pub use laws::{
-    each_text_is_judged, faults_are_one, image_texts_are_one, images_are_one,
-    images_have_few_records, images_have_texts,
-};
 pub use reader::read;
 pub use writer::write;

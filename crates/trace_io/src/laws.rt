@@ -5,12 +5,12 @@ ghost use Rattle.trace_io.specs.OneReading.{FirstFaultsAreOne, SpelledTracesHave
 pub fn spelled_traces_have_no_fault()
     ensures { SpelledTracesHaveNoFault }
 {
-    fz_rows::first_rows_are_one();
+    fz_rows::laws::first_rows_are_one();
 }
 
 /// A text has one first fault.
 pub fn first_faults_are_one()
     ensures { FirstFaultsAreOne }
 {
-    fz_rows::first_rows_are_one();
+    fz_rows::laws::first_rows_are_one();
 }

@@ -5,10 +5,9 @@
 //! exactly the samples that the first rows spell, or the fault of the first row that fails.
 #![tactic(auto)]
 
-mod laws;
+pub mod laws;
 mod sample;
 mod trace;
 
-pub use laws::{first_faults_are_one, spelled_traces_have_no_fault};
 pub use sample::{Sample, TraceFault};
 pub use trace::read_trace;

@@ -10,7 +10,7 @@ use crate::laws::{fast_answers_entered, two_stand_beside};
 use alone_code::{Firmware, compile_laid_out, image_of};
 use byte_scaling::Width;
 use cpu12_asm::Image;
-use eval_code::blocks_are_placed;
+use eval_code::laws::blocks_are_placed;
 use fuzzy_meaning::Block;
 use rule_layout::{Flat, LayoutFault, spread};
 use std::alloc::{AllocError, Global};

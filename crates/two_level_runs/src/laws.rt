@@ -16,7 +16,7 @@ use cpu12_parts::laws::wav_suspends;
 use run_law::laws::{
     run_follows, runs_follow, step_laws, sums_fit_below, taken_at_once, writes_are_quiet,
 };
-use two_level_code::{alone_has_byte_bounds, fast_answers_entered, two_stand_beside};
+use two_level_code::laws::{alone_has_byte_bounds, fast_answers_entered, two_stand_beside};
 
 /// The whole instructions with which the fast code answers, and its return, are steps from the state
 /// in which it was entered to that behind the interrupt, within its bounds; before each step the

@@ -1,10 +1,10 @@
 //! Runs of a slow block's firmware with a fast block inside its interrupts.
 //!
-//! An outer interrupt enters the fast code ([`outer_enters`]), which lets inner interrupts in and runs to its
-//! return. [`fast_steps_return`] says what its steps are without inner interrupts, and [`fast_runs_follow`] that
-//! under them it does the same: its counts and frames are read off the run without. [`outer_is_servable`] says
-//! that each sample has such a run, [`outer_is_quiet`] what it leaves, and [`outer_serves`] that an outer request is
-//! quiet as the law on runs asks. So under all good levels a run at two levels answers as [`answers_under_levels`]
+//! An outer interrupt enters the fast code ([`laws::outer_enters`]), which lets inner interrupts in and runs to its
+//! return. [`laws::fast_steps_return`] says what its steps are without inner interrupts, and [`laws::fast_runs_follow`] that
+//! under them it does the same: its counts and frames are read off the run without. [`laws::outer_is_servable`] says
+//! that each sample has such a run, [`laws::outer_is_quiet`] what it leaves, and [`laws::outer_serves`] that an outer request is
+//! quiet as the law on runs asks. So under all good levels a run at two levels answers as [`laws::answers_under_levels`]
 //! says: its slow rows are those of the slow firmware alone, and its fast runs answer their samples.
 #![tactic(auto)]
 
@@ -16,10 +16,5 @@ mod rows;
 mod serve;
 
 pub use fast_code::InnerFrame;
-pub use laws::{
-    answers_under_levels, fast_is_entered, fast_runs_exist, fast_runs_follow, fast_steps_return,
-    levels_make_a_plan, outer_enters, outer_is_quiet, outer_is_servable, outer_serves,
-    rows_are_seen,
-};
 pub use rows::{TwoRow, run_two};
 pub use serve::FastRow;

@@ -29,7 +29,7 @@ pub struct TwoRow {
 /// own, which inner interrupts interrupt in turn. Answers a row for each slow sample. Bits of `flags` give
 /// the flags that the CPU12 Reference Manual leaves undefined. All memory is taken before the first step,
 /// and want of it is the one error. Where both are those of two blocks, the rows are as
-/// [`answers_under_levels`](crate::answers_under_levels) says.
+/// [`answers_under_levels`](crate::laws::answers_under_levels) says.
 pub fn run_two(
     alloc: Global,
     two: &Two,

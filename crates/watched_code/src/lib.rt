@@ -4,7 +4,7 @@
 //! outputs' defaults, with a byte FAULT set, where they are not what they were. Its image holds exactly
 //! the bytes that its definition names. From reset it answers every list of samples so, with a byte of
 //! its tables changed in each of them or in none, with interrupts let in; it is refused exactly where
-//! `rule_layout::spread` refuses the block, and takes memory. [`one_change_is_seen`] says which changes a
+//! `rule_layout::spread` refuses the block, and takes memory. [`laws::one_change_is_seen`] says which changes a
 //! sum finds.
 #![tactic(auto)]
 
@@ -14,6 +14,5 @@ mod segments;
 mod watch;
 
 pub use check::FAULT;
-pub use laws::{one_change_is_seen, watched_answers, watched_firmwares_are_one, watched_is_bytes};
 pub use segments::Segment;
 pub use watch::compile_scrub;

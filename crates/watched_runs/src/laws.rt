@@ -3,7 +3,7 @@ ghost use Rattle.watched_runs.specs.Answering.{AnswersUnderAllUpsets};
 
 use crate::form::WatchedForm;
 use alone_runs::laws::requests_are_good;
-use firmware_runs::{given_is_put, instructions_are_steps};
+use firmware_runs::laws::{given_is_put, instructions_are_steps};
 use run_forms::laws::arrives_plainly;
 use run_law::laws::{runs_follow, taken_at_once};
 use watched_code::laws::watched_answers;

@@ -5,7 +5,7 @@
 //! what the firmware says of its tables, FAULT. The rows are exactly those of the run's definition for
 //! every firmware; for that of a block with watched tables they are the block's answers where the
 //! tables are the image's, and else the outputs' defaults, whatever the plan is.
-//! [`answers_under_all_upsets`](laws::answers_under_all_upsets) says so, as an instance of run_law's law.
+//! [`laws::answers_under_all_upsets`](laws::answers_under_all_upsets) says so, as an instance of run_law's law.
 #![tactic(auto)]
 
 pub mod form;

@@ -8,12 +8,11 @@
 
 mod blocks;
 mod draws;
-mod laws;
+pub mod laws;
 mod plans;
 mod rows;
 mod texts;
 mod traces;
 mod workload;
 
-pub use laws::{drawn_blocks_are_within_limits, numbers_have_workloads, workloads_are_one};
 pub use workload::{Workload, generate};
