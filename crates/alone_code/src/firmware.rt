@@ -11,8 +11,8 @@ use crate::items::firmware_items;
 use crate::laws::{firmware_answers, firmware_is_uninterrupted};
 use byte_scaling::Width;
 use cpu12_asm::{AsmFault, Image, Item, assemble_items};
-use eval_code::{MemoryMap, instruction_bound, steps_by};
 use eval_code::laws::blocks_are_placed;
+use eval_code::{MemoryMap, instruction_bound, steps_by};
 use fuzzy_meaning::Block;
 use rule_layout::{Flat, LayoutFault, spread};
 use std::alloc::{AllocError, Global};
@@ -41,7 +41,7 @@ pub struct Firmware {
 pub fn compile(alloc: Global, block: &Block) -> Result<Firmware, LayoutFault>
     requires { IsValid block.now }
     ensures firmware { IfOk result (IsFirmwareOf block.now) }
-    ensures narrow { IfOk result (λ f. f.width ≡ Byte) }
+    ensures width { IfOk result (λ f. f.width ≡ Byte) }
 
     // From reset it answers every list of samples, where an interrupt may come at each instruction;
     // without one its answers are the block's over bytes.
@@ -61,7 +61,7 @@ pub fn compile(alloc: Global, block: &Block) -> Result<Firmware, LayoutFault>
 pub fn compile16(alloc: Global, block: &Block) -> Result<Firmware, LayoutFault>
     requires { IsValid block.now }
     ensures firmware { IfOk result (IsFirmwareOf block.now) }
-    ensures wide { IfOk result (λ f. f.width ≡ Word) }
+    ensures width { IfOk result (λ f. f.width ≡ Word) }
 
     // From reset it answers every list of samples, where an interrupt may come at each instruction;
     // without one its answers are the block's in 16 bits.

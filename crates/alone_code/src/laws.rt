@@ -9,10 +9,10 @@ ghost use Rattle.alone_code.specs.Standing.{FirmwareIsBytes, ImageHasFirmware, M
 ghost use Rattle.alone_code.specs.Turns.{MailboxIsUninterrupted, MailboxTakesPosts};
 ghost use Rattle.alone_code.specs.Uninterrupted.{AnsweredAreUninterrupted, FirmwareIsUninterrupted, UninterruptedAreOne};
 
-use byte_scaling::nearest_is_byte;
+use byte_scaling::laws::nearest_is_byte;
 use cpu12_asm::laws::ascending_bytes_are_one;
 use cpu12_isa::laws::stays_fit;
-use cpu12_parts::executions::executions_are_one;
+use cpu12_parts::laws::executions_are_one;
 use eval_code::laws::{
     blocks_are_placed, bounds_are_few, code_is_decoded, eval_answers, placed_items_stand,
 };

@@ -13,8 +13,8 @@ use crate::laws::{mailbox_is_uninterrupted, mailbox_takes_posts};
 use byte_scaling::Width;
 use cpu12_asm::Item;
 use cpu12_isa::instr::Instr;
-use eval_code::{MemoryMap, instruction_bound, push_block, steps_by};
 use eval_code::laws::blocks_are_placed;
+use eval_code::{MemoryMap, instruction_bound, push_block, steps_by};
 use fuzzy_meaning::Block;
 use rule_layout::{Flat, LayoutFault, spread};
 use std::alloc::{AllocError, Global};
@@ -108,7 +108,7 @@ fn mailbox_items(
 pub fn compile_post(alloc: Global, block: &Block) -> Result<Firmware, LayoutFault>
     requires { IsValid block.now }
     ensures firmware { IfOk result (IsMailboxOf block.now) }
-    ensures narrow { IfOk result (λ f. f.width ≡ Byte) }
+    ensures width { IfOk result (λ f. f.width ≡ Byte) }
 
     // From reset it takes its turns, from whatever states interrupts leave before a copy; the copy is
     // masked, and from there on the mailbox is neither read nor written.

@@ -1,8 +1,8 @@
 //! The command `asm SRC OUT`.
-ghost use Rattle.std.specs.Prelude.{◌≡◌, length, IfOk, List, ℕ};
-ghost use Rattle.std.specs.Prelude.{◌≡◌, ◌∷◌, [], length, IfOk, List, ℕ};
+ghost use Rattle.std.specs.Prelude.{◌≡◌, length, IfOk};
+ghost use Rattle.std.specs.Prelude.{◌≡◌, ◌∷◌, [], length, IfOk};
 ghost use Rattle.std.specs.Prelude.{codes};
-ghost use Rattle.command_parts.specs.{SeenOutputs.OutputHasNoFault, SeenOutputs.IsResultOf, Lines.line};
+ghost use Rattle.command_parts.specs.{SeenOutputs.IsResultOf, Lines.line};
 ghost use Rattle.build_commands.specs.Asm.{AsmMakes};
 
 use crate::written::written_image;
@@ -37,8 +37,3 @@ fn lines(alloc: Global, image: &Image) -> Result<Vec<Line>, AllocError>
     lines.push(labelled(alloc, "bytes ", image.bytes.len() as u128)?)?;
     Ok(lines)
 }
-
-/// A source that makes an output makes no fault.
-pub fn assembled_sources_have_no_fault()
-    ensures { (source : List ℕ) → OutputHasNoFault (AsmMakes source) }
-{}

@@ -1,23 +1,18 @@
 //! The commands `certify FCL TARGET OUT`, `certify16 ..`, and `tcertify ..` and `tcertify16 ..` for tight certificates.
-ghost use Rattle.std.specs.Prelude.{◌≡◌, ◌≤◌, IfOk, List, ℕ};
+ghost use Rattle.std.specs.Prelude.{◌≡◌, ◌≤◌, IfOk};
 ghost use Rattle.box_tree.specs.{Trees.leaf_count};
 ghost use Rattle.fz_status.specs.{Words.texts_of};
 ghost use Rattle.build_commands.specs.Certify.{CertifyMakes, certify_in, certify_lines};
-ghost use Rattle.build_commands.specs.declared.certify.Certify.{Certify as TheCertify};
-ghost use Rattle.command_parts.specs.SeenOutputs.{OutputHasNoFault, OutputsAreOne, IsResultOf};
+ghost use Rattle.command_parts.specs.SeenOutputs.{IsResultOf};
 
 use box_tree::{Cert, CertKind, Node, write_for};
 use byte_scaling::Width;
-use command_parts::certs::{halved, halved_blocks_do_not_stop};
+use command_parts::certs::halved;
 use command_parts::contents::Content;
-use command_parts::firmware::{
-    Form, firmware_of, given_firmwares_are_one, spelled_texts_have_no_fault,
-};
+use command_parts::firmware::{Form, firmware_of};
 use command_parts::lines::{labelled, push_errors};
 use command_parts::output::Output;
 use command_parts::words::{Number, number_in};
-use error_certifier::laws::answers_are_one;
-use fcl_check::laws::spelled_blocks_are_one;
 use fz_shelf::Line;
 use fz_status::{Status, word};
 use std::alloc::{AllocError, Global};
@@ -94,21 +89,4 @@ fn lines(alloc: Global, cert: &Cert) -> Result<Vec<Line>, AllocError>
     push_errors(alloc, &mut lines, "error ", errors)?;
     lines.push(labelled(alloc, "leaves ", u128::from(count_of_leaves(nodes)))?)?;
     Ok(lines)
-}
-
-/// A text that makes an output makes no fault.
-pub fn certified_texts_have_no_fault()
-    ensures { (certify : TheCertify) (text : List ℕ) → OutputHasNoFault (CertifyMakes certify text) }
-{
-    spelled_texts_have_no_fault();
-    spelled_blocks_are_one();
-    halved_blocks_do_not_stop()
-}
-
-/// A text makes at most one output.
-pub fn certify_outputs_are_one()
-    ensures { (certify : TheCertify) (text : List ℕ) → OutputsAreOne (CertifyMakes certify text) }
-{
-    given_firmwares_are_one();
-    answers_are_one()
 }

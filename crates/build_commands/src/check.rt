@@ -1,19 +1,16 @@
 //! The commands `check FCL CERT`, `check16 ..`, and `tcheck ..` and `tcheck16 ..` of tight certificates.
-ghost use Rattle.std.specs.Prelude.{◌≡◌, IfOk, List, ℕ};
-ghost use Rattle.std.specs.Prelude.{◌≡◌, IfOk, List, ℕ};
-ghost use Rattle.command_parts.specs.SeenOutputs.{OutputHasNoFault, OutputsAreOne, IsResultOf};
-ghost use Rattle.build_commands.specs.{Check.CheckMakes, Check.check_lines, declared.check.Check.Check as TheCheck};
+ghost use Rattle.std.specs.Prelude.{◌≡◌, IfOk};
+ghost use Rattle.std.specs.Prelude.{◌≡◌, IfOk};
+ghost use Rattle.command_parts.specs.SeenOutputs.{IsResultOf};
+ghost use Rattle.build_commands.specs.Check.{CheckMakes, check_lines};
 
 use box_tree::CertKind;
 use byte_scaling::Width;
-use command_parts::certs::{accepted_certs_have_no_fault, accepted_errors_are_one, errors_under};
+use command_parts::certs::errors_under;
 use command_parts::contents::Content;
-use command_parts::firmware::{
-    Form, firmware_of, given_firmwares_are_one, spelled_texts_have_no_fault,
-};
+use command_parts::firmware::{Form, firmware_of};
 use command_parts::lines::{labelled, push_errors};
 use command_parts::output::Output;
-use fcl_check::laws::spelled_blocks_are_one;
 use fz_shelf::Line;
 use fz_status::Status;
 use std::alloc::{AllocError, Global};
@@ -51,21 +48,4 @@ fn lines(alloc: Global, errors: &[u32], instructions: u32) -> Result<Vec<Line>, 
     push_errors(alloc, &mut lines, "error ", errors)?;
     lines.push(labelled(alloc, "instructions ", u128::from(instructions))?)?;
     Ok(lines)
-}
-
-/// A text and a certificate that make an output make no fault.
-pub fn checked_certs_have_no_fault()
-    ensures { (check : TheCheck) (text cert : List ℕ) → OutputHasNoFault (CheckMakes check text cert) }
-{
-    spelled_texts_have_no_fault();
-    spelled_blocks_are_one();
-    accepted_certs_have_no_fault()
-}
-
-/// Files make at most one output.
-pub fn check_outputs_are_one()
-    ensures { (check : TheCheck) (text cert : List ℕ) → OutputsAreOne (CheckMakes check text cert) }
-{
-    given_firmwares_are_one();
-    accepted_errors_are_one()
 }

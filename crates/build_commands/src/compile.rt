@@ -1,11 +1,10 @@
 //! The commands `compile FCL OUT`, `compile16 ..`, `mcompile ..` and `scompile ..`.
-ghost use Rattle.std.specs.Prelude.{List, ℕ};
-ghost use Rattle.command_parts.specs.SeenOutputs.{OutputHasNoFault, IsResultOf};
-ghost use Rattle.build_commands.specs.{Compile.CompileMakes, declared.compile.Compile.Compile as TheCompile};
+ghost use Rattle.command_parts.specs.SeenOutputs.{IsResultOf};
+ghost use Rattle.build_commands.specs.Compile.{CompileMakes};
 
 use crate::written::written_firmware;
 use command_parts::contents::Content;
-use command_parts::firmware::{Form, firmware_of, spelled_texts_have_no_fault};
+use command_parts::firmware::{Form, firmware_of};
 use command_parts::output::Output;
 use fz_status::Status;
 use std::alloc::Global;
@@ -29,11 +28,4 @@ impl Compile {
         let compiled = firmware_of(alloc, self.form, fcl)?;
         written_firmware(alloc, &compiled.firmware)
     }
-}
-
-/// A text that makes an output makes no fault.
-pub fn compiled_texts_have_no_fault()
-    ensures { (compile : TheCompile) (text : List ℕ) → OutputHasNoFault (CompileMakes compile text) }
-{
-    spelled_texts_have_no_fault()
 }

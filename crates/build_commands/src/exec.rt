@@ -1,25 +1,22 @@
 //! The command `exec IMAGE STEPS FLAGS`.
-ghost use Rattle.std.specs.Prelude.{◌≡◌, IfOk, List, ℕ};
-ghost use Rattle.std.specs.Prelude.{◌≡◌, ◌∷◌, [], IfOk, List, ℕ};
-ghost use Rattle.command_parts.specs.SeenOutputs.{OutputHasNoFault, OutputsAreOne, IsResultOf};
+ghost use Rattle.std.specs.Prelude.{◌≡◌, IfOk};
+ghost use Rattle.std.specs.Prelude.{◌≡◌, ◌∷◌, [], IfOk};
+ghost use Rattle.command_parts.specs.SeenOutputs.{IsResultOf};
 ghost use Rattle.build_commands.specs.Exec.{ExecMakes, exec_in, exec_line};
-ghost use Rattle.build_commands.specs.declared.exec.Exec.{Exec as TheExec};
 ghost use Rattle.fz_status.specs.Words.{texts_of};
 
 use command_parts::contents::Content;
-use command_parts::images::{given_records_have_no_fault, image_of};
+use command_parts::images::image_of;
 use command_parts::lines::told_registers;
 use command_parts::output::Output;
 use command_parts::words::{flags, number_in};
 use cpu12_asm::Image;
 use cpu12_emul::ends::RunEnd;
-use cpu12_emul::laws::{images_load_alike, runs_end_once};
 use cpu12_emul::machine::Machine;
 use cpu12_isa::instr::Regs;
 use cpu12_isa::pages::PageMem;
 use fz_shelf::Line;
 use fz_status::{Status, word};
-use srecord::laws::images_are_one;
 use std::alloc::{AllocError, Global};
 use std::fmt::Write;
 
@@ -77,23 +74,4 @@ fn lines(alloc: Global, regs: &Regs, steps: u32) -> Result<Vec<Line>, AllocError
     let mut lines = Vec::new(alloc);
     lines.push(line_of(alloc, regs, steps)?)?;
     Ok(lines)
-}
-
-/// Records that make an output make no fault.
-pub fn ended_runs_have_no_fault()
-    ensures { (exec : TheExec) (text : List ℕ) → OutputHasNoFault (ExecMakes exec text) }
-{
-    given_records_have_no_fault();
-    images_are_one();
-    images_load_alike();
-    runs_end_once()
-}
-
-/// A text makes at most one output.
-pub fn exec_outputs_are_one()
-    ensures { (exec : TheExec) (text : List ℕ) → OutputsAreOne (ExecMakes exec text) }
-{
-    images_are_one();
-    images_load_alike();
-    runs_end_once()
 }

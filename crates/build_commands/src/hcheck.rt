@@ -1,11 +1,11 @@
 //! The command `hcheck HANDLER`.
-ghost use Rattle.std.specs.Prelude.{◌≡◌, codes, IfOk, List, ℕ};
-ghost use Rattle.std.specs.Prelude.{◌≡◌, ◌∷◌, [], codes, IfOk, List, ℕ};
-ghost use Rattle.command_parts.specs.{SeenOutputs.OutputHasNoFault, SeenOutputs.IsResultOf, Lines.line};
+ghost use Rattle.std.specs.Prelude.{◌≡◌, codes, IfOk};
+ghost use Rattle.std.specs.Prelude.{◌≡◌, ◌∷◌, [], codes, IfOk};
+ghost use Rattle.command_parts.specs.{SeenOutputs.IsResultOf, Lines.line};
 ghost use Rattle.build_commands.specs.Hcheck.{HcheckMakes};
 
 use command_parts::contents::Content;
-use command_parts::handlers::{given_handlers_have_no_fault, handler_of};
+use command_parts::handlers::handler_of;
 use command_parts::lines::labelled;
 use command_parts::output::Output;
 use fz_shelf::Line;
@@ -32,11 +32,4 @@ fn lines(alloc: Global, handler: Handler) -> Result<Vec<Line>, AllocError>
     let mut lines = Vec::new(alloc);
     lines.push(labelled(alloc, "handler instructions ", u128::from(handler.instrs))?)?;
     Ok(lines)
-}
-
-/// Records that make an output make no fault.
-pub fn checked_handlers_have_no_fault()
-    ensures { (text : List ℕ) → OutputHasNoFault (HcheckMakes text) }
-{
-    given_handlers_have_no_fault()
 }

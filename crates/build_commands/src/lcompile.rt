@@ -1,13 +1,12 @@
 //! The command `lcompile SLOW FAST OUT`.
-ghost use Rattle.std.specs.Prelude.{◌≡◌, length, IfOk, List, ℕ};
-ghost use Rattle.std.specs.Prelude.{◌≡◌, length, IfOk, List, ℕ};
+ghost use Rattle.std.specs.Prelude.{◌≡◌, length, IfOk};
+ghost use Rattle.std.specs.Prelude.{◌≡◌, length, IfOk};
 ghost use Rattle.two_level_code.specs.Images.{fast_most};
-ghost use Rattle.command_parts.specs.SeenOutputs.{OutputHasNoFault, IsResultOf};
+ghost use Rattle.command_parts.specs.SeenOutputs.{IsResultOf};
 ghost use Rattle.build_commands.specs.Lcompile.{LcompileMakes, lcompile_lines};
 
 use crate::written::written_image;
 use command_parts::contents::Content;
-use command_parts::firmware::spelled_texts_have_no_fault;
 use command_parts::lines::labelled;
 use command_parts::output::Output;
 use command_parts::twos::two_of;
@@ -44,11 +43,4 @@ fn lines(alloc: Global, two: &Two) -> Result<Vec<Line>, AllocError>
     lines.push(labelled(alloc, "fast ", u128::from(two.fast_bound()))?)?;
     lines.push(labelled(alloc, "bytes ", two.image.bytes.len() as u128)?)?;
     Ok(lines)
-}
-
-/// Texts that make an output make no fault.
-pub fn two_texts_have_no_fault()
-    ensures { (slow fast : List ℕ) → OutputHasNoFault (LcompileMakes slow fast) }
-{
-    spelled_texts_have_no_fault()
 }

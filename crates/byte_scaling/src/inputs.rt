@@ -2,7 +2,7 @@
 ghost use Rattle.std.specs.Prelude.{◌≡◌, ◌↔◌, ◌+◌, IsOk, IfOk};
 ghost use Rattle.fz_num.specs.Fractions.{over, fraction_of, IsTruth};
 ghost use Rattle.fuzzy_meaning.specs.Blocks.{IsValidInput, IsWithin};
-ghost use Rattle.byte_scaling.specs.Cells.{byte_of, LiesInCell, CellsAreApart, NumbersLieInTheirCells, BytesAscend};
+ghost use Rattle.byte_scaling.specs.Cells.{byte_of, LiesInCell};
 
 use fuzzy_meaning::Input;
 use fz_num::{Dec, Frac};
@@ -52,18 +52,3 @@ pub fn cell(_input: &Input, b: u8) -> (Frac, Frac)
         },
     )
 }
-
-/// No place of a range lies in two cells.
-pub fn cells_are_apart()
-    ensures { CellsAreApart }
-{}
-
-/// A number of an input's range lies in the cell of its byte.
-pub fn numbers_lie_in_their_cells()
-    ensures { NumbersLieInTheirCells }
-{}
-
-/// A greater number of an input's range has no lower byte.
-pub fn bytes_ascend()
-    ensures { BytesAscend }
-{}

@@ -8,14 +8,12 @@
 #![tactic(auto)]
 
 mod inputs;
+pub mod laws;
 mod outputs;
 mod weights;
 mod width;
 
-pub use inputs::{
-    OutOfRange, byte_within, bytes_ascend, cell, cells_are_apart, numbers_lie_in_their_cells,
-    to_byte,
-};
-pub use outputs::{near, nearest_is_byte, value, value16};
+pub use inputs::{OutOfRange, byte_within, cell, to_byte};
+pub use outputs::{near, value, value16};
 pub use weights::weight_byte;
 pub use width::Width;

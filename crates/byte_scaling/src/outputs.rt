@@ -2,8 +2,10 @@
 ghost use Rattle.std.specs.Prelude.{◌≡◌, pos};
 ghost use Rattle.fz_num.specs.Decimals.{distance};
 ghost use Rattle.fuzzy_meaning.specs.Blocks.{IsValidOutput, IsWithin};
-ghost use Rattle.byte_scaling.specs.Cells.{value_of, wide_value_of, nearest_byte, NearestIsByte, IsNearest};
+ghost use Rattle.byte_scaling.specs.Widths.{parts};
+ghost use Rattle.byte_scaling.specs.Cells.{value_in, value_of, wide_value_of, nearest_byte, IsNearest};
 
+use crate::Width;
 use fuzzy_meaning::Output;
 use fz_num::{Dec, Frac};
 
@@ -13,11 +15,7 @@ pub fn value(output: &Output, q: u8) -> Frac
     ensures num { result.num ≡ (value_of output.now q).num }
     ensures den { result.den ≡ pos (value_of output.now q).den }
 {
-    let above = u64::from(q) * output.hi.above(output.lo);
-    Frac {
-        num: 255 * i128::from(output.lo.0) + i128::from(above),
-        den: 2_550_000,
-    }
+    value_for(output, u16::from(q), Width::Byte)
 }
 
 /// The number that an answer of 16 bits stands for: a/65280 of the range above its low end, in units
@@ -27,10 +25,20 @@ pub fn value16(output: &Output, a: u16) -> Frac
     ensures num { result.num ≡ (wide_value_of output.now a).num }
     ensures den { result.den ≡ pos (wide_value_of output.now a).den }
 {
+    value_for(output, a, Width::Word)
+}
+
+/// The number that an answer of this width stands for, in units of 1.
+fn value_for(output: &Output, a: u16, width: Width) -> Frac
+    requires { IsValidOutput output.now }
+    ensures num { result.num ≡ (value_in (parts width) output.now a).num }
+    ensures den { result.den ≡ pos (value_in (parts width) output.now a).den }
+{
+    let parts = 255 * u32::from(width.parts());
     let above = u64::from(a) * output.hi.above(output.lo);
     Frac {
-        num: 65280 * i128::from(output.lo.0) + i128::from(above),
-        den: 652_800_000,
+        num: i128::from(parts) * i128::from(output.lo.0) + i128::from(above),
+        den: i128::from(10_000 * parts),
     }
 }
 
@@ -45,8 +53,3 @@ pub fn near(output: &Output, x: Dec) -> u8
     let above = x.above(output.lo);
     ((510 * above + width) / (2 * width)) as u8
 }
-
-/// The byte nearest to a number of the range is a byte.
-pub fn nearest_is_byte()
-    ensures { NearestIsByte }
-{}

@@ -6,8 +6,9 @@ ghost use Rattle.cell_bounds.specs.Cells.{IsCell, IsErrorOnCell, IsUnsure};
 ghost use Rattle.cell_bounds.specs.CellBounds.{HasCellBound, IsCellBound, IsCellCount};
 
 use crate::masses::cell_masses;
-use cell_error::covered_masses_have_errors;
-use error_bound::{BoxTable, tight_bounds_are_one, tight_bounds_are_small};
+use cell_error::laws::covered_masses_have_errors;
+use error_bound::BoxTable;
+use error_bound::laws::{tight_bounds_are_one, tight_bounds_are_small};
 use fuzzy_meaning::Block;
 
 /// The error of a cell for an output, for answers in so many parts to a byte: how far its answer may be

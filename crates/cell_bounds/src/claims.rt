@@ -3,14 +3,11 @@ ghost use Rattle.std.specs.Prelude.{◌≤◌, length, IfSome};
 ghost use Rattle.std.specs.Option.{option_map_or};
 ghost use Rattle.fuzzy_meaning.specs.Blocks.{IsValid, output_at};
 ghost use Rattle.error_bound.specs.Reaches.{IsTable};
-ghost use Rattle.cell_bounds.specs.Claims.{HasClaimBound, IsOfKind, IsBoxCount, ClaimAnswersAreNear};
-ghost use Rattle.cell_bounds.specs.Claims.{ClaimBoundsAreOne, ClaimBoundsFallWithParts, TightClaimsAreLeast};
-ghost use Rattle.cell_bounds.specs.Claims.{CountsAreLeast, BoxCountsAreOne, CountsAreOne};
+ghost use Rattle.cell_bounds.specs.Claims.{HasClaimBound, IsOfKind, IsBoxCount};
 
-use crate::laws::boxes_of_cells_answer;
 use box_tree::CertKind;
-use error_bound::{BoxTable, Leaf, best_bounds_are_least, best_leaves_are_one, best_leaves_hold, tight_answers_are_near, tight_bounds_are_least, tight_bounds_are_one, tight_bounds_fall_with_parts, tight_bounds_hold_inside};
-use error_bound::laws::{answers_are_near, bounds_are_determined, bounds_fall_with_parts, faulty_leaves_fail};
+use error_bound::laws::{best_leaves_hold, faulty_leaves_fail};
+use error_bound::{BoxTable, Leaf};
 use fuzzy_meaning::Block;
 
 /// What a leaf says of an output.
@@ -79,63 +76,4 @@ fn best_pair(block: &Block, table: &BoxTable, out: u8, parts: u16) -> Option<(Cl
         Ok(bound) => Some((Claim::Pair(leaf), bound)),
         Err(_) => unreachable!(),
     }
-}
-
-/// Where a claim holds, an answer over bytes is within its Bound of the exact answer, or both are
-/// those before.
-pub fn claim_answers_are_near()
-    ensures { ClaimAnswersAreNear }
-{
-    answers_are_near();
-    tight_answers_are_near();
-    boxes_of_cells_answer();
-}
-
-/// A claim has one Bound on a box.
-pub fn claim_bounds_are_one()
-    ensures { ClaimBoundsAreOne }
-{
-    bounds_are_determined();
-    tight_bounds_are_one();
-}
-
-/// It is no greater for answers in more parts to a byte, but where it names cells.
-pub fn claim_bounds_fall_with_parts()
-    ensures { ClaimBoundsFallWithParts }
-{
-    bounds_fall_with_parts();
-    tight_bounds_fall_with_parts();
-}
-
-/// Where a claim that is not of cells holds, the tight one does, and its Bound is no greater.
-pub fn tight_claims_are_least()
-    ensures { TightClaimsAreLeast }
-{
-    tight_bounds_are_least();
-}
-
-/// No claim on a box around a cell has a smaller Bound than the cell's count: of the named kind no pair, of the
-/// tight kind none at all.
-pub fn counts_are_least()
-    ensures { CountsAreLeast }
-{
-    best_bounds_are_least();
-    tight_bounds_are_least();
-    tight_bounds_hold_inside();
-}
-
-/// A box has one count of a kind.
-pub fn box_counts_are_one()
-    ensures { BoxCountsAreOne }
-{
-    best_leaves_are_one();
-    bounds_are_determined();
-    tight_bounds_are_one();
-}
-
-/// A cell has one count of a kind.
-pub fn counts_are_one()
-    ensures { CountsAreOne }
-{
-    box_counts_are_one();
 }

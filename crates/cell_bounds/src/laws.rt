@@ -2,8 +2,14 @@
 ghost use Rattle.cell_bounds.specs.Cells.{AnswersOnCellsAreNear, ErrorsOnCellsAreOne, UnsureCellsHaveNone};
 ghost use Rattle.cell_bounds.specs.CellBounds.{BoxesOfCellsAnswer, CellCountsAreOne, CellsBoundsAreOne};
 ghost use Rattle.cell_bounds.specs.CellBounds.{CellsBoundsFallInside};
+ghost use Rattle.cell_bounds.specs.Claims.{ClaimAnswersAreNear, ClaimBoundsAreOne, ClaimBoundsFallWithParts};
+ghost use Rattle.cell_bounds.specs.Claims.{TightClaimsAreLeast, CountsAreLeast, BoxCountsAreOne, CountsAreOne};
 
-use error_bound::{answers_to_masses_are_near, tight_answers_are_near};
+use error_bound::laws::{
+    answers_are_near, answers_to_masses_are_near, best_bounds_are_least, best_leaves_are_one,
+    bounds_are_determined, bounds_fall_with_parts, tight_answers_are_near, tight_bounds_are_least,
+    tight_bounds_are_one, tight_bounds_fall_with_parts, tight_bounds_hold_inside,
+};
 
 /// On a cell that has an error, the answer over bytes is within it of the exact answer.
 pub fn answers_on_cells_are_near()
@@ -45,3 +51,62 @@ pub fn cells_bounds_are_one()
 pub fn cells_bounds_fall_inside()
     ensures { CellsBoundsFallInside }
 {}
+
+/// Where a claim holds, an answer over bytes is within its Bound of the exact answer, or both are
+/// those before.
+pub fn claim_answers_are_near()
+    ensures { ClaimAnswersAreNear }
+{
+    answers_are_near();
+    tight_answers_are_near();
+    boxes_of_cells_answer();
+}
+
+/// A claim has one Bound on a box.
+pub fn claim_bounds_are_one()
+    ensures { ClaimBoundsAreOne }
+{
+    bounds_are_determined();
+    tight_bounds_are_one();
+}
+
+/// It is no greater for answers in more parts to a byte, but where it names cells.
+pub fn claim_bounds_fall_with_parts()
+    ensures { ClaimBoundsFallWithParts }
+{
+    bounds_fall_with_parts();
+    tight_bounds_fall_with_parts();
+}
+
+/// Where a claim that is not of cells holds, the tight one does, and its Bound is no greater.
+pub fn tight_claims_are_least()
+    ensures { TightClaimsAreLeast }
+{
+    tight_bounds_are_least();
+}
+
+/// No claim on a box around a cell has a smaller Bound than the cell's count: of the named kind no pair, of the
+/// tight kind none at all.
+pub fn counts_are_least()
+    ensures { CountsAreLeast }
+{
+    best_bounds_are_least();
+    tight_bounds_are_least();
+    tight_bounds_hold_inside();
+}
+
+/// A box has one count of a kind.
+pub fn box_counts_are_one()
+    ensures { BoxCountsAreOne }
+{
+    best_leaves_are_one();
+    bounds_are_determined();
+    tight_bounds_are_one();
+}
+
+/// A cell has one count of a kind.
+pub fn counts_are_one()
+    ensures { CountsAreOne }
+{
+    box_counts_are_one();
+}

@@ -9,8 +9,5 @@ mod masses;
 mod walks;
 
 pub use cells::{cell_bound, cell_error};
-pub use claims::{
-    Claim, best_claim, box_counts_are_one, claim_answers_are_near, claim_bounds_are_one,
-    claim_bounds_fall_with_parts, counts_are_least, counts_are_one, tight_claims_are_least,
-};
+pub use claims::{Claim, best_claim};
 pub use walks::{CellAbove, MOST_CELLS, cells_bounds, has_few_cells, low_bytes, sure_cells_bounds};

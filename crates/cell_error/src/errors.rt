@@ -2,7 +2,7 @@
 ghost use Rattle.std.specs.Prelude.{◌≡◌, ◌≤◌, ◌<◌, ◌*◌, ◌↔◌, ℕ, All, length, IsTrue};
 ghost use Rattle.fz_num.specs.Fractions.{over};
 ghost use Rattle.cell_error.specs.Errors.{IsAnswer, IsRange, weighted, total, answer_of, IsWithin, Covers};
-ghost use Rattle.cell_error.specs.Errors.{IsCellError, CoveredMassesHaveErrors};
+ghost use Rattle.cell_error.specs.Errors.{IsCellError};
 ghost use Rattle.cell_error.specs.Cuts.{is_high, masses, IsErrorAt, IsSmall};
 ghost use Rattle.cell_error.specs.declared.errors.Cut.TheVariants.{Nowhere, AtLeast, AtMost};
 
@@ -58,11 +58,6 @@ pub fn serves(terms: &[MassRange], rest: u64, answer: Answer, error: u32) -> boo
     let rests = rest_serves(terms, rest, step, top, bottom, answer.width);
     are_all(up, down, rests)
 }
-
-/// Where an error serves for all masses there is a least one, which is no greater.
-pub fn covered_masses_have_errors()
-    ensures { CoveredMassesHaveErrors }
-{}
 
 fn are_all(up: bool, down: bool, rests: bool) -> bool
     ensures all { IsTrue result → IsTrue up × IsTrue down × IsTrue rests }

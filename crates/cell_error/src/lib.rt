@@ -3,7 +3,8 @@
 #![tactic(auto)]
 
 mod errors;
+pub mod laws;
 mod ranges;
 
-pub use errors::{covered_masses_have_errors, least_error, serves};
+pub use errors::{least_error, serves};
 pub use ranges::{Answer, MassRange};

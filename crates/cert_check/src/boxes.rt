@@ -5,8 +5,8 @@ ghost use Rattle.error_bound.specs.Boxes.{IsBox};
 ghost use Rattle.cert_check.specs.Trees.{whole, left_of, right_of, IsCut};
 ghost use Rattle.cert_check.specs.Walks.{stack_of, AreCutOut};
 
-use crate::box_laws::cuts_have_halves;
 use crate::checker::CheckFault;
+use crate::laws::cuts_have_halves;
 use arrayvec::ArrayVec;
 use error_bound::{ByteBox, Interval};
 use fuzzy_meaning::Block;

@@ -2,16 +2,17 @@
 ghost use Rattle.cert_check.specs.Laws.{OneLeafHasTheBytes, AcceptedAnswersAreNear, ErrorsAreDetermined};
 ghost use Rattle.cert_check.specs.Laws.{FaultyCertsFail, CheckFaultsAreOne, TextAnswersAreOne, NamedCertsHaveNoCells};
 ghost use Rattle.cert_check.specs.Laws.{WideIsAccepted, WideTextsAreAccepted, TightIsAccepted, TightTextsAreAccepted};
-ghost use Rattle.cert_check.specs.Examples.{ExamplesAreAccepted};
+ghost use Rattle.cert_check.specs.BoxLaws.{CutsHaveHalves, LeavesAreAround};
+ghost use Rattle.cert_check.specs.{Examples.ExamplesAreAccepted};
 
 use box_tree::laws::{cert_texts_have_no_fault, certs_are_one, faults_are_one};
-use byte_scaling::numbers_lie_in_their_cells;
-use cell_bounds::{
+use byte_scaling::laws::numbers_lie_in_their_cells;
+use cell_bounds::laws::{
     claim_answers_are_near, claim_bounds_are_one, claim_bounds_fall_with_parts,
     tight_claims_are_least,
 };
 use error_bound::laws::{faulty_leaves_fail, leaf_faults_are_one, term_errors_are};
-use fuzzy_meaning::examples_are_valid;
+use fuzzy_meaning::laws::examples_are_valid;
 
 /// Each list of bytes of a box lies in exactly one leaf of a tree over it.
 pub fn one_leaf_has_the_bytes()
@@ -106,3 +107,14 @@ pub fn text_answers_are_one()
     cert_texts_have_no_fault();
     check_faults_are_one();
 }
+
+/// A cut inside an interval of a box has halves, which are boxes again.
+pub fn cuts_have_halves()
+    ensures { CutsHaveHalves }
+{}
+
+/// Under an accepted certificate each list of bytes has for each output a leaf around it that holds,
+/// with a Bound of at most the output's error.
+pub fn leaves_are_around()
+    ensures { LeavesAreAround }
+{}

@@ -9,7 +9,6 @@
 //! these stands once for all kinds of leaf.
 #![tactic(auto)]
 
-mod box_laws;
 mod boxes;
 mod checker;
 pub mod laws;
@@ -17,7 +16,6 @@ mod leaves;
 mod text;
 mod walk;
 
-pub use box_laws::{cuts_have_halves, leaves_are_around};
 pub use boxes::{halves, whole_box};
 pub use checker::{CheckFault, check, check_for, check16};
 pub use leaves::raise;

@@ -3,8 +3,8 @@ ghost use Rattle.std.specs.Prelude.{◌≤◌, All, IfOk, IfErr};
 ghost use Rattle.box_tree.specs.Certificates.{IsCert};
 ghost use Rattle.error_certifier.specs.Halving.{IsHalving};
 ghost use Rattle.fuzzy_meaning.specs.Blocks.{IsValid};
-ghost use Rattle.command_parts.specs.Certs.{AcceptedCertsHaveNoFault, AcceptedErrorsAreOne, AcceptsCert};
-ghost use Rattle.command_parts.specs.Certs.{HalvedBlocksDoNotStop, cert_refusals, target_refusals};
+ghost use Rattle.command_parts.specs.Certs.{AcceptsCert};
+ghost use Rattle.command_parts.specs.Certs.{cert_refusals, target_refusals};
 ghost use Rattle.byte_scaling.specs.Widths.{parts};
 ghost use Rattle.fz_status.specs.Refusals.{IsRefusal};
 
@@ -12,9 +12,7 @@ use crate::contents::Content;
 use box_tree::{Cert, CertKind};
 use byte_scaling::Width;
 use cert_check::check_text_for;
-use cert_check::laws::text_answers_are_one;
 use error_certifier::certify_for;
-use error_certifier::laws::answers_are_one;
 use fuzzy_meaning::Block;
 use fz_status::Status;
 use std::alloc::Global;
@@ -35,20 +33,6 @@ pub fn errors_under(
     Ok(check_text_for(alloc, block, cert.bytes(), kind, width)?)
 }
 
-/// A certificate that a block accepts is not refused.
-pub fn accepted_certs_have_no_fault()
-    ensures { AcceptedCertsHaveNoFault }
-{
-    text_answers_are_one()
-}
-
-/// A certificate is accepted with one list of errors.
-pub fn accepted_errors_are_one()
-    ensures { AcceptedErrorsAreOne }
-{
-    text_answers_are_one()
-}
-
 /// The certificate of this kind of a block's halving, for answers of this width.
 pub fn halved(
     alloc: Global,
@@ -65,11 +49,4 @@ pub fn halved(
     ensures stops { IfErr result (IsRefusal (target_refusals kind width target block.now)) }
 {
     Ok(certify_for(alloc, block, target, kind, width)?)
-}
-
-/// Halving does not stop at a block with a certificate of it.
-pub fn halved_blocks_do_not_stop()
-    ensures { HalvedBlocksDoNotStop }
-{
-    answers_are_one()
 }

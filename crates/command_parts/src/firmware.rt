@@ -4,24 +4,18 @@ ghost use Rattle.fuzzy_meaning.specs.Blocks.{IsValid};
 ghost use Rattle.rule_layout.specs.Layouts.{flat_of, IsFaultOf, IsLaidOut, IsWithinLimits};
 ghost use Rattle.fcl_check.specs.Texts.{SpellsBlock};
 ghost use Rattle.command_parts.specs.Firmwares.{GivesBlock, GivesFirmware, IsOfForm, text_refusals};
-ghost use Rattle.command_parts.specs.Firmwares.{GivenFirmwaresAreOne, SpelledTextsHaveNoFault};
 ghost use Rattle.fz_status.specs.Refusals.{IsRefusal};
 
 use crate::contents::Content;
 use alone_code::{Firmware, compile_for, compile_post};
-use alone_code::laws::{firmwares_are_one, mailboxes_are_one};
 use byte_scaling::Width;
 use fcl_check::load;
-use fcl_check::laws::{load_faults_are_one, spelled_blocks_are_one};
 use fcl_syntax::parse;
-use fcl_syntax::laws::first_faults_are_one;
 use fuzzy_meaning::Block;
 use fz_status::Status;
 use rule_layout::{Flat, LayoutFault, spread};
-use rule_layout::laws::limits_have_no_fault;
 use std::alloc::Global;
 use watched_code::compile_scrub;
-use watched_code::laws::watched_firmwares_are_one;
 
 /// A block with its firmware.
 #[derive(Drop)]
@@ -95,24 +89,4 @@ fn block_of(alloc: Global, text: &Content) -> Result<Block, Status>
 {
     let tree = parse(alloc, text.bytes())?;
     Ok(load(alloc, &tree)?)
-}
-
-/// A text that spells a block within the limits has no fault.
-pub fn spelled_texts_have_no_fault()
-    ensures { SpelledTextsHaveNoFault }
-{
-    first_faults_are_one();
-    load_faults_are_one();
-    spelled_blocks_are_one();
-    limits_have_no_fault()
-}
-
-/// A text gives one block, and one firmware of each form.
-pub fn given_firmwares_are_one()
-    ensures { GivenFirmwaresAreOne }
-{
-    spelled_blocks_are_one();
-    firmwares_are_one();
-    mailboxes_are_one();
-    watched_firmwares_are_one()
 }

@@ -1,15 +1,13 @@
 //! The handler that a text of records gives.
 ghost use Rattle.std.specs.Prelude.{IfOk, IfErr};
-ghost use Rattle.command_parts.specs.Handlers.{GivesHandler, GivenHandlersHaveNoFault, handler_refusals};
+ghost use Rattle.command_parts.specs.Handlers.{GivesHandler, handler_refusals};
 ghost use Rattle.fz_status.specs.Refusals.{IsRefusal};
 
 use crate::contents::Content;
-use crate::images::{given_records_have_no_fault, image_of};
+use crate::images::image_of;
 use cpu12_asm::Image;
 use fz_status::Status;
-use handler_check::laws::handlers_have_no_fault;
 use handler_check::{Handler, check_handler};
-use srecord::laws::images_are_one;
 use std::alloc::Global;
 
 /// A handler that was accepted, with its image.
@@ -30,13 +28,4 @@ pub fn handler_of(alloc: Global, records: &Content) -> Result<AcceptedHandler, S
     let image = image_of(alloc, records)?;
     let handler = check_handler(alloc, &image)?;
     Ok(AcceptedHandler { image, handler })
-}
-
-/// Records that give a handler have no fault.
-pub fn given_handlers_have_no_fault()
-    ensures { GivenHandlersHaveNoFault }
-{
-    images_are_one();
-    given_records_have_no_fault();
-    handlers_have_no_fault()
 }

@@ -1,14 +1,13 @@
 //! From a text to its image.
 ghost use Rattle.std.specs.Prelude.{IfOk, IfErr, OnOk};
 ghost use Rattle.srecord.specs.Texts.{GivesImage};
-ghost use Rattle.command_parts.specs.Images.{GivenImagesHaveNoFault, GivenRecordsHaveNoFault, image_refusals};
+ghost use Rattle.command_parts.specs.Images.{image_refusals};
 ghost use Rattle.command_parts.specs.Images.{records_refusals};
 ghost use Rattle.fz_status.specs.Refusals.{IsRefusal};
 
 use crate::contents::Content;
 use cpu12_asm::Image;
 use fz_status::{ImageFault, Status};
-use srecord::laws::images_are_one;
 use std::alloc::Global;
 
 /// The image that a text of records gives, or the status of its first fault.
@@ -37,18 +36,4 @@ pub fn require_image(alloc: Global, text: &Content, wanted: &Image) -> Result<()
         }
         None => Ok(()),
     }
-}
-
-/// Records that give an image have no fault for it.
-pub fn given_images_have_no_fault()
-    ensures { GivenImagesHaveNoFault }
-{
-    images_are_one()
-}
-
-/// Nor are they refused as records.
-pub fn given_records_have_no_fault()
-    ensures { GivenRecordsHaveNoFault }
-{
-    images_are_one()
 }

@@ -11,6 +11,7 @@ pub mod contents;
 pub mod firmware;
 pub mod handlers;
 pub mod images;
+pub mod laws;
 pub mod lines;
 pub mod output;
 pub mod twos;

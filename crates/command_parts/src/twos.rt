@@ -1,16 +1,14 @@
 //! From two texts to their blocks, and to the firmware of both at two levels.
 ghost use Rattle.std.specs.Prelude.{IfOk, IfErr};
-ghost use Rattle.command_parts.specs.Twos.{GivenTwosAreOne, GivesTwo, two_refusals};
+ghost use Rattle.command_parts.specs.Twos.{GivesTwo, two_refusals};
 ghost use Rattle.fz_status.specs.Refusals.{IsRefusal};
 
 use crate::contents::Content;
 use crate::firmware::laid_out_block_of;
-use fcl_check::laws::spelled_blocks_are_one;
 use fuzzy_meaning::Block;
 use fz_status::Status;
 use std::alloc::Global;
 use two_level_code::{Two, compile_two_laid_out};
-use two_level_code::laws::twos_are_one;
 
 /// A slow and a fast block with the firmware of both.
 #[derive(Drop)]
@@ -40,12 +38,4 @@ pub fn two_of(alloc: Global, slow: &Content, fast: &Content) -> Result<CompiledT
         fast: fast.block,
         two,
     })
-}
-
-/// Two texts give two blocks, and one firmware of both.
-pub fn given_twos_are_one()
-    ensures { GivenTwosAreOne }
-{
-    spelled_blocks_are_one();
-    twos_are_one()
 }

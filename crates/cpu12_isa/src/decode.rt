@@ -2,7 +2,7 @@
 ghost use Rattle.std.specs.Prelude.{ℕ, ◌≡◌, ◌+◌, ◌*◌, ◌/◌, ◌%◌, ◌^◌, ◌<◌, IfOk, IfErr, MatchResult, length};
 ghost use Rattle.std.specs.Prelude.{slice_index};
 ghost use Rattle.cpu12_isa.specs.Memory.{plus, word_of, high_of, low_of};
-ghost use Rattle.cpu12_isa.specs.Code.{decode_at, encode_of, StandsAt, FitsOperands, DecodesEncoded};
+ghost use Rattle.cpu12_isa.specs.Code.{decode_at, encode_of, StandsAt, FitsOperands};
 
 use crate::encode::encode;
 use crate::instr::{Instr, Trap};
@@ -172,8 +172,3 @@ pub fn decode<M: Mem>(m: &M, pc: u16) -> Result<(Instr, u8), Trap>
         Err(trap) => Err(trap),
     }
 }
-
-/// What was encoded is decoded, wherever it stands.
-pub fn decodes_encoded()
-    ensures { DecodesEncoded }
-{}

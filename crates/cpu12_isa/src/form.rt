@@ -1,6 +1,6 @@
 //! The table of instruction forms.
 ghost use Rattle.std.specs.Prelude.{◌≡◌};
-ghost use Rattle.cpu12_isa.specs.Forms.{form_of, every};
+ghost use Rattle.cpu12_isa.specs.Forms.{form_of};
 
 use crate::instr::Instr;
 use crate::mnemonic::Mnemonic;
@@ -200,8 +200,3 @@ pub const EVERY: [Instr; 56] = [
     Instr::Wav,
     Instr::Wavr,
 ];
-
-/// [`EVERY`] has an instruction of each form of the table.
-pub fn every_form_stands()
-    ensures { EVERY ≡ every }
-{}

@@ -1,9 +1,10 @@
 //! Laws of instructions and memories.
-ghost use Rattle.cpu12_isa.specs.{Meaning.Effect, Code.DecodedHasOpcode, Watching.NothingIsWatched};
+ghost use Rattle.std.specs.Prelude.{◌≡◌, ◌/◌};
+ghost use Rattle.cpu12_isa.specs.Code.{DecodedHasOpcode, DecodesEncoded};
 ghost use Rattle.cpu12_isa.specs.Fits.{StaysFit, BytesStay, DecodedFits, EncodedIsShort, EncodedAreBytes};
 ghost use Rattle.cpu12_isa.specs.Agreement.{ReadsAlone, WritesAgree, WritesStay};
 ghost use Rattle.cpu12_isa.specs.Interrupts.{FrameComesBack, HidesMoreAbove, ShowsFromSp, HidesPushed};
-ghost use Rattle.cpu12_isa.specs.Pages.{GivenAreWritten};
+ghost use Rattle.cpu12_isa.specs.{Meaning.Effect, Watching.NothingIsWatched, Pages.GivenAreWritten, Forms.every};
 
 /// What an instruction does depends on the bytes that it reads alone.
 pub fn reads_alone()
@@ -67,4 +68,14 @@ pub fn stack_is_hidden()
     ensures more { HidesMoreAbove }
     ensures shown { ShowsFromSp }
     ensures pushed { HidesPushed }
+{}
+
+/// [`EVERY`] has an instruction of each form of the table.
+pub fn every_form_stands()
+    ensures { EVERY ≡ every }
+{}
+
+/// What was encoded is decoded, wherever it stands.
+pub fn decodes_encoded()
+    ensures { DecodesEncoded }
 {}

@@ -1,10 +1,12 @@
 //! Laws of the parts.
-ghost use Rattle.cpu12_parts.specs.{Parts.kind_by, Parts.rev, Parts.revw, Parts.wav, Fits.PartFits, Owed.OverCuts};
+ghost use Rattle.cpu12_parts.specs.Parts.{kind_by, rev, revw, wav};
 ghost use Rattle.cpu12_parts.specs.Inside.{own_address, second_byte, GoesOnAt, LeavesSums, WritesNothing};
 ghost use Rattle.cpu12_parts.specs.Inside.{PushesRunning, PushesNone};
 ghost use Rattle.cpu12_parts.specs.Laws.{AreKept, Any, GoesOn, WritesBelow, KeepsNothing, IsSteady};
 ghost use Rattle.cpu12_parts.specs.Laws.{CutsChangeNothing, RevIsWhole, RevwIsWhole, WavIsWhole, RevOverCuts};
 ghost use Rattle.cpu12_parts.specs.Laws.{RevwOverCuts, WavOverCuts};
+ghost use Rattle.cpu12_parts.specs.Executions.{WholeStepsAreOne, ExecutionsAreOne};
+ghost use Rattle.cpu12_parts.specs.{Fits.PartFits, Owed.OverCuts};
 
 use crate::temps::Resumable;
 use cpu12_isa::laws::writes_agree;
@@ -162,4 +164,14 @@ pub fn wav_stays()
 pub fn wav_suspends()
     ensures running { PushesRunning }
     ensures none { PushesNone }
+{}
+
+/// A whole instruction leads to one state, by one number of parts.
+pub fn whole_steps_are_one()
+    ensures { WholeStepsAreOne }
+{}
+
+/// Whole instructions come to one first state that stops, in one way.
+pub fn executions_are_one()
+    ensures { ExecutionsAreOne }
 {}

@@ -6,7 +6,6 @@
 //! takes it back. No call takes memory.
 #![tactic(auto)]
 
-pub mod executions;
 pub mod laws;
 pub mod rules;
 pub mod temps;

@@ -10,8 +10,8 @@ ghost use Rattle.error_bound.specs.Reaches.{span_of, byte_span_of, IsSmall, AreB
 use crate::ratio::Ratio;
 use crate::reaches::{Literal, Reach, literal_in, reach_of_literal};
 use crate::tables::BoxTerms;
-use fuzzy_meaning::{Block, Condition, Node};
 use fuzzy_meaning::laws::parts_are_valid;
+use fuzzy_meaning::{Block, Condition, Node};
 
 /// The greatest truth of a reach, or the least: of degrees, and over bytes.
 #[derive(Clone, Copy)]

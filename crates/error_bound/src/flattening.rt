@@ -6,7 +6,6 @@
 ghost use Rattle.std.specs.Prelude.{◌≡◌, IfOk, OnOk};
 ghost use Rattle.fuzzy_meaning.specs.Conditions.{conditions, group, under as under_of};
 ghost use Rattle.error_bound.specs.Flattening.{followed, parts as parts_of, flat_under, flat_parts, flat};
-ghost use Rattle.error_bound.specs.Flattening.{FlatteningKeepsReaches};
 
 use fuzzy_meaning::{Condition, Node};
 use std::alloc::{AllocError, Global};
@@ -105,8 +104,3 @@ fn under(alloc: Global, condition: Condition, odd: bool) -> Result<Condition, Al
     }
     Condition::not(alloc, condition)
 }
-
-/// A flat condition reaches as far over each box as the one that it is made of.
-pub(crate) fn flattening_keeps_reaches()
-    ensures { FlatteningKeepsReaches }
-{}

@@ -1,10 +1,16 @@
 //! Laws of the definitions.
 ghost use Rattle.error_bound.specs.Laws.{CellsHaveBounds, TermErrorsAre, LeavesHoldInside, BoundsFallInside};
 ghost use Rattle.error_bound.specs.Laws.{BoundsFallWithParts, BoundsAreDetermined};
-ghost use Rattle.error_bound.specs.{Answers.AnswersAreNear, Faults.FaultyLeavesFail, Faults.LeafFaultsAreOne};
+ghost use Rattle.error_bound.specs.Faults.{FaultyLeavesFail, LeafFaultsAreOne};
+ghost use Rattle.error_bound.specs.BestLeaves.{BestLeavesAreOne, BestLeavesHold, BestBoundsAreLeast};
+ghost use Rattle.error_bound.specs.TightLaws.{TightAnswersAreNear, TightBoundsAreOne, TightBoundsAreSmall};
+ghost use Rattle.error_bound.specs.TightLaws.{TightBoundsAreLeast, TightBoundsFallInside, TightBoundsHoldInside};
+ghost use Rattle.error_bound.specs.TightLaws.{TightBoundsFallWithParts};
+ghost use Rattle.error_bound.specs.Flattening.{flat, FlatteningKeepsReaches};
+ghost use Rattle.error_bound.specs.{Answers.AnswersAreNear, MassRanges.AnswersToMassesAreNear};
 
-use byte_scaling::nearest_is_byte;
-use fuzzy_meaning::numbers_have_their_degrees;
+use byte_scaling::laws::nearest_is_byte;
+use fuzzy_meaning::laws::numbers_have_their_degrees;
 
 /// `low` and `high` are the greatest lower and the least upper bound of a term's degrees over the
 /// cells of an interval.
@@ -54,4 +60,72 @@ pub fn faulty_leaves_fail()
 /// A leaf has at most one first fault.
 pub fn leaf_faults_are_one()
     ensures { LeafFaultsAreOne }
+{}
+
+/// A box has at most one best leaf for an output.
+pub fn best_leaves_are_one()
+    ensures { BestLeavesAreOne }
+{}
+
+/// The best leaf of a box holds there, and is a pair of a certificate.
+pub fn best_leaves_hold()
+    ensures { BestLeavesHold }
+{}
+
+/// The Bound of a box's best leaf is at most that of each leaf that holds on the box or on one
+/// around it; and where a box has no best leaf, none holds on a box around it.
+pub fn best_bounds_are_least()
+    ensures { BestBoundsAreLeast }
+{}
+
+/// On a box with a tight Bound, an answer over bytes, as a byte or in 16 bits, is within it of the
+/// exact answer, or both are those before.
+pub fn tight_answers_are_near()
+    ensures { TightAnswersAreNear }
+{
+    numbers_have_their_degrees();
+    nearest_is_byte();
+}
+
+/// A box has at most one tight Bound for an output.
+pub fn tight_bounds_are_one()
+    ensures { TightBoundsAreOne }
+{}
+
+/// It is at most 1000000, the whole range.
+pub fn tight_bounds_are_small()
+    ensures { TightBoundsAreSmall }
+{}
+
+/// Where a leaf holds there is a tight Bound, and it is at most the leaf's.
+pub fn tight_bounds_are_least()
+    ensures { TightBoundsAreLeast }
+{}
+
+/// On a box inside another the tight Bound is no greater.
+pub fn tight_bounds_fall_inside()
+    ensures { TightBoundsFallInside }
+{}
+
+/// And where the box has one, the inner box has one.
+pub fn tight_bounds_hold_inside()
+    ensures { TightBoundsHoldInside }
+{}
+
+/// Nor is it for answers in more parts to a byte.
+pub fn tight_bounds_fall_with_parts()
+    ensures { TightBoundsFallWithParts }
+{}
+
+/// An answer is within of the exact answer what covers all masses that a box's terms may have.
+pub fn answers_to_masses_are_near()
+    ensures { AnswersToMassesAreNear }
+{
+    numbers_have_their_degrees();
+    nearest_is_byte();
+}
+
+/// A flat condition reaches as far over each box as the one that it is made of.
+pub(crate) fn flattening_keeps_reaches()
+    ensures { FlatteningKeepsReaches }
 {}

@@ -7,7 +7,6 @@
 //! many boxes a [`BlockTable`]; only this takes memory.
 #![tactic(auto)]
 
-mod best_leaves;
 mod bounds;
 mod boxes;
 mod cells;
@@ -24,9 +23,7 @@ mod reaches;
 mod rules;
 mod tables;
 mod tight;
-mod tight_laws;
 
-pub use best_leaves::{best_bounds_are_least, best_leaves_are_one, best_leaves_hold};
 pub use boxes::{ByteBox, Interval, Leaf, LeafFault};
 pub use cells::term_error;
 pub use choosing::best;
@@ -34,8 +31,3 @@ pub use leaves::{is_pair_for, leaf_bound, leaf_bound16, output_of};
 pub use rules::BoxTable;
 pub use tables::BlockTable;
 pub use tight::Masses;
-pub use tight_laws::{
-    answers_to_masses_are_near, tight_answers_are_near, tight_bounds_are_least,
-    tight_bounds_are_one, tight_bounds_are_small, tight_bounds_fall_inside,
-    tight_bounds_fall_with_parts, tight_bounds_hold_inside,
-};

@@ -6,8 +6,8 @@ ghost use Rattle.error_bound.specs.{Spans.greatest_literal, CellErrors.term_erro
 
 use crate::reaches::{literal_in, reach_of_literal};
 use crate::tables::BoxTerms;
-use fuzzy_meaning::{Block, Condition, Node};
 use fuzzy_meaning::laws::parts_are_valid;
+use fuzzy_meaning::{Block, Condition, Node};
 
 /// In parts of 10^9.
 #[cycle(errors)]

@@ -6,8 +6,8 @@ ghost use Rattle.error_bound.specs.{Ratios.value_of, Reaches.AreBoxTerms, Reache
 
 use crate::reaches::{Reach, reach_of_literal};
 use crate::tables::BoxTerms;
-use fuzzy_meaning::{Block, Condition, Node};
 use fuzzy_meaning::laws::parts_are_valid;
+use fuzzy_meaning::{Block, Condition, Node};
 
 /// Whether a condition is an AND with a part that is a term of degree 0 all over a box, over bytes too.
 pub(crate) fn is_nowhere(condition: &Condition, block: &Block, terms: &BoxTerms) -> bool

@@ -8,7 +8,8 @@ ghost use Rattle.error_bound.specs.Reaches.{IsBlockTable, all_bytes, IsReachOfTe
 use crate::boxes::{ByteBox, Interval};
 use crate::cells::TermCells;
 use crate::degrees::degrees_of;
-use crate::flattening::{flattened, flattening_keeps_reaches};
+use crate::flattening::flattened;
+use crate::laws::flattening_keeps_reaches;
 use crate::reaches::Reach;
 use fuzzy_meaning::{Block, Condition, Input, Trapezoid};
 use std::alloc::{AllocError, Global};

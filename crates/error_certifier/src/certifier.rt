@@ -8,8 +8,8 @@ ghost use Rattle.error_certifier.specs.{Halving.IsHalving, Halving.StopsAt, Laws
 use crate::halving::{Task, Tree};
 use crate::laws::cells_are_out_of_reach;
 use arrayvec::ArrayVec;
-use box_tree::{Cert, CertKind};
 use box_tree::laws::open_boxes_go_on;
+use box_tree::{Cert, CertKind};
 use byte_scaling::Width;
 use cert_check::whole_box;
 use error_bound::BoxTable;

@@ -2,11 +2,11 @@
 ghost use Rattle.error_certifier.specs.Laws.{AnswersAreOne, CellsAreOutOfReach, HalvingsAreWithinTheirTarget};
 
 use box_tree::laws::open_boxes_go_on;
-use cell_bounds::{box_counts_are_one, claim_bounds_are_one, counts_are_least};
-use cell_bounds::laws::cell_counts_are_one;
-use cert_check::{cuts_have_halves, leaves_are_around};
-use cert_check::laws::errors_are_determined;
-use error_bound::{best_leaves_are_one, tight_bounds_are_small};
+use cell_bounds::laws::{
+    box_counts_are_one, cell_counts_are_one, claim_bounds_are_one, counts_are_least,
+};
+use cert_check::laws::{cuts_have_halves, errors_are_determined, leaves_are_around};
+use error_bound::laws::{best_leaves_are_one, tight_bounds_are_small};
 
 /// A block has at most one answer for a target: a certificate, or why there is none.
 pub fn answers_are_one()

@@ -9,8 +9,8 @@ ghost use Rattle.error_certifier.specs.Trees.{AreTightBounds, IsFoundLeaf};
 
 use arrayvec::ArrayVec;
 use box_tree::LeafForm;
-use error_bound::{BoxTable, Leaf, best_leaves_hold};
-use error_bound::laws::faulty_leaves_fail;
+use error_bound::laws::{best_leaves_hold, faulty_leaves_fail};
+use error_bound::{BoxTable, Leaf};
 use fuzzy_meaning::Block;
 
 /// A leaf that is within the target: what its line says, and its Bound for each output at its place.

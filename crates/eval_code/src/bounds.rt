@@ -7,8 +7,8 @@ ghost use Rattle.eval_code.specs.Bounds.{output_bound, entry_count, form_bound, 
 
 use byte_scaling::Width;
 use fuzzy_meaning::{Block, Input, Output};
-use rule_layout::{Conjunction, Flat, Form};
 use rule_layout::laws::flat_has_parts;
+use rule_layout::{Conjunction, Flat, Form};
 
 /// How many terms inputs have.
 fn input_terms(inputs: &[Input]) -> u32

@@ -13,8 +13,8 @@ use byte_scaling::Width;
 use cpu12_asm::Item;
 use cpu12_isa::instr::Instr;
 use fuzzy_meaning::{Block, Input, Output};
-use rule_layout::{Flat, Form, Slot};
 use rule_layout::laws::flat_has_parts;
+use rule_layout::{Flat, Form, Slot};
 use std::alloc::{AllocError, Global};
 
 /// A block's code at a memory map, with what stands before and behind EVAL, its tables and its rule list,

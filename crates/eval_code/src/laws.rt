@@ -5,11 +5,10 @@ ghost use Rattle.eval_code.specs.Placed.{BlockGivesAtParts, BlockStaysInside, Gi
 ghost use Rattle.eval_code.specs.Standing.{BytesStand, CodeIsBytes, CodeStands, DecodesWhereItStands, ImageIsBytes};
 ghost use Rattle.eval_code.specs.Standing.{ZeroBelow};
 
-use byte_scaling::nearest_is_byte;
+use byte_scaling::laws::nearest_is_byte;
 use cpu12_asm::laws::rising_items;
 use cpu12_emul::laws::holds_image;
-use cpu12_isa::decode::decodes_encoded;
-use cpu12_isa::laws::{encoded_are_bytes, stays_fit};
+use cpu12_isa::laws::{decodes_encoded, encoded_are_bytes, stays_fit};
 use rule_layout::laws::{layout_law, mass_law};
 
 /// The rules leave in the slots of the outputs' terms their masses.

@@ -63,7 +63,7 @@ module _ (reported : AnswersAreReported) (keep : AnswersKeepTheBound) (fit : Spe
   slow_gives =
       let s = a.compiled.slow_is in
       let alone = a.compiled.both.slow_alone in
-      record { spelled = s.spelled; limits = s.limits; compiled = (alone.firmware, alone.narrow) }
+      record { spelled = s.spelled; limits = s.limits; compiled = (alone.firmware, alone.width) }
 
   abbrev plain : List (RowSeen (List ℕ))
   plain = map (λ r. r.row) rows

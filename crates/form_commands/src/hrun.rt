@@ -3,37 +3,28 @@ ghost use Rattle.std.specs.Prelude.{◌≡◌, ◌≤◌, ◌++◌, length, IfOk
 ghost use Rattle.std.specs.List.{All};
 ghost use Rattle.fz_status.specs.{Refusals.IsRefusal, Words.texts_of};
 ghost use Rattle.command_parts.specs.{Contents.bytes_of, Lines.counted};
-ghost use Rattle.command_parts.specs.SeenOutputs.{OutputHasNoFault, OutputsAreOne, IsResultOf};
+ghost use Rattle.command_parts.specs.SeenOutputs.{IsResultOf};
 ghost use Rattle.run_reports.specs.{HandledRun.AcceptsHandled, RowLines.begun_lines};
 ghost use Rattle.run_reports.specs.declared.files.HandledFiles.{HandledFiles};
-ghost use Rattle.form_commands.specs.Hrun.{AcceptedHandledRunsMakeOutput, HrunMakes, handled_files};
+ghost use Rattle.form_commands.specs.Hrun.{HrunMakes, handled_files};
 ghost use Rattle.form_commands.specs.Hrun.{handled_row_lines, hrun_in, hrun_refusals};
-ghost use Rattle.form_commands.specs.declared.hrun.Hrun.{Hrun as TheHrun};
 ghost use Rattle.handled_runs.specs.Forms.{row_seen};
 
 use alone_runs::laws::answers_under_plans;
 use box_tree::CertKind;
 use byte_scaling::Width;
-use command_parts::certs::accepted_errors_are_one;
 use command_parts::contents::Content;
-use command_parts::firmware::{
-    Compiled, Form, firmware_of, given_firmwares_are_one, spelled_texts_have_no_fault,
-};
-use command_parts::handlers::{AcceptedHandler, given_handlers_have_no_fault, handler_of};
+use command_parts::firmware::{Compiled, Form, firmware_of};
+use command_parts::handlers::{AcceptedHandler, handler_of};
 use command_parts::output::Output;
 use command_parts::words::flags;
-use fcl_check::laws::spelled_blocks_are_one;
 use fz_shelf::Line;
 use fz_status::{Status, word};
-use handled_runs::laws::{handled_answers, handlers_run_alike};
 use handled_runs::{HandledRow, run_handler};
 use run_reports::files::{HandledFiles, InputFiles};
 use run_reports::inputs::{Inputs, inputs_of};
-use run_reports::laws::{
-    accepted_inputs_have_no_fault, answers_are_reported, spelled_bytes_fit, spelled_inputs_are_one,
-};
+use run_reports::laws::{answers_are_reported, spelled_bytes_fit};
 use run_reports::row_lines::{begun, push_labelled_row};
-use srecord::laws::images_are_one;
 use std::alloc::{AllocError, Global};
 
 /// `hrun FCL HANDLER CERT TRACE PLAN FLAGS`
@@ -143,35 +134,4 @@ fn lines(
         push_labelled_row(alloc, &mut lines, at + 1, &row.row, " handler ", handler)?;
     }
     Ok(lines)
-}
-
-/// Files that make an output make no fault.
-pub fn handled_runs_have_no_fault()
-    ensures { (hrun : TheHrun) (files : HandledFiles) → OutputHasNoFault (HrunMakes hrun files) }
-{
-    spelled_texts_have_no_fault();
-    given_handlers_have_no_fault();
-    spelled_blocks_are_one();
-    accepted_inputs_have_no_fault()
-}
-
-/// Files that are accepted make an output.
-pub fn accepted_handled_runs_make_output()
-    ensures { AcceptedHandledRunsMakeOutput }
-{
-    answers_are_reported();
-    answers_under_plans();
-    spelled_bytes_fit();
-    handled_answers()
-}
-
-/// Files make at most one output.
-pub fn hrun_outputs_are_one()
-    ensures { (hrun : TheHrun) (files : HandledFiles) → OutputsAreOne (HrunMakes hrun files) }
-{
-    accepted_errors_are_one();
-    spelled_inputs_are_one();
-    given_firmwares_are_one();
-    images_are_one();
-    handlers_run_alike()
 }

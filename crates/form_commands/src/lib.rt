@@ -8,6 +8,7 @@
 #![tactic(auto)]
 
 pub mod hrun;
+pub mod laws;
 mod level_lines;
 pub mod lrun;
 pub mod mrun;

@@ -5,41 +5,36 @@ ghost use Rattle.fuzzy_meaning.specs.Blocks.{IsValid};
 ghost use Rattle.interrupt_plan.specs.Levels.{SpellsLevels};
 ghost use Rattle.fz_status.specs.{Refusals.IsRefusal, Words.texts_of};
 ghost use Rattle.command_parts.specs.Contents.{bytes_of};
-ghost use Rattle.command_parts.specs.SeenOutputs.{OutputHasNoFault, OutputsAreOne, IsResultOf};
+ghost use Rattle.command_parts.specs.SeenOutputs.{IsResultOf};
 ghost use Rattle.run_reports.specs.LevelRun.{AcceptsCerts, AcceptsLevels, SpellTraces};
 ghost use Rattle.run_reports.specs.declared.files.LevelFiles.{LevelFiles};
-ghost use Rattle.form_commands.specs.Lrun.{AcceptedLevelRunsMakeOutput, LrunMakes, certs_refusals, level_files};
+ghost use Rattle.form_commands.specs.Lrun.{LrunMakes, certs_refusals, level_files};
 ghost use Rattle.form_commands.specs.Lrun.{levels_refusals, lrun_in, lrun_refusals, traces_refusals};
-ghost use Rattle.form_commands.specs.declared.lrun.Lrun.{Lrun as TheLrun};
 
 use crate::level_lines::lines;
 use alone_runs::laws::answers_under_plans;
 use box_tree::CertKind;
 use byte_scaling::Width;
-use command_parts::certs::{accepted_certs_have_no_fault, accepted_errors_are_one, errors_under};
+use command_parts::certs::errors_under;
 use command_parts::contents::Content;
-use command_parts::firmware::spelled_texts_have_no_fault;
-use command_parts::images::{given_images_have_no_fault, require_image};
+use command_parts::images::require_image;
 use command_parts::output::Output;
-use command_parts::twos::{CompiledTwo, given_twos_are_one, two_of};
+use command_parts::twos::{CompiledTwo, two_of};
 use command_parts::words::flags;
 use fuzzy_meaning::Block;
 use fz_status::{Status, word};
 use interrupt_plan::{Levels, read_levels};
-use interrupt_plan::laws::{spelled_entries_are_one, spelled_levels_have_no_fault};
 use run_reports::files::LevelFiles;
 use run_reports::inputs::samples_of;
 use run_reports::laws::{
-    answers_are_reported, answers_keep_the_bound, spelled_bytes_fit, spelled_inputs_are_one,
-    spelled_traces_are_one_long, spelled_traces_are_short,
+    answers_are_reported, answers_keep_the_bound, posted_answers_are_near, spelled_bytes_fit,
+    spelled_traces_are_short,
 };
-use run_reports::nearness::posted_answers_are_near;
 use std::alloc::Global;
 use trace_io::Sample;
-use trace_io::laws::spelled_traces_have_no_fault;
 use two_level_code::laws::alone_has_byte_bounds;
+use two_level_runs::laws::{levels_make_a_plan, rows_are_seen};
 use two_level_runs::run_two;
-use two_level_runs::laws::{answers_under_levels, levels_make_a_plan, rows_are_seen};
 
 /// `lrun SLOW FAST IMAGE SCERT FCERT STRACE FTRACE LEVELS FLAGS`
 #[derive(Clone, Copy, Debug, PartialEq, Eq)]
@@ -208,42 +203,4 @@ fn levels_of(alloc: Global, text: &Content, fast: &[Sample]) -> Result<Levels, S
     ensures fault { IfErr result (IsRefusal (levels_refusals (length fast.now) text.now)) }
 {
     Ok(read_levels(alloc, text.bytes(), fast.len() as u32)?)
-}
-
-/// Files that make an output make no fault.
-pub fn level_runs_have_no_fault()
-    ensures { (lrun : TheLrun) (files : LevelFiles) → OutputHasNoFault (LrunMakes lrun files) }
-{
-    spelled_texts_have_no_fault();
-    given_twos_are_one();
-    given_images_have_no_fault();
-    accepted_certs_have_no_fault();
-    spelled_traces_have_no_fault();
-    spelled_traces_are_one_long();
-    spelled_levels_have_no_fault()
-}
-
-/// Files that are accepted make an output.
-pub fn accepted_level_runs_make_output()
-    ensures { AcceptedLevelRunsMakeOutput }
-{
-    answers_are_reported();
-    answers_keep_the_bound();
-    spelled_bytes_fit();
-    posted_answers_are_near();
-    answers_under_plans();
-    levels_make_a_plan();
-    rows_are_seen();
-    alone_has_byte_bounds();
-    answers_under_levels()
-}
-
-/// Files make at most one output.
-pub fn lrun_outputs_are_one()
-    ensures { (lrun : TheLrun) (files : LevelFiles) → OutputsAreOne (LrunMakes lrun files) }
-{
-    accepted_errors_are_one();
-    spelled_inputs_are_one();
-    given_twos_are_one();
-    spelled_entries_are_one()
 }

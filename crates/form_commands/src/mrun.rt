@@ -5,38 +5,31 @@ ghost use Rattle.std.specs.List.{All};
 ghost use Rattle.interrupt_plan.specs.Posts.{SpellsPosts};
 ghost use Rattle.fz_status.specs.{Refusals.IsRefusal, Words.texts_of};
 ghost use Rattle.command_parts.specs.Contents.{bytes_of};
-ghost use Rattle.command_parts.specs.SeenOutputs.{OutputHasNoFault, OutputsAreOne, IsResultOf};
-ghost use Rattle.form_commands.specs.Mrun.{AcceptedPostedRunsMakeOutput, MrunMakes, mrun_in, mrun_refusals};
+ghost use Rattle.command_parts.specs.SeenOutputs.{IsResultOf};
+ghost use Rattle.form_commands.specs.Mrun.{MrunMakes, mrun_in, mrun_refusals};
 ghost use Rattle.form_commands.specs.Mrun.{posted_files, posts_refusals};
-ghost use Rattle.form_commands.specs.declared.mrun.Mrun.{Mrun as TheMrun};
 ghost use Rattle.run_reports.specs.{PostedRun.AcceptsPosted, declared.files.PostedFiles.PostedFiles};
 
 use crate::posted_lines::lines;
 use box_tree::CertKind;
 use byte_scaling::Width;
-use command_parts::certs::{accepted_certs_have_no_fault, accepted_errors_are_one, errors_under};
+use command_parts::certs::errors_under;
 use command_parts::contents::Content;
-use command_parts::firmware::{
-    Compiled, Form, firmware_of, given_firmwares_are_one, spelled_texts_have_no_fault,
-};
-use command_parts::images::{given_images_have_no_fault, require_image};
+use command_parts::firmware::{Compiled, Form, firmware_of};
+use command_parts::images::require_image;
 use command_parts::output::Output;
 use command_parts::words::flags;
 use fz_status::{Status, word};
 use interrupt_plan::{Posts, read_posts};
-use interrupt_plan::laws::{spelled_entries_are_one, spelled_posts_have_no_fault};
+use mailbox_runs::laws::last_is_answered;
 use mailbox_runs::run_posts;
-use mailbox_runs::laws::{last_is_answered, posts_are_answered};
 use run_reports::files::PostedFiles;
 use run_reports::inputs::samples_of;
 use run_reports::laws::{
-    answers_keep_the_bound, spelled_bytes_fit, spelled_inputs_are_one, spelled_traces_are_one_long,
-    spelled_traces_are_short,
+    answers_keep_the_bound, posted_answers_are_near, spelled_bytes_fit, spelled_traces_are_short,
 };
-use run_reports::nearness::posted_answers_are_near;
 use std::alloc::Global;
 use trace_io::Sample;
-use trace_io::laws::spelled_traces_have_no_fault;
 
 /// `mrun FCL IMAGE CERT TRACE POSTS FLAGS`
 #[derive(Clone, Copy, Debug, PartialEq, Eq)]
@@ -137,38 +130,4 @@ fn posts_of(alloc: Global, text: &Content, samples: &[Sample]) -> Result<Posts, 
     ensures fault { IfErr result (IsRefusal (posts_refusals (length samples.now) text.now)) }
 {
     Ok(read_posts(alloc, text.bytes(), samples.len() as u32)?)
-}
-
-/// Files that make an output make no fault.
-pub fn posted_runs_have_no_fault()
-    ensures { (mrun : TheMrun) (files : PostedFiles) → OutputHasNoFault (MrunMakes mrun files) }
-{
-    spelled_texts_have_no_fault();
-    given_firmwares_are_one();
-    given_images_have_no_fault();
-    accepted_certs_have_no_fault();
-    spelled_traces_have_no_fault();
-    spelled_traces_are_one_long();
-    spelled_posts_have_no_fault()
-}
-
-/// Files that are accepted make an output.
-pub fn accepted_posted_runs_make_output()
-    ensures { AcceptedPostedRunsMakeOutput }
-{
-    answers_keep_the_bound();
-    spelled_bytes_fit();
-    posted_answers_are_near();
-    last_is_answered();
-    posts_are_answered()
-}
-
-/// Files make at most one output.
-pub fn mrun_outputs_are_one()
-    ensures { (mrun : TheMrun) (files : PostedFiles) → OutputsAreOne (MrunMakes mrun files) }
-{
-    accepted_errors_are_one();
-    spelled_inputs_are_one();
-    given_firmwares_are_one();
-    spelled_entries_are_one()
 }

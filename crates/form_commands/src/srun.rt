@@ -5,36 +5,29 @@ ghost use Rattle.std.specs.List.{All};
 ghost use Rattle.interrupt_plan.specs.UpsetTexts.{SpellsUpsets};
 ghost use Rattle.fz_status.specs.{Refusals.IsRefusal, Words.texts_of};
 ghost use Rattle.command_parts.specs.{Contents.bytes_of, Lines.counted};
-ghost use Rattle.command_parts.specs.SeenOutputs.{OutputHasNoFault, OutputsAreOne, IsResultOf};
-ghost use Rattle.form_commands.specs.Srun.{AcceptedWatchedRunsMakeOutput, SrunMakes, srun_in};
+ghost use Rattle.command_parts.specs.SeenOutputs.{IsResultOf};
+ghost use Rattle.form_commands.specs.Srun.{SrunMakes, srun_in};
 ghost use Rattle.form_commands.specs.Srun.{srun_refusals, upset_refusals, watched_files, watched_row_lines};
-ghost use Rattle.form_commands.specs.declared.srun.Srun.{Srun as TheSrun};
 ghost use Rattle.run_reports.specs.{RowLines.begun_lines, WatchedRun.AcceptsWatched};
 ghost use Rattle.run_reports.specs.declared.files.WatchedFiles.{WatchedFiles};
 ghost use Rattle.watched_runs.specs.Rows.{row_seen};
 
 use box_tree::CertKind;
 use byte_scaling::Width;
-use command_parts::certs::accepted_errors_are_one;
 use command_parts::contents::Content;
-use command_parts::firmware::{
-    Compiled, Form, firmware_of, given_firmwares_are_one, spelled_texts_have_no_fault,
-};
-use command_parts::images::{given_images_have_no_fault, require_image};
+use command_parts::firmware::{Compiled, Form, firmware_of};
+use command_parts::images::require_image;
 use command_parts::output::Output;
 use command_parts::words::flags;
 use cpu12_asm::Image;
 use fz_shelf::Line;
 use fz_status::{Status, word};
 use interrupt_plan::{Upsets, read_upsets};
-use interrupt_plan::laws::{spelled_entries_are_one, spelled_upsets_have_no_fault};
 use run_reports::files::{InputFiles, WatchedFiles};
 use run_reports::inputs::{Inputs, inputs_of};
-use run_reports::laws::{accepted_inputs_have_no_fault, spelled_bytes_fit, spelled_inputs_are_one};
-use run_reports::nearness::faultless_answers_are_near;
+use run_reports::laws::{faultless_answers_are_near, spelled_bytes_fit};
 use run_reports::row_lines::{begun, push_labelled_row};
 use std::alloc::{AllocError, Global};
-use watched_runs::laws::answers_under_all_upsets;
 use watched_runs::{WatchedRow, run_upsets};
 
 /// `srun FCL IMAGE CERT TRACE PLAN UPSETS FLAGS`
@@ -152,34 +145,4 @@ fn lines(
         push_labelled_row(alloc, &mut lines, at + 1, &row.row, " fault ", fault)?;
     }
     Ok(lines)
-}
-
-/// Files that make an output make no fault.
-pub fn watched_runs_have_no_fault()
-    ensures { (srun : TheSrun) (files : WatchedFiles) → OutputHasNoFault (SrunMakes srun files) }
-{
-    spelled_texts_have_no_fault();
-    given_firmwares_are_one();
-    given_images_have_no_fault();
-    accepted_inputs_have_no_fault();
-    spelled_upsets_have_no_fault()
-}
-
-/// Files that are accepted make an output.
-pub fn accepted_watched_runs_make_output()
-    ensures { AcceptedWatchedRunsMakeOutput }
-{
-    faultless_answers_are_near();
-    spelled_bytes_fit();
-    answers_under_all_upsets()
-}
-
-/// Files make at most one output.
-pub fn srun_outputs_are_one()
-    ensures { (srun : TheSrun) (files : WatchedFiles) → OutputsAreOne (SrunMakes srun files) }
-{
-    accepted_errors_are_one();
-    spelled_inputs_are_one();
-    given_firmwares_are_one();
-    spelled_entries_are_one()
 }

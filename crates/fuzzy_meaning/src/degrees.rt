@@ -1,7 +1,7 @@
 //! Degrees of terms.
 ghost use Rattle.std.specs.Prelude.{◌≡◌, IfSome, ◌≤ℤ◌};
 ghost use Rattle.fz_num.specs.Fractions.{fraction_of, IsTruth};
-ghost use Rattle.fuzzy_meaning.specs.{Blocks.IsTrapezoid, Blocks.IsInScale, Places.NumbersHaveTheirDegrees};
+ghost use Rattle.fuzzy_meaning.specs.Blocks.{IsTrapezoid, IsInScale};
 ghost use Rattle.fuzzy_meaning.specs.Degrees.{degree as degree_of, rise as rise_of, fall as fall_of, IsByPlace};
 
 use crate::block::Trapezoid;
@@ -61,9 +61,3 @@ fn fall(c: Dec, d: Option<Dec>, x: Dec) -> Frac
         Frac::over(d.above(x), d.above(c))
     }
 }
-
-/// The degree at a place of an input's range, which may stand between numbers, is at each number
-/// the number's degree.
-pub fn numbers_have_their_degrees()
-    ensures { NumbersHaveTheirDegrees }
-{}

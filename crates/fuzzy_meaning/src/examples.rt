@@ -1,19 +1,12 @@
 //! Blocks that are valid.
 ghost use Rattle.std.specs.Prelude.{◌≡◌, IfOk, [], ◌∷◌, None};
-ghost use Rattle.fuzzy_meaning.specs.{Blocks.IsValid, Examples.heater as heater_block, Examples.ExamplesAreValid};
+ghost use Rattle.fuzzy_meaning.specs.{Blocks.IsValid, Examples.heater as heater_block};
 
 use crate::block::{Block, Input, Output, Rule, Trapezoid};
 use crate::condition::Condition;
 use fz_list::List;
 use fz_num::Dec;
 use std::alloc::{AllocError, Global};
-
-/// Valid blocks exist, up to every limit: a heater with two rules, a latch with vertical edges, a
-/// NOT and `DEFAULT := NC`, and a block that meets the limits on counts, depth, size and
-/// magnitudes.
-pub fn examples_are_valid()
-    ensures { ExamplesAreValid }
-{}
 
 /// A heater, for tests and examples: from 0 to 256 the answer rises from 0 to 100.
 pub fn heater(alloc: Global) -> Result<Block, AllocError>

@@ -2,34 +2,22 @@
 ghost use Rattle.fz_top.specs.Accepted.{AcceptedCommandsMakeOutput, CommandsMakeOneOutput};
 ghost use Rattle.fz_top.specs.Runs.{OutputsHaveNoFault};
 
-use build_commands::asm::assembled_sources_have_no_fault;
-use build_commands::certify::certified_texts_have_no_fault;
-use build_commands::check::checked_certs_have_no_fault;
-use build_commands::compile::compiled_texts_have_no_fault;
-use build_commands::exec::ended_runs_have_no_fault;
-use build_commands::hcheck::checked_handlers_have_no_fault;
-use build_commands::laws::{accepted_contents_make_output, contents_make_one_output};
-use build_commands::lcompile::two_texts_have_no_fault;
-use form_commands::hrun::{
-    accepted_handled_runs_make_output, handled_runs_have_no_fault, hrun_outputs_are_one,
+use build_commands::laws::{
+    accepted_contents_make_output, assembled_sources_have_no_fault, certified_texts_have_no_fault,
+    checked_certs_have_no_fault, checked_handlers_have_no_fault, compiled_texts_have_no_fault,
+    contents_make_one_output, ended_runs_have_no_fault, two_texts_have_no_fault,
 };
-use form_commands::lrun::{
-    accepted_level_runs_make_output, level_runs_have_no_fault, lrun_outputs_are_one,
+use form_commands::laws::{
+    accepted_handled_runs_make_output, accepted_level_runs_make_output,
+    accepted_posted_runs_make_output, accepted_watched_runs_make_output,
+    handled_runs_have_no_fault, hrun_outputs_are_one, level_runs_have_no_fault,
+    lrun_outputs_are_one, mrun_outputs_are_one, posted_runs_have_no_fault, srun_outputs_are_one,
+    watched_runs_have_no_fault,
 };
-use form_commands::mrun::{
-    accepted_posted_runs_make_output, mrun_outputs_are_one, posted_runs_have_no_fault,
-};
-use form_commands::srun::{
-    accepted_watched_runs_make_output, srun_outputs_are_one, watched_runs_have_no_fault,
-};
-use run_commands::debug::{
-    accepted_debug_runs_make_output, debug_outputs_are_one, debugged_runs_have_no_fault,
-};
-use run_commands::generate::{
-    accepted_numbers_make_output, generate_outputs_are_one, generated_runs_have_no_fault,
-};
-use run_commands::run::{
-    accepted_runs_make_output, certified_runs_have_no_fault, run_outputs_are_one,
+use run_commands::laws::{
+    accepted_debug_runs_make_output, accepted_numbers_make_output, accepted_runs_make_output,
+    certified_runs_have_no_fault, debug_outputs_are_one, debugged_runs_have_no_fault,
+    generate_outputs_are_one, generated_runs_have_no_fault, run_outputs_are_one,
 };
 
 /// Contents that make an output make no fault.

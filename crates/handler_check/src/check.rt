@@ -10,7 +10,7 @@ use crate::faults::{CODE_LIMIT, CODE_START, Handler, HandlerFault};
 use crate::judge::judge;
 use crate::laws::handlers_run_as_takes;
 use cpu12_asm::{ByteMap, Image};
-use cpu12_isa::decode::decodes_encoded;
+use cpu12_isa::laws::decodes_encoded;
 use cpu12_isa::mem::{FlatMem, Mem};
 use std::alloc::{AllocError, Global};
 

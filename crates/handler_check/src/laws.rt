@@ -3,8 +3,7 @@ ghost use Rattle.handler_check.specs.Images.{HandlersHaveNoFault, FaultsAreOne, 
 ghost use Rattle.handler_check.specs.Running.{AcceptedIsTake, HandlersRunAsTakes, HandlersAreQuiet, HandlersAreShort};
 
 use cpu12_emul::laws::{holds_image, plain_is_step, takes_quietly};
-use cpu12_isa::decode::decodes_encoded;
-use cpu12_isa::laws::writes_agree;
+use cpu12_isa::laws::{decodes_encoded, writes_agree};
 use cpu12_parts::laws::wav_suspends;
 
 /// Accepted code, entered where no sums run, leaves what some writes to free bytes leave.

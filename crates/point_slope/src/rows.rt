@@ -3,7 +3,8 @@ ghost use Rattle.std.specs.Prelude.{◌≡◌, ◌-◌, ◌≤◌, length, ◌++
 ghost use Rattle.fuzzy_meaning.specs.Blocks.{IsValid, IsValidInput, IsValidTerm};
 ghost use Rattle.point_slope.specs.Tables.{slope_of, row_of, rows_of, table_of};
 
-use byte_scaling::{byte_within, bytes_ascend};
+use byte_scaling::byte_within;
+use byte_scaling::laws::bytes_ascend;
 use fuzzy_meaning::{Block, Input, Trapezoid};
 use fz_list::Memory;
 use std::alloc::Global;

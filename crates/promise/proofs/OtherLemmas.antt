@@ -44,7 +44,7 @@ slow keep flags files report l byte = record {
   serves = keep Byte flags l.slow l.two.slow (map input_bytes l.samples) (plan_of l.levels)
       (map (λ row. row.row) report.rows) byte
       l.accepts.compiled.slow_is.spelled.valid l.accepts.compiled.slow_is.limits
-      l.accepts.compiled.both.slow_alone.firmware l.accepts.compiled.both.slow_alone.narrow
+      l.accepts.compiled.both.slow_alone.firmware l.accepts.compiled.both.slow_alone.width
       l.reported.follows;
   last = _;
   ran = record {

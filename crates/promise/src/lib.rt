@@ -11,7 +11,7 @@ ghost use Rattle.promise.specs.OtherRuns.{OtherRunsServe};
 
 use alone_code::laws::firmware_answers;
 use eval_code::laws::bounds_are_few;
-use run_commands::run::accepted_runs_make_output;
+use run_commands::laws::accepted_runs_make_output;
 use run_forms::laws::{arrives_plainly, plain_is_one_step};
 use run_law::laws::taken_at_once;
 

@@ -3,29 +3,22 @@ ghost use Rattle.std.specs.Prelude.{◌≡◌, ◌≤◌, length, IfOk, IfErr};
 ghost use Rattle.std.specs.List.{All};
 ghost use Rattle.fz_status.specs.{Refusals.IsRefusal, Words.texts_of};
 ghost use Rattle.command_parts.specs.Contents.{bytes_of};
-ghost use Rattle.command_parts.specs.SeenOutputs.{OutputHasNoFault, OutputsAreOne, IsResultOf};
-ghost use Rattle.run_commands.specs.Debug.{AcceptedDebugRunsMakeOutput, DebugMakes, Debugs, debug_files, debug_in};
+ghost use Rattle.command_parts.specs.SeenOutputs.{IsResultOf};
+ghost use Rattle.run_commands.specs.Debug.{DebugMakes, Debugs, debug_files, debug_in};
 ghost use Rattle.run_commands.specs.Debug.{debug_refusals};
-ghost use Rattle.run_commands.specs.declared.debug.{DebugFiles.DebugFiles as Files, DebugRun.DebugRun as TheDebug};
 
 use crate::shown_lines::lines;
-use alone_runs::laws::answers_under_plans;
 use byte_scaling::Width;
 use command_parts::contents::Content;
-use command_parts::firmware::{
-    Compiled, Form, firmware_of, given_firmwares_are_one, spelled_texts_have_no_fault,
-};
-use command_parts::images::{given_images_have_no_fault, require_image};
+use command_parts::firmware::{Compiled, Form, firmware_of};
+use command_parts::images::require_image;
 use command_parts::output::Output;
 use command_parts::words::flags;
 use debug_script::{Script, ScriptFault, debug, read_script};
 use fz_status::{Status, word};
 use interrupt_plan::Plan;
 use run_reports::inputs::samples_and_plan;
-use run_reports::laws::{
-    spelled_bytes_fit, spelled_inputs_are_one, spelled_samples_have_no_fault,
-    spelled_traces_are_short,
-};
+use run_reports::laws::{spelled_bytes_fit, spelled_traces_are_short};
 use std::alloc::Global;
 use trace_io::Sample;
 
@@ -123,30 +116,4 @@ impl DebugRun {
         let lines = lines(alloc, &shown, &rows)?;
         Ok(Output { lines, file: None })
     }
-}
-
-/// Files that make an output make no fault.
-pub fn debugged_runs_have_no_fault()
-    ensures { (debug : TheDebug) (files : Files) → OutputHasNoFault (DebugMakes debug files) }
-{
-    spelled_texts_have_no_fault();
-    given_firmwares_are_one();
-    given_images_have_no_fault();
-    spelled_samples_have_no_fault()
-}
-
-/// Files that are accepted make an output.
-pub fn accepted_debug_runs_make_output()
-    ensures { AcceptedDebugRunsMakeOutput }
-{
-    spelled_bytes_fit();
-    answers_under_plans()
-}
-
-/// Files make at most one output.
-pub fn debug_outputs_are_one()
-    ensures { (debug : TheDebug) (files : Files) → OutputsAreOne (DebugMakes debug files) }
-{
-    given_firmwares_are_one();
-    spelled_inputs_are_one()
 }

@@ -7,22 +7,18 @@ ghost use Rattle.rule_layout.specs.Layouts.{IsWithinLimits};
 ghost use Rattle.alone_code.specs.Firmwares.{IsFirmwareOf};
 ghost use Rattle.alone_runs.specs.Rows.{row_seen};
 ghost use Rattle.fz_status.specs.Words.{texts_of};
-ghost use Rattle.command_parts.specs.SeenOutputs.{OutputHasNoFault, OutputsAreOne, IsResultOf};
-ghost use Rattle.run_commands.specs.Generate.{AcceptedNumbersMakeOutput, GenerateMakes, generate_in, generate_lines};
+ghost use Rattle.command_parts.specs.SeenOutputs.{IsResultOf};
+ghost use Rattle.run_commands.specs.Generate.{GenerateMakes, generate_in, generate_lines};
 ghost use Rattle.run_commands.specs.Generate.{frames_of, resumed_of, answers_of};
-ghost use Rattle.run_commands.specs.declared.generate.Generate.{Generate as TheGenerate};
 
 use alone_code::{Firmware, compile};
-use alone_code::laws::firmwares_are_one;
-use alone_runs::laws::answers_under_plans;
 use alone_runs::{Row, run};
 use box_tree::CertKind;
 use byte_scaling::Width;
-use command_parts::certs::{halved, halved_blocks_do_not_stop};
+use command_parts::certs::halved;
 use command_parts::lines::{labelled, push_errors};
 use command_parts::output::Output;
 use command_parts::words::number32_in;
-use error_certifier::laws::answers_are_one;
 use fuzzy_meaning::Block;
 use fz_shelf::Line;
 use fz_status::{Status, word};
@@ -30,7 +26,7 @@ use rule_layout::LayoutFault;
 use rule_layout::laws::limits_have_no_fault;
 use run_reports::laws::answers_are_reported;
 use std::alloc::{AllocError, Global};
-use workload::laws::{drawn_blocks_are_within_limits, numbers_have_workloads, workloads_are_one};
+use workload::laws::drawn_blocks_are_within_limits;
 
 /// `gen NUMBER`.
 #[derive(Clone, Copy, Debug, PartialEq, Eq)]
@@ -88,7 +84,7 @@ fn compiled(alloc: Global, block: &Block) -> Result<Firmware, AllocError>
     requires valid { IsValid block.now }
     requires limits { IsWithinLimits block.now }
     ensures firmware { IfOk result (IsFirmwareOf block.now) }
-    ensures narrow { IfOk result (λ f. f.width ≡ Byte) }
+    ensures width { IfOk result (λ f. f.width ≡ Byte) }
 {
     limits_have_no_fault();
     match compile(alloc, block) {
@@ -154,30 +150,4 @@ fn lines(
     lines.push(labelled(alloc, "resumed ", sums.resumed)?)?;
     lines.push(labelled(alloc, "sum ", sums.answers)?)?;
     Ok(lines)
-}
-
-/// A number that makes an output makes no fault.
-pub fn generated_runs_have_no_fault()
-    ensures { (generate : TheGenerate) → OutputHasNoFault (GenerateMakes generate) }
-{
-    halved_blocks_do_not_stop()
-}
-
-/// A number that is accepted makes an output.
-pub fn accepted_numbers_make_output()
-    ensures { AcceptedNumbersMakeOutput }
-{
-    answers_are_reported();
-    answers_under_plans();
-    numbers_have_workloads();
-    drawn_blocks_are_within_limits()
-}
-
-/// A number makes at most one output.
-pub fn generate_outputs_are_one()
-    ensures { (generate : TheGenerate) → OutputsAreOne (GenerateMakes generate) }
-{
-    workloads_are_one();
-    firmwares_are_one();
-    answers_are_one()
 }

@@ -8,5 +8,6 @@
 
 pub mod debug;
 pub mod generate;
+pub mod laws;
 pub mod run;
 mod shown_lines;

@@ -4,22 +4,17 @@ ghost use Rattle.std.specs.List.{All};
 ghost use Rattle.alone_runs.specs.Rows.{row_seen};
 ghost use Rattle.fz_status.specs.{Refusals.IsRefusal, Words.texts_of};
 ghost use Rattle.command_parts.specs.Contents.{bytes_of};
-ghost use Rattle.command_parts.specs.SeenOutputs.{OutputHasNoFault, OutputsAreOne, IsResultOf};
+ghost use Rattle.command_parts.specs.SeenOutputs.{IsResultOf};
 ghost use Rattle.run_reports.specs.{CertifiedRun.AcceptsRun, Reports.report_of, Reports.left_of, RowLines.run_lines};
 ghost use Rattle.run_reports.specs.declared.files.RunFiles.{RunFiles};
-ghost use Rattle.run_commands.specs.declared.run.Run.{Run as TheRun};
-ghost use Rattle.run_commands.specs.Run.{AcceptedRunsMakeOutput, RunMakes, files_in, run_in, run_refusals};
+ghost use Rattle.run_commands.specs.Run.{RunMakes, files_in, run_in, run_refusals};
 
-use alone_runs::laws::answers_under_plans;
 use alone_runs::{Row, run_on};
 use box_tree::CertKind;
 use byte_scaling::Width;
-use command_parts::certs::accepted_errors_are_one;
 use command_parts::contents::Content;
-use command_parts::firmware::{
-    Compiled, Form, firmware_of, given_firmwares_are_one, spelled_texts_have_no_fault,
-};
-use command_parts::images::{given_images_have_no_fault, require_image};
+use command_parts::firmware::{Compiled, Form, firmware_of};
+use command_parts::images::require_image;
 use command_parts::lines::labelled;
 use command_parts::output::Output;
 use command_parts::words::flags;
@@ -29,9 +24,7 @@ use fz_shelf::Line;
 use fz_status::{Status, word};
 use run_reports::files::{InputFiles, RunFiles};
 use run_reports::inputs::{Inputs, inputs_of};
-use run_reports::laws::{
-    accepted_inputs_have_no_fault, answers_are_reported, spelled_inputs_are_one,
-};
+use run_reports::laws::answers_are_reported;
 use run_reports::row_lines::{begun, push_rows};
 use std::alloc::{AllocError, Global};
 
@@ -149,31 +142,4 @@ fn left_in<M: Mem>(memory: &M) -> u32
         sum += u32::from(memory.read(at));
     }
     sum
-}
-
-/// Files that make an output make no fault.
-pub fn certified_runs_have_no_fault()
-    ensures { (run : TheRun) (files : RunFiles) → OutputHasNoFault (RunMakes run files) }
-{
-    spelled_texts_have_no_fault();
-    given_firmwares_are_one();
-    given_images_have_no_fault();
-    accepted_inputs_have_no_fault()
-}
-
-/// Files that are accepted make an output.
-pub fn accepted_runs_make_output()
-    ensures { AcceptedRunsMakeOutput }
-{
-    answers_are_reported();
-    answers_under_plans()
-}
-
-/// Files make at most one output.
-pub fn run_outputs_are_one()
-    ensures { (run : TheRun) (files : RunFiles) → OutputsAreOne (RunMakes run files) }
-{
-    given_firmwares_are_one();
-    accepted_errors_are_one();
-    spelled_inputs_are_one()
 }

@@ -2,9 +2,10 @@
 ghost use Rattle.run_reports.specs.Laws.{AcceptedInputsHaveNoFault, AnswersAreReported, AnswersKeepTheBound};
 ghost use Rattle.run_reports.specs.Laws.{SpelledBytesFit, SpelledSamplesHaveNoFault, SpelledTracesAreOneLong};
 ghost use Rattle.run_reports.specs.Laws.{SpelledInputsAreOne, SpelledTracesAreShort};
+ghost use Rattle.run_reports.specs.{Nearness.AnswersAreWithinErrors, Faultless.FaultlessAnswersAreNear};
+ghost use Rattle.run_reports.specs.{Posted.PostedAnswersAreNear};
 
-use crate::nearness::answers_are_within_errors;
-use command_parts::certs::accepted_certs_have_no_fault;
+use command_parts::laws::accepted_certs_have_no_fault;
 use fz_rows::laws::first_rows_are_one;
 use interrupt_plan::laws::{spelled_entries_are_one, spelled_plans_have_no_fault};
 use trace_io::laws::spelled_traces_have_no_fault;
@@ -60,4 +61,29 @@ pub fn spelled_inputs_are_one()
 {
     first_rows_are_one();
     spelled_entries_are_one()
+}
+
+/// The rows of a block's firmware are within the errors of each accepted certificate of the exact
+/// answers, which know no bytes, tables, slots or machine: for answers of a byte and of 16 bits.
+pub fn answers_are_within_errors()
+    ensures { AnswersAreWithinErrors }
+{
+    cert_check::laws::accepted_answers_are_near();
+}
+
+/// The rows of a firmware with watched tables in which FAULT was 0 are within the errors of each
+/// accepted certificate of the exact answers, where no output has NC; with NC those before the first
+/// row in which FAULT was 1.
+pub fn faultless_answers_are_near()
+    ensures { FaultlessAnswersAreNear }
+{
+    cert_check::laws::accepted_answers_are_near();
+}
+
+/// A block's answers to samples of a trace that are posted are within the errors of each accepted
+/// certificate of the exact answers to the samples that were answered up to each.
+pub fn posted_answers_are_near()
+    ensures { PostedAnswersAreNear }
+{
+    cert_check::laws::accepted_answers_are_near();
 }

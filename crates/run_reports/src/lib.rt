@@ -13,5 +13,4 @@
 pub mod files;
 pub mod inputs;
 pub mod laws;
-pub mod nearness;
 pub mod row_lines;

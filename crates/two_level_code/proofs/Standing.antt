@@ -162,7 +162,7 @@ byte_alone holds slow fast two at h lt =
     let alone = h.slow_alone in
     let image = alone.firmware.image in
     let items : firmware_items main_map slow two.slow.width ≡ slow_block slow ++ vector_items main_map =
-    ap (λ (w : Width). firmware_items main_map slow w) alone.narrow in
+    ap (λ (w : Width). firmware_items main_map slow w) alone.width in
     (holds two.slow.image.bytes).1 at lt
     ∙ ap byte_or_zero (image.bytes.bytes at ∙ ap (λ (xs : List Item). byte_at (given_by xs) at) items)
 

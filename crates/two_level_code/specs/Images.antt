@@ -26,7 +26,7 @@ two_items slow fast = fast_items fast ++ slow_items slow
 -- a block's firmware that answers bytes and stands alone
 pub record IsAlone (b : Block) (f : Firmware) : Type 0 where
   pub firmware : IsFirmwareOf b f
-  pub narrow : f.width ≡ Byte
+  pub width : f.width ≡ Byte
 
 -- the bounds of a firmware are the block's, for answers of bytes
 pub record HasByteBounds (b : Block) (f : Firmware) : Type 0 where

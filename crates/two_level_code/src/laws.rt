@@ -6,8 +6,7 @@ use alone_code::laws::{
     firmware_answers_beside, firmware_arrives_alike, firmwares_are_one, images_are_one,
 };
 use cpu12_emul::laws::holds_image;
-use cpu12_isa::decode::decodes_encoded;
-use cpu12_isa::laws::{stays_fit, writes_stay};
+use cpu12_isa::laws::{decodes_encoded, stays_fit, writes_stay};
 use eval_code::laws::{blocks_are_placed, eval_answers, placed_items_stand};
 
 /// Wherever an interrupt enters the fast code it leads to its return with its block's answers, within its

@@ -19,7 +19,7 @@ map_is : (x : Given) → x.two.slow.memory_map ≡ main_map
 map_is x = let is = x.is_two in let alone = is.slow_alone in let firmware = alone.firmware in firmware.memory_map
 
 width_is : (x : Given) → x.two.slow.width ≡ Byte
-width_is x = let is = x.is_two in let alone = is.slow_alone in alone.narrow
+width_is x = let is = x.is_two in let alone = is.slow_alone in alone.width
 
 outputs_few : (x : Given) → x.two.slow.outputs ≤ 4
 outputs_few x =

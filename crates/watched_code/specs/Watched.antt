@@ -38,7 +38,7 @@ pub record IsWatchedFirmwareOf (b : Block) (f : Firmware) : Type 0 where
   pub memory_map : f.memory_map ≡ watched_map b
   pub inputs : f.inputs ≡ length b.inputs
   pub outputs : f.outputs ≡ length b.outputs
-  pub narrow : f.width ≡ Byte
+  pub width : f.width ≡ Byte
   pub instructions : f.instr_bound ≡ watched_bound b
   pub steps : f.step_bound ≡ steps_by b (watched_bound b)
 

@@ -6,7 +6,7 @@ use alone_code::laws::{
     called_eval_returns, frames_lead, free_bytes_leave, image_has_firmware, images_are_one,
     instructions_go_on, live_states_wait,
 };
-use byte_scaling::nearest_is_byte;
+use byte_scaling::laws::nearest_is_byte;
 use cpu12_isa::laws::stays_fit;
 use eval_code::laws::{blocks_are_placed, code_is_decoded};
 

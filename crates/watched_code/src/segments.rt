@@ -8,8 +8,8 @@ ghost use Rattle.watched_code.specs.WatchedCode.{segment_bytes, segments_of, wei
 use eval_code::{MemoryMap, rule_bytes, singleton_bytes, table_bytes};
 use fuzzy_meaning::Block;
 use fz_list::List;
-use rule_layout::{Flat, Form};
 use rule_layout::laws::flat_has_parts;
+use rule_layout::{Flat, Form};
 use std::alloc::{AllocError, Global};
 
 /// A part of an image whose bytes are summed: where it starts, and its bytes.

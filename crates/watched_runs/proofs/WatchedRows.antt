@@ -41,7 +41,7 @@ record HasPorts (b : Block) (f : Firmware) : Type 0 where
   low : IsLow f
   few : length b.outputs ≤ 4
   outputs : f.outputs ≡ length b.outputs
-  narrow : f.width ≡ Byte
+  width : f.width ≡ Byte
   steps : f.step_bound ≡ steps_by b f.instr_bound
   enough : 3 ≤ f.step_bound
 
@@ -177,7 +177,7 @@ value_is b f p t o a from to e =
     let few = p.few in
     let room = p.answers in
     let at : f.memory_map.outputs + (o - 1) ≡ f.memory_map.outputs + 1 * (o - 1) = omega arith in
-    ap (λ (w : Width). slice_index (answers_at w f.outputs f.memory_map.outputs t.mem) (o - 1)) p.narrow
+    ap (λ (w : Width). slice_index (answers_at w f.outputs f.memory_map.outputs t.mem) (o - 1)) p.width
     ∙ answer_there f.outputs f.memory_map.outputs t.mem (o - 1) (omega (arith, n, from, to))
     (omega (arith, n, few, room))
     ∙ ap (λ (i : ℕ). slice_index t.mem i) at ∙ e
@@ -311,7 +311,7 @@ ports b f few h =
     let outputs : f.memory_map.outputs ≡ 0x1010 = at (λ l. l.outputs) in
     let ready : f.memory_map.ready ≡ 0x1000 = at (λ l. l.ready) in
     let n = h.outputs in
-    let size = few_answers f.width f.outputs h.narrow (omega (arith, n, few)) in
+    let size = few_answers f.width f.outputs h.width (omega (arith, n, few)) in
     let steps : f.step_bound ≡ steps_by b f.instr_bound = h.steps ∙ sym (ap (steps_by b) h.instructions) in
     record {
       samples = omega (arith, samples);
@@ -320,7 +320,7 @@ ports b f few h =
       low = record { ready = omega (arith, ready); outputs = omega (arith, outputs, size) };
       few = few;
       outputs = n;
-      narrow = h.narrow;
+      width = h.width;
       steps = steps;
       enough = subst (λ (k : ℕ). 3 ≤ k) (sym h.steps) (enough_steps b few);
     }

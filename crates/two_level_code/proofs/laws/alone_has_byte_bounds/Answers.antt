@@ -7,6 +7,6 @@ pub returns : goal.returns
 returns c b f is =
     let firmware = is.firmware in
     record {
-      instructions = firmware.instructions ∙ ap (λ (w : Width). instruction_bound w b) is.narrow;
-      steps = firmware.steps ∙ ap (λ (w : Width). step_bound w b) is.narrow;
+      instructions = firmware.instructions ∙ ap (λ (w : Width). instruction_bound w b) is.width;
+      steps = firmware.steps ∙ ap (λ (w : Width). step_bound w b) is.width;
     }

@@ -5,7 +5,7 @@ use Rattle.two_level_code.specs.Images.{IsAlone, two_items}
 use Rattle.two_level_code.proofs.laws.twos_are_one.Goals as goal
 
 alone_is_one : FirmwaresAreOne → (b : Block) (f g : Firmware) → IsAlone b f → IsAlone b g → f ≡ g
-alone_is_one one b f g of_f of_g = one b f g (of_f.narrow ∙ sym of_g.narrow) of_f.firmware of_g.firmware
+alone_is_one one b f g of_f of_g = one b f g (of_f.width ∙ sym of_g.width) of_f.firmware of_g.firmware
 
 pub returns : goal.returns
 returns c slow fast f g of_f of_g =

@@ -7,8 +7,8 @@ pub returns-clause-two : goal.returns-clause-two
 returns-clause-two c = record {
   image = subst (λ (xs : List Item). IsImageOf xs c.in_ok-image.image)
       (c.as_slice.ensures.value ∙ c.in_ok-items.ensures) c.in_ok-image.ensures;
-  slow_alone = record { firmware = c.in_ok-slow_alone.ensures.firmware; narrow = c.in_ok-slow_alone.ensures.width };
-  fast_alone = record { firmware = c.in_ok-fast_alone.ensures.firmware; narrow = c.in_ok-fast_alone.ensures.width };
+  slow_alone = record { firmware = c.in_ok-slow_alone.ensures.firmware; width = c.in_ok-slow_alone.ensures.width };
+  fast_alone = record { firmware = c.in_ok-fast_alone.ensures.firmware; width = c.in_ok-fast_alone.ensures.width };
 }
 
 pub returns-clause-beside : goal.returns-clause-beside

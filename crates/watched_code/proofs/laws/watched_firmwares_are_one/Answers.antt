@@ -6,5 +6,5 @@ pub returns : goal.returns
 returns c b f g of_f of_g =
     let image = c.images_are_one.ensures (watched_items b) f.image g.image of_f.image of_g.image in
     of_parts f g image (of_f.memory_map ∙ sym of_g.memory_map) (of_f.inputs ∙ sym of_g.inputs)
-    (of_f.outputs ∙ sym of_g.outputs) (of_f.narrow ∙ sym of_g.narrow) (of_f.instructions ∙ sym of_g.instructions)
+    (of_f.outputs ∙ sym of_g.outputs) (of_f.width ∙ sym of_g.width) (of_f.instructions ∙ sym of_g.instructions)
     (of_f.steps ∙ sym of_g.steps)

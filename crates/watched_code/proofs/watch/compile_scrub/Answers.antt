@@ -44,7 +44,7 @@ returns-clause-firmware c =
       memory_map = ap (λ (n : ℕ). let l : MemoryMap = record main_map { eval = 49152 + n } in l) size;
       inputs = search rules;
       outputs = search rules;
-      narrow = refl;
+      width = refl;
       instructions = bound;
       steps = c.steps_by-step_bound.ensures ∙ ap (steps_by b) bound;
     }

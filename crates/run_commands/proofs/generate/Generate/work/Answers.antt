@@ -43,7 +43,7 @@ returns c =
     let gives : GivesFirmware (Alone Byte) w.text.items w.block firmware = record {
       spelled = drawn.spelled;
       limits = subst IsWithinLimits (sym drawn.block_is) (c.drawn_blocks_are_within_limits.ensures (draw number 0 5));
-      compiled = (c.in_ok-firmware.ensures.firmware, c.in_ok-firmware.ensures.narrow);
+      compiled = (c.in_ok-firmware.ensures.firmware, c.in_ok-firmware.ensures.width);
     } in
     let lines_of = λ (es : List ℕ) (rs : List Row). generate_lines number es bound (map row_seen rs) in
     record {

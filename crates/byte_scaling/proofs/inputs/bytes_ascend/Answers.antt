@@ -1,5 +1,0 @@
-use Rattle.byte_scaling.proofs.CellLemmas.{byte_of-mono}
-use Rattle.byte_scaling.proofs.inputs.bytes_ascend.Goals as goal
-
-pub returns : goal.returns
-returns c = byte_of-mono

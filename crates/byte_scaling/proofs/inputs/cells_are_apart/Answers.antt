@@ -1,5 +1,0 @@
-use Rattle.byte_scaling.proofs.CellLemmas.{cells_apart}
-use Rattle.byte_scaling.proofs.inputs.cells_are_apart.Goals as goal
-
-pub returns : goal.returns
-returns c = cells_apart

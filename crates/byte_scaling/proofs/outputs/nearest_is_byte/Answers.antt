@@ -1,5 +1,0 @@
-use Rattle.byte_scaling.proofs.CellLemmas.{nearest_byte-le}
-use Rattle.byte_scaling.proofs.outputs.nearest_is_byte.Goals as goal
-
-pub returns : goal.returns
-returns c = nearest_byte-le

@@ -1,6 +1,0 @@
-use Rattle.cell_bounds.proofs.ClaimLemmas.{counts_least}
-use Rattle.cell_bounds.proofs.claims.counts_are_least.Goals as goal
-
-pub returns : goal.returns
-returns c = counts_least c.best_bounds_are_least.ensures c.tight_bounds_are_least.ensures
-    c.tight_bounds_hold_inside.ensures

@@ -1,5 +1,0 @@
-use Rattle.cell_bounds.proofs.ClaimLemmas.{claims_tight}
-use Rattle.cell_bounds.proofs.claims.tight_claims_are_least.Goals as goal
-
-pub returns : goal.returns
-returns c = claims_tight c.tight_bounds_are_least.ensures

@@ -1,0 +1,7 @@
+//! Which masses have an error.
+ghost use Rattle.cell_error.specs.{Errors.CoveredMassesHaveErrors, Cuts.masses};
+
+/// Where an error serves for all masses there is a least one, which is no greater.
+pub fn covered_masses_have_errors()
+    ensures { CoveredMassesHaveErrors }
+{}

@@ -1,5 +1,0 @@
-use Rattle.command_parts.proofs.ImageLemmas.{records_apart}
-use Rattle.command_parts.proofs.images.given_records_have_no_fault.Goals as goal
-
-pub returns : goal.returns
-returns c = records_apart c.images_are_one.ensures.no_fault

@@ -1,5 +1,0 @@
-use Rattle.cpu12_parts.proofs.OneWay.{executions_are_one}
-use Rattle.cpu12_parts.proofs.executions.executions_are_one.Goals as goal
-
-pub returns : goal.returns
-returns c = executions_are_one

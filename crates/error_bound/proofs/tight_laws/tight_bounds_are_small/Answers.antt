@@ -1,5 +1,0 @@
-use Rattle.error_bound.proofs.TightLawLemmas.{small_bound}
-use Rattle.error_bound.proofs.tight_laws.tight_bounds_are_small.Goals as goal
-
-pub returns : goal.returns
-returns c = small_bound

@@ -1,5 +1,0 @@
-use Rattle.error_bound.proofs.TightLawLemmas.{tight_parts}
-use Rattle.error_bound.proofs.tight_laws.tight_bounds_fall_with_parts.Goals as goal
-
-pub returns : goal.returns
-returns c = tight_parts

@@ -1,5 +1,0 @@
-use Rattle.error_bound.proofs.TightLawLemmas.{tight_inside}
-use Rattle.error_bound.proofs.tight_laws.tight_bounds_hold_inside.Goals as goal
-
-pub returns : goal.returns
-returns c = tight_inside

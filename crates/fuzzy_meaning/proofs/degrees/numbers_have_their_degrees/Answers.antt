@@ -1,5 +1,0 @@
-use Rattle.fuzzy_meaning.proofs.PlaceLemmas.{degree_at-number}
-use Rattle.fuzzy_meaning.proofs.degrees.numbers_have_their_degrees.Goals as goal
-
-pub returns : goal.returns
-returns c = degree_at-number

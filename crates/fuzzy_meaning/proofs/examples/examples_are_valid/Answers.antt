@@ -1,5 +1,0 @@
-use Rattle.fuzzy_meaning.proofs.ExampleLemmas.{examples_are_valid}
-use Rattle.fuzzy_meaning.proofs.examples.examples_are_valid.Goals as goal
-
-pub returns : goal.returns
-returns c = examples_are_valid
