@@ -16,7 +16,7 @@ use command_parts::laws::{
 };
 use cpu12_asm::laws::{ascending_bytes_are_one, sources_give_bytes};
 use cpu12_emul::laws::{holds_image, images_load_alike, runs_end_once};
-use error_certifier::laws::{answers_are_one, halvings_are_within_their_target};
+use error_certifier::laws::halvings_are_within_their_target;
 use fcl_check::laws::spelled_blocks_are_one;
 use handler_check::laws::answers_are_one;
 use srecord::laws::{image_texts_are_one, images_are_one, images_have_texts};
@@ -110,7 +110,7 @@ pub fn certify_outputs_are_one()
     ensures { (certify : TheCertify) (text : List ℕ) → OutputsAreOne (CertifyMakes certify text) }
 {
     given_firmwares_are_one();
-    answers_are_one()
+    error_certifier::laws::answers_are_one()
 }
 
 /// A text and a certificate that make an output make no fault.
