@@ -14,7 +14,7 @@ use Rattle.cpu12_parts.specs.{declared.temps.Temps.Temps, declared.temps.Temps.T
 use Rattle.cpu12_parts.specs.{Parts.sum_bytes, Laws.IsOff}
 use Rattle.cpu12_parts.specs.Inside.{pushed_sums, PushesRunning, PushesNone}
 use Rattle.cpu12_parts.proofs.Algebra.{temps_cases}
-use Rattle.cpu12_emul.specs.Take.{pairs_of, pushed, written, framed, taken, FrameSeen, frame_size, frame_of, frame_in}
+use Rattle.cpu12_emul.specs.Take.{pairs_of, pushed, written, framed, taken, FrameSeen, frame_size, frame_of, frame_on}
 use Rattle.cpu12_emul.specs.Simulation.{AreOpen, Same, Marks, Parked, HasRoom, TakesQuietly, TakeKeeps}
 use Rattle.cpu12_emul.specs.Simulation.{FrameIsOnStack}
 use Rattle.cpu12_emul.proofs.Algebra.{pushed_marked, marked_off}
@@ -216,13 +216,13 @@ full_frame running s p w e size =
     by : State → ℕ → List ℕ → FrameSeen
     by v k b = record { pc = v.regs.pc; sp = k; bytes = b }
 
-frame_in_off : (s : State) (t : Temps) → IsOff t
-    → frame_in s t ≡ record { pc = s.regs.pc; sp = plus s.regs.sp 65527; bytes = frame_bytes s.regs }
-frame_in_off s t (inl e) = ap (frame_in s) e
-frame_in_off s t (inr e) = ap (frame_in s) e
+frame_on_off : (s : State) (t : Temps) → IsOff t
+    → frame_on true s t ≡ record { pc = s.regs.pc; sp = plus s.regs.sp 65527; bytes = frame_bytes s.regs }
+frame_on_off s t (inl e) = ap (frame_on true s) e
+frame_on_off s t (inr e) = ap (frame_on true s) e
 
 pub frame_is_on_stack : PushesRunning → PushesNone → FrameIsOnStack
 frame_is_on_stack running none s size low = elim (temps_cases s.temps) [
-  | inl off ↦ plain_frame none s off size ∙ sym (frame_in_off s s.temps off)
-  | inr run ↦ full_frame running s run.0 run.1 run.2 size ∙ sym (ap (frame_in s) run.2)
+  | inl off ↦ plain_frame none s off size ∙ sym (frame_on_off s s.temps off)
+  | inr run ↦ full_frame running s run.0 run.1 run.2 size ∙ sym (ap (frame_on true s) run.2)
 ]

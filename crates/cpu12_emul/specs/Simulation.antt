@@ -12,7 +12,7 @@ use Rattle.cpu12_parts.specs.declared.temps.Temps.TheVariants.{Free, Running, On
 use Rattle.cpu12_parts.specs.Parts.{sum_bytes, Kind, part_of, wav}
 use Rattle.cpu12_emul.specs.declared.ends.Stepped.TheVariants.{Plain}
 use Rattle.cpu12_emul.specs.Step.{Left, Next, kind_of, step_act, next_of}
-use Rattle.cpu12_emul.specs.Take.{framed, taken, frame_of, frame_in}
+use Rattle.cpu12_emul.specs.Take.{framed, taken, frame_of, frame_on}
 
 -- all writes are to open bytes
 abbrev pub AreOpen : (ℕ → Bool) → List Write → Type 0
@@ -118,7 +118,7 @@ TakeKeeps =
 
 -- A frame on the stack is the nine bytes of the registers, and the six of the sums where they run.
 abbrev pub FrameIsOnStack : Type 0
-FrameIsOnStack = (s : State) → length s.mem ≡ 65536 → s.regs.sp < 2 ^ 16 → frame_of s ≡ frame_in s s.temps
+FrameIsOnStack = (s : State) → length s.mem ≡ 65536 → s.regs.sp < 2 ^ 16 → frame_of s ≡ frame_on true s s.temps
 
 -- A plain instruction is one step, which reads its six bytes and what it reads itself.
 abbrev pub PlainIsStep : Type 0

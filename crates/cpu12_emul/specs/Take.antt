@@ -1,6 +1,6 @@
 -- An interrupt that is taken.
 -- Reached by the promise.
-use Rattle.std.specs.Prelude.{ℕ, Bool, true, not, List, [], ◌∷◌, ◌++◌}
+use Rattle.std.specs.Prelude.{ℕ, Bool, true, not, List, [], ◌∷◌, ◌++◌, if◌then◌else◌}
 use Rattle.cpu12_isa.specs.{declared.instr.Write.Write, Act.write_all, Flags.interrupts_masked, Flags.has, Flags.put}
 use Rattle.cpu12_isa.specs.{Regions.vector_word, Registers.frame_bytes, Registers.pulled}
 use Rattle.cpu12_isa.specs.Memory.{plus, from, placed, bytes_at}
@@ -71,12 +71,13 @@ frame_of s =
     let v = pushed (suspended wav s) in
     record { pc = v.regs.pc; sp = v.regs.sp; bytes = bytes_at v.mem (from v.regs.sp (frame_size s.temps)) }
 
--- the same without a look at the stack
-abbrev pub frame_in : State → Temps → FrameSeen
-frame_in s Free = record { pc = s.regs.pc; sp = plus s.regs.sp 65527; bytes = frame_bytes s.regs }
-frame_in s OnStack = record { pc = s.regs.pc; sp = plus s.regs.sp 65527; bytes = frame_bytes s.regs }
-frame_in s (Running p w) = record {
+-- the same read off the registers and sums, without a look at the stack: the first frame at a boundary has the sums'
+-- bytes
+abbrev pub frame_on : Bool → State → Temps → FrameSeen
+frame_on first s Free = record { pc = s.regs.pc; sp = plus s.regs.sp 65527; bytes = frame_bytes s.regs }
+frame_on first s OnStack = record { pc = s.regs.pc; sp = plus s.regs.sp 65527; bytes = frame_bytes s.regs }
+frame_on first s (Running p w) = record {
   pc = s.regs.pc;
   sp = plus s.regs.sp 65521;
-  bytes = frame_bytes s.regs ++ sum_bytes p w;
+  bytes = if first then frame_bytes s.regs ++ sum_bytes p w else frame_bytes s.regs;
 }

@@ -9,7 +9,7 @@ use Rattle.mailbox_runs.proofs.Words.{Taking, TakingLaws, told, true, turn_form,
 use Rattle.mailbox_runs.proofs.Words.{ℕ}
 use Rattle.std.specs.{Prelude.◌==◌}
 use Rattle.cpu12_isa.specs.{Fits.FitsRegs}
-use Rattle.cpu12_emul.specs.{Take.frame_in}
+use Rattle.cpu12_emul.specs.{Take.frame_on}
 use Rattle.mailbox_runs.proofs.LastOnes.{zero_or, none_put, some_put}
 use Rattle.mailbox_runs.proofs.Mailing.{leaves_stack, open_post, post_mailed, mailed_apart, mailed_over}
 
@@ -112,7 +112,7 @@ module _ (laws : TakingLaws) (flags : ℕ) (f : Firmware) (samples : List (List 
       let test : (may_interrupt v && nat_le q.moment m) ≡ true = ap₂ (λ (x y : Bool). x && y) r.may e in
       let is : takes form m (q ∷ qs) v ≡ put_take (m, frame_of v) (told form q v) b = rw test refl in
       let frame : frame_of v ≡ plain_frame v.regs = laws.frame_is_on_stack v r.size (omega (arith, r.high))
-      ∙ ap (frame_in v) r.temps in
+      ∙ ap (frame_on true v) r.temps in
       let over : Same is_free (posted f.memory_map samples w v1) (posted f.memory_map samples (last_of q.sample w) v) =
       record {
         regs = one.regs;

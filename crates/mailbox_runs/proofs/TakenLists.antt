@@ -4,7 +4,8 @@ use Rattle.mailbox_runs.proofs.Words.{arith, Ascend, behind, Bool, false, frames
 use Rattle.mailbox_runs.proofs.Words.{has_moment, if◌then◌else◌, is_inside, is_new, List, map, max, nat_le, nat_lt}
 use Rattle.mailbox_runs.proofs.Words.{nat_tests, None, one_if, Option, plain_frame, Post, refl, resumed_of, Some}
 use Rattle.mailbox_runs.proofs.Words.{State, suc, taken_from, true, uninterrupted, up_to, zero, ℕ}
-use Rattle.run_law.specs.Uninterrupted.{taken_before, left_from, frame_on, expected_frame}
+use Rattle.run_law.specs.Uninterrupted.{taken_before, left_from, expected_frame}
+use Rattle.cpu12_emul.specs.Take.{frame_on}
 use Rattle.std.specs.{Prelude.◌==◌}
 
 -- ---- posts that ascend

@@ -9,13 +9,13 @@ use Rattle.cpu12_parts.specs.{declared.temps.Temps.Temps, State.State, Laws.IsOf
 use Rattle.cpu12_parts.specs.declared.temps.Temps.TheVariants.{Free, Running}
 use Rattle.cpu12_parts.specs.Parts.{sum_bytes, suspended, wav}
 use Rattle.cpu12_parts.proofs.Algebra.{temps_cases}
-use Rattle.cpu12_emul.specs.Take.{FrameSeen, frame_of, frame_in, may_interrupt}
+use Rattle.cpu12_emul.specs.Take.{FrameSeen, frame_of, frame_on, may_interrupt}
 use Rattle.cpu12_emul.specs.Simulation.{Same, Marks, OnStackOnly, OnStackOrNone, AreMarked, Parked, Simulates}
 use Rattle.cpu12_emul.specs.Simulation.{HasRoom, IsShownStep}
 use Rattle.cpu12_emul.proofs.Algebra.{pushed_marked, marked_off}
 use Rattle.run_law.specs.Forms.{Form, taken, told}
 use Rattle.run_law.specs.Soundness.{below_sums, Begins, AreLeft, Quiet}
-use Rattle.run_law.specs.{Uninterrupted.frame_on, Uninterrupted.expected_frame, Following.IsToldIn, Steps.MachineLaws}
+use Rattle.run_law.specs.{Uninterrupted.expected_frame, Following.IsToldIn, Steps.MachineLaws}
 use Rattle.run_law.proofs.Grounds.{Ground}
 
 -- which sums a handler may leave
@@ -117,7 +117,7 @@ taken_running laws marks open_to w s p q a k l run =
         regs = ap (λ (r : Regs). record r { sp = plus r.sp 65530 }) l.regs ∙ ap (below_sums s.regs) (sym run);
         mem = below;
       });
-      frame = laws.frame_is_on_stack w size (omega arith) ∙ ap (frame_in w) now
+      frame = laws.frame_is_on_stack w size (omega arith) ∙ ap (frame_on true w) now
           ∙ ap (λ (r : Regs). full_by r p q) l.regs
           ∙ ap (λ (t : Temps). frame_on true s t) (sym run);
       after = λ u quiet. inr (parked_by u (subst (λ (v : State). Quiet marks open_to u v s) is quiet), refl);
@@ -156,9 +156,9 @@ taken_running laws marks open_to w s p q a k l run =
 abbrev nine_frame : Regs → ℕ → FrameSeen
 nine_frame r sp = record { pc = r.pc; sp = sp; bytes = frame_bytes r }
 
-frame_off : (w : State) → IsOff w.temps → frame_in w w.temps ≡ nine_frame w.regs (plus w.regs.sp 65527)
-frame_off w (inl e) = ap (frame_in w) e
-frame_off w (inr e) = ap (frame_in w) e
+frame_off : (w : State) → IsOff w.temps → frame_on true w w.temps ≡ nine_frame w.regs (plus w.regs.sp 65527)
+frame_off w (inl e) = ap (frame_on true w) e
+frame_off w (inr e) = ap (frame_on true w) e
 
 expected_off : (first : Bool) (s : State) → IsOff s.temps
     → expected_frame first s ≡ nine_frame s.regs (plus s.regs.sp 65527)

@@ -2,11 +2,9 @@
 -- Reached by the promise.
 use Rattle.std.specs.Prelude.{ℕ, zero, suc, ◌+◌, ◌-◌, ◌==◌, ◌&&◌, ◌||◌, not, nat_lt, Bool, true, false, if◌then◌else◌}
 use Rattle.std.specs.Prelude.{Result, Ok, Err, Option, Some, None, List, [], ◌∷◌, ◌++◌}
-use Rattle.cpu12_isa.specs.{Memory.plus, Registers.frame_bytes}
-use Rattle.cpu12_parts.specs.{declared.temps.Temps.Temps, State.State, Parts.sum_bytes}
-use Rattle.cpu12_parts.specs.declared.temps.Temps.TheVariants.{Free, Running, OnStack}
+use Rattle.cpu12_parts.specs.State.{State}
 use Rattle.cpu12_emul.specs.declared.{ends.Stepped.Stepped, ends.Stepped.TheVariants.Plain}
-use Rattle.cpu12_emul.specs.{Step.Next, Step.next_of, Step.is_part, Take.FrameSeen, Take.may_interrupt}
+use Rattle.cpu12_emul.specs.{Step.Next, Step.next_of, Step.is_part, Take.FrameSeen, Take.frame_on, Take.may_interrupt}
 use Rattle.run_law.specs.Forms.{one_if}
 
 -- the state after a step, which stays where none is defined, and the step's kind
@@ -69,17 +67,7 @@ resumed_of flags moment s qs zero = 0
 resumed_of flags moment s qs (suc n) =
     resumed_of flags moment s qs n + one_if (is_inside flags s n && has_moment moment n qs)
 
--- the frame that is expected in a state, read off its registers and sums: the first at a boundary has the sums' bytes
-abbrev pub frame_on : Bool → State → Temps → FrameSeen
-frame_on first s (Running p w) = record {
-  pc = s.regs.pc;
-  sp = plus s.regs.sp 65521;
-  bytes = if first
-      then frame_bytes s.regs ++ sum_bytes p w else frame_bytes s.regs;
-}
-frame_on first s Free = record { pc = s.regs.pc; sp = plus s.regs.sp 65527; bytes = frame_bytes s.regs }
-frame_on first s OnStack = record { pc = s.regs.pc; sp = plus s.regs.sp 65527; bytes = frame_bytes s.regs }
-
+-- the frame that is expected in a state
 abbrev pub expected_frame : Bool → State → FrameSeen
 expected_frame first s = frame_on first s s.temps
 

@@ -3,7 +3,7 @@ use Rattle.two_level_runs.proofs.Words.{[], ◌+◌, ◌<◌, ◌∙◌, ◌∷�
 use Rattle.two_level_runs.proofs.Words.{Bool, expected_frame, false, frames_after, FrameSeen, Free, if◌then◌else◌}
 use Rattle.two_level_runs.proofs.Words.{is_new, length, List, nat_lt, OnStack, Option, plus, refl, Regs, Running}
 use Rattle.two_level_runs.proofs.Words.{Some, State, sym, taken_before, Temps, true, uninterrupted, ℕ}
-use Rattle.run_law.specs.{Uninterrupted.frame_on}
+use Rattle.cpu12_emul.specs.Take.{frame_on}
 use Rattle.std.proofs.lemmas.Bool.{ltb-true}
 
 -- a frame with the sums has room on the stack
