@@ -1,9 +1,10 @@
 //! Laws of instructions and memories.
-ghost use Rattle.std.specs.Prelude.{◌≡◌, ◌/◌};
+ghost use Rattle.std.specs.Prelude.{◌≡◌};
 ghost use Rattle.cpu12_isa.specs.Code.{DecodedHasOpcode, DecodesEncoded};
 ghost use Rattle.cpu12_isa.specs.Fits.{StaysFit, BytesStay, DecodedFits, EncodedIsShort, EncodedAreBytes};
 ghost use Rattle.cpu12_isa.specs.Agreement.{ReadsAlone, WritesAgree, WritesStay};
 ghost use Rattle.cpu12_isa.specs.Interrupts.{FrameComesBack, HidesMoreAbove, ShowsFromSp, HidesPushed};
+ghost use Rattle.cpu12_isa.specs.declared.form.TheConstants.{EVERY};
 ghost use Rattle.cpu12_isa.specs.{Meaning.Effect, Watching.NothingIsWatched, Pages.GivenAreWritten, Forms.every};
 
 /// What an instruction does depends on the bytes that it reads alone.
@@ -70,7 +71,7 @@ pub fn stack_is_hidden()
     ensures pushed { HidesPushed }
 {}
 
-/// [`EVERY`] has an instruction of each form of the table.
+/// The table [`EVERY`](crate::form::EVERY) has an instruction of each form of the table.
 pub fn every_form_stands()
     ensures { EVERY ≡ every }
 {}
