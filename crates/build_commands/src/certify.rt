@@ -31,6 +31,9 @@ pub struct Certify {
 /// The word FCL.
 pub static INPUTS: [u32; 1] = [2];
 
+/// The place of the word TARGET.
+const TARGET: u32 = 3;
+
 /// The place of the word OUT.
 const OUT: u32 = 4;
 
@@ -39,7 +42,7 @@ impl Certify {
     pub fn of(kind: CertKind, width: Width, words: &[String]) -> Option<Certify>
         ensures { result ≡ certify_in kind width (texts_of words.now) }
     {
-        let target = number_in(word(words, 3))?;
+        let target = number_in(word(words, TARGET))?;
         Some(Certify {
             kind,
             width,

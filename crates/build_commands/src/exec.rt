@@ -32,13 +32,19 @@ pub struct Exec {
 /// The word IMAGE.
 pub static INPUTS: [u32; 1] = [2];
 
+/// The place of the word STEPS.
+const STEPS: u32 = 3;
+
+/// The place of the word FLAGS.
+const FLAGS: u32 = 4;
+
 impl Exec {
     /// The command of these words.
     pub fn of(words: &[String]) -> Option<Exec>
         ensures { result ≡ exec_in (texts_of words.now) }
     {
-        let steps = number_in(word(words, 3))?.get();
-        let flags = flags(word(words, 4))?;
+        let steps = number_in(word(words, STEPS))?.get();
+        let flags = flags(word(words, FLAGS))?;
         Some(Exec { steps, flags })
     }
 

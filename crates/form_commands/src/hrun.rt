@@ -37,6 +37,9 @@ pub struct Hrun {
 /// The words FCL, HANDLER, CERT, TRACE and PLAN.
 pub static INPUTS: [u32; 5] = [2, 3, 4, 5, 6];
 
+/// The place of the word FLAGS.
+const FLAGS: u32 = 7;
+
 /// Their contents.
 pub fn files_of(contents: &[Vec<u8>]) -> HandledFiles<'_>
     requires { All (λ c. length c.items ≤ 1048576) contents.now }
@@ -91,7 +94,7 @@ impl Hrun {
     pub fn of(words: &[String]) -> Option<Hrun>
         ensures { result ≡ hrun_in (texts_of words.now) }
     {
-        let flags = flags(word(words, 7))?;
+        let flags = flags(word(words, FLAGS))?;
         Some(Hrun { flags })
     }
 

@@ -46,6 +46,9 @@ pub struct Lrun {
 /// The words SLOW, FAST, IMAGE, SCERT, FCERT, STRACE, FTRACE and LEVELS.
 pub static INPUTS: [u32; 8] = [2, 3, 4, 5, 6, 7, 8, 9];
 
+/// The place of the word FLAGS.
+const FLAGS: u32 = 10;
+
 /// Their contents.
 pub fn files_of(contents: &[Vec<u8>]) -> LevelFiles<'_>
     requires { All (λ c. length c.items ≤ 1048576) contents.now }
@@ -114,7 +117,7 @@ impl Lrun {
     pub fn of(words: &[String]) -> Option<Lrun>
         ensures { result ≡ lrun_in (texts_of words.now) }
     {
-        let flags = flags(word(words, 10))?;
+        let flags = flags(word(words, FLAGS))?;
         Some(Lrun { flags })
     }
 

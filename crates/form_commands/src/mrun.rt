@@ -41,6 +41,9 @@ pub struct Mrun {
 /// The words FCL, IMAGE, CERT, TRACE and POSTS.
 pub static INPUTS: [u32; 5] = [2, 3, 4, 5, 6];
 
+/// The place of the word FLAGS.
+const FLAGS: u32 = 7;
+
 /// Their contents.
 pub fn files_of(contents: &[Vec<u8>]) -> PostedFiles<'_>
     requires { All (λ c. length c.items ≤ 1048576) contents.now }
@@ -97,7 +100,7 @@ impl Mrun {
     pub fn of(words: &[String]) -> Option<Mrun>
         ensures { result ≡ mrun_in (texts_of words.now) }
     {
-        let flags = flags(word(words, 7))?;
+        let flags = flags(word(words, FLAGS))?;
         Some(Mrun { flags })
     }
 

@@ -40,6 +40,9 @@ pub struct Srun {
 /// The words FCL, IMAGE, CERT, TRACE, PLAN and UPSETS.
 pub static INPUTS: [u32; 6] = [2, 3, 4, 5, 6, 7];
 
+/// The place of the word FLAGS.
+const FLAGS: u32 = 8;
+
 /// Their contents.
 pub fn files_of(contents: &[Vec<u8>]) -> WatchedFiles<'_>
     requires { All (λ c. length c.items ≤ 1048576) contents.now }
@@ -95,7 +98,7 @@ impl Srun {
     pub fn of(words: &[String]) -> Option<Srun>
         ensures { result ≡ srun_in (texts_of words.now) }
     {
-        let flags = flags(word(words, 8))?;
+        let flags = flags(word(words, FLAGS))?;
         Some(Srun { flags })
     }
 

@@ -32,6 +32,9 @@ pub struct DebugRun {
 /// The words FCL, IMAGE, TRACE, PLAN and SCRIPT.
 pub static INPUTS: [u32; 5] = [2, 3, 4, 5, 7];
 
+/// The place of the word FLAGS.
+const FLAGS: u32 = 6;
+
 /// The files of a run that a script is obeyed over.
 #[derive(Drop)]
 pub struct DebugFiles<'a> {
@@ -93,7 +96,7 @@ impl DebugRun {
     pub fn of(words: &[String]) -> Option<DebugRun>
         ensures { result ≡ debug_in (texts_of words.now) }
     {
-        let flags = flags(word(words, 6))?;
+        let flags = flags(word(words, FLAGS))?;
         Some(DebugRun { flags })
     }
 

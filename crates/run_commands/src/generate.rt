@@ -37,6 +37,9 @@ pub struct Generate {
 /// It reads no file.
 pub static INPUTS: [u32; 0] = [];
 
+/// The place of the word NUMBER.
+const NUMBER: u32 = 2;
+
 /// The error that the certificate is not to pass, in millionths of the output's range.
 const TARGET: u32 = 400_000;
 
@@ -56,7 +59,7 @@ impl Generate {
     pub fn of(words: &[String]) -> Option<Generate>
         ensures { result ≡ generate_in (texts_of words.now) }
     {
-        let number = number32_in(word(words, 2))?;
+        let number = number32_in(word(words, NUMBER))?;
         Some(Generate { number })
     }
 

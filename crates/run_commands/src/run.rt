@@ -43,6 +43,9 @@ pub struct Run {
 /// The words FCL, IMAGE, CERT, TRACE and PLAN.
 pub static INPUTS: [u32; 5] = [2, 3, 4, 5, 6];
 
+/// The place of the word FLAGS.
+const FLAGS: u32 = 7;
+
 /// Their contents.
 pub fn files_of(contents: &[Vec<u8>]) -> RunFiles<'_>
     requires { All (λ c. length c.items ≤ 1048576) contents.now }
@@ -85,7 +88,7 @@ impl Run {
     pub fn of(kind: CertKind, width: Width, words: &[String]) -> Option<Run>
         ensures { result ≡ run_in kind width (texts_of words.now) }
     {
-        let flags = flags(word(words, 7))?;
+        let flags = flags(word(words, FLAGS))?;
         Some(Run { kind, width, flags })
     }
 
