@@ -1,11 +1,16 @@
 -- Items that never go back can be placed.
-use Rattle.std.proofs.Common.{◌≡◌, ℕ, ◌+◌, ◌^◌, ◌≤◌, List, [], ◌∷◌, ◌++◌, length, Option, None, Some, IsSome, refl, ◌∙◌}
-use Rattle.std.proofs.Common.{ap, subst, arith}
-use Rattle.cpu12_asm.specs.{declared.items.Item.Item, Bytes.byte_at, Bytes.placed}
+use Rattle.std.proofs.Common.{◌≡◌, ℕ, ◌+◌, ◌^◌, ◌<◌, ◌≤◌, List, [], ◌∷◌, ◌++◌, length, Option, None, Some, IsSome}
+use Rattle.std.proofs.Common.{refl, ◌∙◌, ap, subst, arith, nat_cmp}
+use Rattle.std.proofs.lemmas.Bool.Decides.{nat_tests}
+use Rattle.std.specs.{List.AllByRecursion, List.Sorted.IsStrictlySortedBy, Map.keys_of}
+use Rattle.std.specs.declared.cmp.Ordering.TheVariants.{Less}
+use Rattle.cpu12_asm.specs.{declared.items.Item.Item, Bytes.byte_at, Bytes.placed, Bytes.FitsMemory}
+use Rattle.cpu12_asm.specs.{Bytes.IsAscending, Bytes.IsGivenOnce, Rising.RisingBytesAscend}
 use Rattle.cpu12_asm.specs.declared.items.Item.TheVariants.{Place, Byte, Op}
 use Rattle.cpu12_asm.specs.Items.{item_bytes, place_after, place_behind, place_of, given_from, given_by, FailsFirst}
 use Rattle.cpu12_asm.specs.Items.{PassesEnd, WritesOver, IsRisingFrom, IsRising}
 use Rattle.cpu12_asm.proofs.Placing.{or_else, byte_at-append, byte_at-placed}
+use Rattle.cpu12_asm.proofs.Writing.{IsAscending-rest, byte_at-behind}
 
 -- one item, and the others behind it
 pub rising_head : (at : ℕ) (item : Item) (items : List Item) → IsRisingFrom at (item ∷ items)
@@ -72,3 +77,59 @@ nothing_written_over items n h fails =
     let q = place_of fails.before + fails.fails.k in
     let none = byte_at-end 0 q fails.before (fails.item ∷ fails.behind) whole (omega arith) in
     not_given (byte_at (given_by fails.before) q) none fails.fails.given
+
+-- ---- what they give
+
+-- these stand in the memory from an address on, each above those before it
+abbrev AscendFrom : ℕ → List (ℕ × ℕ) → Type 0
+AscendFrom at [] = Unit {0}
+AscendFrom at (b ∷ bytes) = (at ≤ b.0) × (b.0 < 2 ^ 16) × AscendFrom (b.0 + 1) bytes
+
+from_lower : (at end : ℕ) (bytes : List (ℕ × ℕ)) → at ≤ end → AscendFrom end bytes → AscendFrom at bytes
+from_lower at end [] low h = tt
+from_lower at end (b ∷ bytes) low h = (omega (arith, h.0), h.1, h.2)
+
+placed_ascend : (at end : ℕ) (xs : List ℕ) (bytes : List (ℕ × ℕ)) → at + length xs ≤ end → end ≤ 2 ^ 16
+    → AscendFrom end bytes → AscendFrom at (placed at xs ++ bytes)
+placed_ascend at end [] bytes low high h = from_lower at end bytes (omega arith) h
+placed_ascend at end (x ∷ xs) bytes low high h =
+    (omega arith, omega arith, placed_ascend (at + 1) end xs bytes (omega arith) high h)
+
+given_ascend : (at : ℕ) (items : List Item) → IsRisingFrom at items → AscendFrom at (given_from at items)
+given_ascend at [] h = tt
+given_ascend at (item ∷ items) h =
+    let head = rising_head at item items h in
+    let next = place_after at item in
+    let end = rising_end next items head.1 in
+    placed_ascend at next (item_bytes item) (given_from next items) head.0 (omega (arith, end.0, end.1))
+    (given_ascend next items head.1)
+
+less : (p q : ℕ) → p < q → nat_cmp p q ≡ Less
+less p q h = grind (arith, nat_tests)
+
+keys_above : (p at : ℕ) (bytes : List (ℕ × ℕ)) → p < at → AscendFrom at bytes
+    → AllByRecursion (λ q. nat_cmp p q ≡ Less) (keys_of bytes)
+keys_above p at [] low h = tt
+keys_above p at (b ∷ bytes) low h =
+    (less p b.0 (omega (arith, h.0)), keys_above p (b.0 + 1) bytes (omega (arith, h.0)) h.2)
+
+ascending : (at : ℕ) (bytes : List (ℕ × ℕ)) → AscendFrom at bytes → IsAscending bytes
+unfolding IsStrictlySortedBy
+ascending at [] h = tt
+ascending at (b ∷ bytes) h =
+    (keys_above b.0 (b.0 + 1) bytes (omega arith) h.2, ascending (b.0 + 1) bytes h.2)
+
+in_memory : (at : ℕ) (bytes : List (ℕ × ℕ)) → AscendFrom at bytes → FitsMemory bytes
+in_memory at [] h = tt
+in_memory at (b ∷ bytes) h = (h.1, in_memory (b.0 + 1) bytes h.2)
+
+given_once : (bytes : List (ℕ × ℕ)) → IsAscending bytes → IsGivenOnce bytes
+given_once [] h = tt
+given_once (b ∷ bytes) h =
+    (byte_at-behind b bytes b.0 h (omega arith), given_once bytes (IsAscending-rest b bytes h))
+
+pub bytes_ascend : RisingBytesAscend
+bytes_ascend items h =
+    let given = given_ascend 0 items h in
+    let ascend = ascending 0 (given_by items) given in
+    (ascend, record { once = given_once (given_by items) ascend; fits = in_memory 0 (given_by items) given })

@@ -2,7 +2,8 @@
 -- Beside the promise.
 use Rattle.std.specs.Prelude.{ℕ, ◌+◌, ◌^◌, ◌≤◌, List, ◌∷◌, ◌++◌, length}
 use Rattle.cpu12_asm.specs.declared.items.Item.{Item}
-use Rattle.cpu12_asm.specs.Items.{item_bytes, place_after, place_behind, IsRisingFrom}
+use Rattle.cpu12_asm.specs.{Bytes.IsAscending}
+use Rattle.cpu12_asm.specs.Items.{item_bytes, place_after, place_behind, given_by, CanBePlaced, IsRisingFrom, IsRising}
 
 -- The first item's bytes end where the others begin, or before, and those rise from there.
 abbrev pub RisesBehindFirst : Type 0
@@ -18,3 +19,7 @@ EndsInMemory = (at : ℕ) (items : List Item) → IsRisingFrom at items
 abbrev pub RisesBehindPart : Type 0
 RisesBehindPart = (at : ℕ) (part items : List Item) → IsRisingFrom at (part ++ items)
     → IsRisingFrom (place_behind at part) items
+
+-- The bytes that they give ascend, and an image can hold them.
+abbrev pub RisingBytesAscend : Type 0
+RisingBytesAscend = (items : List Item) → IsRising items → IsAscending (given_by items) × CanBePlaced items
