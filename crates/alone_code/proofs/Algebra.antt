@@ -3,4 +3,4 @@
 pub use Rattle.alone_code.proofs.runs.Stepping.{high_shown}
 pub use Rattle.alone_code.proofs.runs.Framing.{pushed_word}
 pub use Rattle.alone_code.proofs.runs.Law.{not_free}
-pub use Rattle.alone_code.proofs.Parts.{of_parts}
+pub use Rattle.alone_code.proofs.Parts.{alone_is, alone_with, firmware_with, of_parts}

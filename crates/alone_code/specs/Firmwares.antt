@@ -1,7 +1,9 @@
 -- The firmware of a block.
 -- Beside the promise.
 use Rattle.std.specs.Prelude.{◌≡◌, length}
-use Rattle.fuzzy_meaning.specs.declared.block.Block.{Block}
+use Rattle.fuzzy_meaning.specs.{declared.block.Block.Block, Blocks.IsValid}
+use Rattle.rule_layout.specs.Layouts.{IsWithinLimits}
+use Rattle.byte_scaling.specs.declared.width.Width.{Width}
 use Rattle.alone_code.specs.{declared.firmware.Firmware.Firmware, Images.firmware_items, Images.IsImageOf}
 use Rattle.eval_code.specs.{MemoryMaps.main_map, Bounds.instruction_bound, Bounds.step_bound}
 
@@ -14,3 +16,8 @@ pub record IsFirmwareOf (b : Block) (f : Firmware) : Type 0 where
   pub outputs : f.outputs ≡ length b.outputs
   pub instructions : f.instr_bound ≡ instruction_bound f.width b
   pub steps : f.step_bound ≡ step_bound f.width b
+
+-- A valid block within the limits has one of each width.
+abbrev pub BlocksHaveFirmware : Type 0
+BlocksHaveFirmware =
+    (width : Width) (b : Block) → IsValid b → IsWithinLimits b → (f : Firmware) × IsFirmwareOf b f × (f.width ≡ width)

@@ -4,7 +4,7 @@ use Rattle.std.specs.Prelude.{◌≡◌, List, [], ◌∷◌, ◌++◌}
 use Rattle.fuzzy_meaning.specs.declared.block.Block.{Block}
 use Rattle.cpu12_isa.specs.{declared.instr.Instr.TheVariants.Rts, Regions.vector}
 use Rattle.cpu12_asm.specs.declared.{items.Item.Item, image.Image.Image}
-use Rattle.cpu12_asm.specs.{Bytes.start_of, Bytes.Holds, Bytes.IsAscending, Items.given_by}
+use Rattle.cpu12_asm.specs.{Bytes.start_of, Bytes.Holds, Bytes.IsAscending, Items.given_by, Items.IsRising}
 use Rattle.eval_code.specs.declared.memory_map.MemoryMap.{MemoryMap}
 use Rattle.byte_scaling.specs.declared.width.Width.{Width}
 use Rattle.eval_code.specs.{Data.bytes_of_word, Items.bytes_at, Items.block_items}
@@ -24,3 +24,7 @@ pub record IsImageOf (items : List Item) (image : Image) : Type 0 where
   pub bytes : Holds image.bytes (given_by items)
   pub ascending : IsAscending image.bytes
   pub start : image.start ≡ start_of image.bytes
+
+-- Items that never go back to a lower place have one.
+abbrev pub ItemsHaveImages : Type 0
+ItemsHaveImages = (items : List Item) → IsRising items → (image : Image) × IsImageOf items image

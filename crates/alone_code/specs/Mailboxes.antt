@@ -64,6 +64,11 @@ pub record IsMailboxOf (b : Block) (f : Firmware) : Type 0 where
   pub instructions : f.instr_bound ≡ mailbox_bound f.width b
   pub steps : f.step_bound ≡ steps_by b (mailbox_bound f.width b)
 
+-- A valid block within the limits has one of each width.
+abbrev pub BlocksHaveMailboxes : Type 0
+BlocksHaveMailboxes =
+    (width : Width) (b : Block) → IsValid b → IsWithinLimits b → (f : Firmware) × IsMailboxOf b f × (f.width ≡ width)
+
 -- A sample takes it a step at least, and at most 20000.
 abbrev pub MailboxStepsAreFew : Type 0
 MailboxStepsAreFew = (b : Block) (f : Firmware) → IsValid b → IsWithinLimits b → IsMailboxOf b f

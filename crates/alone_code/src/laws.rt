@@ -2,7 +2,9 @@
 ghost use Rattle.alone_code.specs.Alike.{FirmwaresAreOne, ImagesAreOne, MailboxesAreOne};
 ghost use Rattle.alone_code.specs.Answers.{FirmwareAnswers, FirmwareAnswersBeside, FirmwareArrivesAlike, FreeBytesLeave};
 ghost use Rattle.alone_code.specs.{Calls.CalledEvalReturns, Frames.FrameCallsAndLeaves, Frames.StartArrives};
-ghost use Rattle.alone_code.specs.{Laws.LowerLaws, Mailboxes.MailboxStepsAreFew, SampleTurns.MailboxTakesSamples};
+ghost use Rattle.alone_code.specs.{Images.ItemsHaveImages, Firmwares.BlocksHaveFirmware, Laws.LowerLaws};
+ghost use Rattle.alone_code.specs.Mailboxes.{BlocksHaveMailboxes, MailboxStepsAreFew};
+ghost use Rattle.alone_code.specs.SampleTurns.{MailboxTakesSamples};
 ghost use Rattle.alone_code.specs.Settings.{GivenIsLive, InstructionGoesOn, InstructionsStand, LiveIsIdle};
 ghost use Rattle.alone_code.specs.Settings.{LiveIsInterruptible, ReturnGoesOn};
 ghost use Rattle.alone_code.specs.Standing.{FirmwareIsBytes, ImageHasFirmware, MailboxIsBytes};
@@ -10,7 +12,7 @@ ghost use Rattle.alone_code.specs.Turns.{MailboxIsUninterrupted, MailboxTakesPos
 ghost use Rattle.alone_code.specs.Uninterrupted.{AnsweredAreUninterrupted, FirmwareIsUninterrupted, UninterruptedAreOne};
 
 use byte_scaling::laws::nearest_is_byte;
-use cpu12_asm::laws::ascending_bytes_are_one;
+use cpu12_asm::laws::{ascending_bytes_are_one, rising_items};
 use cpu12_isa::laws::stays_fit;
 use cpu12_parts::laws::executions_are_one;
 use eval_code::laws::{
@@ -155,6 +157,22 @@ pub fn uninterrupted_are_one()
     ensures { UninterruptedAreOne }
 {
     executions_are_one();
+}
+
+/// Items that never go back to a lower place have an image.
+pub fn items_have_images()
+    ensures { ItemsHaveImages }
+{
+    rising_items()
+}
+
+/// A block has firmware of each width, also in the mailbox form.
+pub fn blocks_have_firmware()
+    ensures alone { BlocksHaveFirmware }
+    ensures mailbox { BlocksHaveMailboxes }
+{
+    blocks_are_placed();
+    items_have_images()
 }
 
 /// Items have one image.
