@@ -1,7 +1,8 @@
 -- The image of a slow firmware with a fast block.
 -- Beside the promise.
 use Rattle.std.specs.Prelude.{◌≡◌, ℕ, ◌-◌, List, [], ◌∷◌, ◌++◌}
-use Rattle.fuzzy_meaning.specs.declared.block.Block.{Block}
+use Rattle.fuzzy_meaning.specs.{declared.block.Block.Block, Blocks.IsValid}
+use Rattle.rule_layout.specs.Layouts.{IsWithinLimits}
 use Rattle.cpu12_isa.specs.declared.instr.Instr.TheVariants.{Rts}
 use Rattle.cpu12_asm.specs.declared.items.Item.{Item}
 use Rattle.alone_code.specs.declared.firmware.Firmware.{Firmware}
@@ -42,6 +43,12 @@ pub record IsTwoOf (slow fast : Block) (two : Two) : Type 0 where
   pub image : IsImageOf (two_items slow fast) two.image
   pub slow_alone : IsAlone slow two.slow
   pub fast_alone : IsAlone fast two.fast
+
+-- Valid blocks within the limits have one.
+abbrev pub BlocksHaveTwos : Type 0
+BlocksHaveTwos =
+    (slow fast : Block) → IsValid slow → IsWithinLimits slow → IsValid fast → IsWithinLimits fast
+    → (two : Two) × IsTwoOf slow fast two
 
 -- the most instructions or steps of the fast code, by those of its block alone: two instructions stand around EVAL in
 -- the place of six

@@ -1,9 +1,11 @@
 //! Laws of two blocks at two levels.
-ghost use Rattle.two_level_code.specs.{Alike.TwosAreOne, Images.AloneHasByteBounds, Running.FastAnswersEntered};
+ghost use Rattle.two_level_code.specs.{Alike.TwosAreOne, Images.AloneHasByteBounds, Images.BlocksHaveTwos};
+ghost use Rattle.two_level_code.specs.Running.{FastAnswersEntered};
 ghost use Rattle.two_level_code.specs.Standing.{TwoStandBeside};
 
 use alone_code::laws::{
-    firmware_answers_beside, firmware_arrives_alike, firmwares_are_one, images_are_one,
+    blocks_have_firmware, firmware_answers_beside, firmware_arrives_alike, firmwares_are_one,
+    images_are_one, items_have_images,
 };
 use cpu12_emul::laws::holds_image;
 use cpu12_isa::laws::{decodes_encoded, stays_fit, writes_stay};
@@ -38,6 +40,15 @@ pub fn two_stand_beside()
 pub fn alone_has_byte_bounds()
     ensures { AloneHasByteBounds }
 {}
+
+/// Two blocks have firmware at two levels.
+pub fn blocks_have_twos()
+    ensures { BlocksHaveTwos }
+{
+    blocks_are_placed();
+    items_have_images();
+    blocks_have_firmware();
+}
 
 /// Two blocks have one firmware at two levels.
 pub fn twos_are_one()

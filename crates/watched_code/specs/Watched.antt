@@ -42,6 +42,11 @@ pub record IsWatchedFirmwareOf (b : Block) (f : Firmware) : Type 0 where
   pub instructions : f.instr_bound ≡ watched_bound b
   pub steps : f.step_bound ≡ steps_by b (watched_bound b)
 
+-- A valid block within the limits has one.
+abbrev pub BlocksHaveWatchedFirmware : Type 0
+BlocksHaveWatchedFirmware =
+    (b : Block) → IsValid b → IsWithinLimits b → (f : Firmware) × IsWatchedFirmwareOf b f
+
 -- a byte of memory that holds another value while a sample is answered: its address, and what it holds
 abbrev pub Change : Type 0
 Change = ℕ × ℕ

@@ -1,10 +1,11 @@
 //! Laws of firmware with watched tables.
-ghost use Rattle.watched_code.specs.{Alike.WatchedFirmwaresAreOne, Watched.WatchedAnswers, Watched.WatchedIsBytes};
+ghost use Rattle.watched_code.specs.Alike.{WatchedFirmwaresAreOne};
+ghost use Rattle.watched_code.specs.Watched.{BlocksHaveWatchedFirmware, WatchedAnswers, WatchedIsBytes};
 ghost use Rattle.watched_code.specs.Checksums.{OneChangeIsSeen, TwoChangesMayPass, UnchangedSumIsZero};
 
 use alone_code::laws::{
     called_eval_returns, frames_lead, free_bytes_leave, image_has_firmware, images_are_one,
-    instructions_go_on, live_states_wait,
+    instructions_go_on, items_have_images, live_states_wait,
 };
 use byte_scaling::laws::nearest_is_byte;
 use cpu12_isa::laws::stays_fit;
@@ -44,6 +45,14 @@ pub fn watched_is_bytes()
     code_is_decoded();
     blocks_are_placed();
     image_has_firmware();
+}
+
+/// A block has firmware with watched tables.
+pub fn blocks_have_watched_firmware()
+    ensures { BlocksHaveWatchedFirmware }
+{
+    blocks_are_placed();
+    items_have_images()
 }
 
 /// A block has one firmware with watched tables.

@@ -1,0 +1,23 @@
+use Rattle.byte_scaling.specs.declared.width.Width.TheVariants.{Byte}
+use Rattle.two_level_code.specs.Images.{two_items}
+use Rattle.two_level_code.proofs.Places.{two_rise}
+use Rattle.two_level_code.proofs.laws.blocks_have_twos.Goals as goal
+
+pub returns : goal.returns
+returns c slow fast slow_valid slow_limits fast_valid fast_limits =
+    let rise = two_rise c.blocks_are_placed.ensures.rises slow fast record {
+      slow_valid = slow_valid;
+      slow_limits = slow_limits;
+      fast_valid = fast_valid;
+      fast_limits = fast_limits;
+    } in
+    let (image, is) = c.items_have_images.ensures (two_items slow fast) rise in
+    let its_slow = c.blocks_have_firmware.ensures.alone Byte slow slow_valid slow_limits in
+    let its_fast = c.blocks_have_firmware.ensures.alone Byte fast fast_valid fast_limits in (
+      record { image = image; slow = its_slow.0; fast = its_fast.0 },
+      record {
+        image = is;
+        slow_alone = record { firmware = its_slow.1; width = its_slow.2 };
+        fast_alone = record { firmware = its_fast.1; width = its_fast.2 };
+      },
+    )
