@@ -46,6 +46,12 @@ abbrev pub text_refusals : List ℕ → Refusals
 text_refusals text (status.Fcl f) = RefusesText text f
 text_refusals text s = ⊥
 
+-- a text that gives a block gives firmware of each form
+abbrev pub GivenBlocksHaveFirmware : Type 0
+GivenBlocksHaveFirmware =
+    (form : Form) (text : List ℕ) (block : Block) → GivesBlock text block
+    → (firmware : Firmware) × GivesFirmware form text block firmware
+
 -- a text gives one block, and one firmware of a form
 abbrev pub GivenFirmwaresAreOne : Type 0
 GivenFirmwaresAreOne = (form : Form) (text : List ℕ) (block other : Block) (firmware others : Firmware)

@@ -20,6 +20,12 @@ two_refusals slow fast (status.Fcl f) = RefusesText slow f
 two_refusals slow fast (status.Fast (told.Fcl f)) = ((block : Block) × GivesBlock slow block) × RefusesText fast f
 two_refusals slow fast s = ⊥
 
+-- two texts that give blocks give the firmware of both
+abbrev pub GivenBlocksHaveTwos : Type 0
+GivenBlocksHaveTwos =
+    (slow_text fast_text : List ℕ) (slow fast : Block) → GivesBlock slow_text slow → GivesBlock fast_text fast
+    → (two : Two) × GivesTwo slow_text fast_text slow fast two
+
 -- two texts give two blocks, and one firmware of both
 abbrev pub GivenTwosAreOne : Type 0
 GivenTwosAreOne = (slow_text fast_text : List ℕ) (slow fast p q : Block) (two others : Two)

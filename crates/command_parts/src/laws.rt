@@ -1,10 +1,12 @@
 //! What a text, an image, a handler and a certificate give: one thing at most, and then no fault.
-ghost use Rattle.command_parts.specs.Firmwares.{SpelledTextsHaveNoFault, GivenFirmwaresAreOne};
+ghost use Rattle.command_parts.specs.Firmwares.{GivenBlocksHaveFirmware, GivenFirmwaresAreOne};
+ghost use Rattle.command_parts.specs.Firmwares.{SpelledTextsHaveNoFault};
 ghost use Rattle.command_parts.specs.Certs.{AcceptedCertsHaveNoFault, AcceptedErrorsAreOne, HalvedBlocksDoNotStop};
 ghost use Rattle.command_parts.specs.Images.{GivenImagesHaveNoFault, GivenRecordsHaveNoFault};
-ghost use Rattle.command_parts.specs.{Twos.GivenTwosAreOne, Handlers.GivenHandlersHaveNoFault};
+ghost use Rattle.command_parts.specs.{Twos.GivenBlocksHaveTwos, Twos.GivenTwosAreOne};
+ghost use Rattle.command_parts.specs.Handlers.{GivenHandlersHaveNoFault};
 
-use alone_code::laws::{firmwares_are_one, mailboxes_are_one};
+use alone_code::laws::{blocks_have_firmware, firmwares_are_one, mailboxes_are_one};
 use cert_check::laws::text_answers_are_one;
 use error_certifier::laws::answers_are_one;
 use fcl_check::laws::{load_faults_are_one, spelled_blocks_are_one};
@@ -12,8 +14,8 @@ use fcl_syntax::laws::first_faults_are_one;
 use handler_check::laws::handlers_have_no_fault;
 use rule_layout::laws::limits_have_no_fault;
 use srecord::laws::images_are_one;
-use two_level_code::laws::twos_are_one;
-use watched_code::laws::watched_firmwares_are_one;
+use two_level_code::laws::{blocks_have_twos, twos_are_one};
+use watched_code::laws::{blocks_have_watched_firmware, watched_firmwares_are_one};
 
 /// A text that spells a block within the limits has no fault.
 pub fn spelled_texts_have_no_fault()
@@ -23,6 +25,14 @@ pub fn spelled_texts_have_no_fault()
     load_faults_are_one();
     spelled_blocks_are_one();
     limits_have_no_fault()
+}
+
+/// A text that gives a block gives firmware of each form.
+pub fn given_blocks_have_firmware()
+    ensures { GivenBlocksHaveFirmware }
+{
+    blocks_have_firmware();
+    blocks_have_watched_firmware()
 }
 
 /// A text gives one block, and one firmware of each form.
@@ -54,6 +64,13 @@ pub fn halved_blocks_do_not_stop()
     ensures { HalvedBlocksDoNotStop }
 {
     answers_are_one()
+}
+
+/// Two texts that give blocks give the firmware of both.
+pub fn given_blocks_have_twos()
+    ensures { GivenBlocksHaveTwos }
+{
+    blocks_have_twos()
 }
 
 /// Two texts give two blocks, and one firmware of both.
