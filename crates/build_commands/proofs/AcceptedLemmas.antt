@@ -6,11 +6,14 @@ use Rattle.srecord.specs.Laws.{ImagesHaveTexts}
 use Rattle.two_level_code.specs.Standing.{TwoStandBeside}
 use Rattle.build_commands.specs.{Accepted.AcceptedContentsMakeOutput, Asm.AsmAccepts, Asm.AsmMakes}
 use Rattle.build_commands.specs.{declared.certify.Certify.Certify, declared.compile.Compile.Compile}
+use Rattle.build_commands.specs.declared.check.Check.{Check}
 use Rattle.build_commands.specs.Certify.{CertifyAccepts, CertifyMakes}
+use Rattle.build_commands.specs.Check.{CheckAccepts, CheckMakes}
 use Rattle.build_commands.specs.Compile.{CompileAccepts, CompileMakes}
 use Rattle.build_commands.specs.Lcompile.{LcompileAccepts, LcompileMakes}
 use Rattle.build_commands.proofs.RecordLemmas.{RecordLaws, firmware_records, has_records, image_records, source_bytes}
-use Rattle.command_parts.specs.SeenOutputs.{HasOutput}
+use Rattle.command_parts.specs.declared.firmware.Form.TheVariants.{Alone}
+use Rattle.command_parts.specs.{Firmwares.GivenBlocksHaveFirmware, SeenOutputs.HasOutput, Twos.GivenBlocksHaveTwos}
 
 asm_made : ImagesHaveTexts → SourcesGiveBytes → (source : List ℕ) → AsmAccepts source → HasOutput (AsmMakes source)
 asm_made texts gives source (image, a) =
@@ -29,15 +32,14 @@ asm_made texts gives source (image, a) =
 
 certify_made : HalvingsAreWithinTheirTarget → (certify : Certify) (text : List ℕ) → CertifyAccepts certify text
     → HasOutput (CertifyMakes certify text)
-certify_made halvings certify text (block, firmware, cert, a) =
-    let good = halvings certify.kind block _ certify.target cert a.gives.spelled.valid a.halving in (
+certify_made halvings certify text (block, cert, gives, halving) =
+    let good = halvings certify.kind block _ certify.target cert gives.spelled.valid halving in (
       _,
       record {
         block = block;
-        firmware = firmware;
-        gives = a.gives;
+        gives = gives;
         cert = cert;
-        halving = a.halving;
+        halving = halving;
         within = good.1;
         out = _;
         spelled = record { good = good.0; lines = refl };
@@ -45,11 +47,27 @@ certify_made halvings certify text (block, firmware, cert, a) =
       },
     )
 
-compile_made : RecordLaws → (compile : Compile) (text : List ℕ) → CompileAccepts compile text
+check_made : GivenBlocksHaveFirmware → (check : Check) (text cert : List ℕ) → CheckAccepts check text cert
+    → HasOutput (CheckMakes check text cert)
+check_made firmwares check text cert (block, errors, given, accepts) =
+    let (firmware, gives) = firmwares (Alone check.width) text block given in (
+      _,
+      record {
+        block = block;
+        firmware = firmware;
+        gives = gives;
+        errors = errors;
+        accepts = accepts;
+        output_is = refl;
+      },
+    )
+
+compile_made : RecordLaws → GivenBlocksHaveFirmware → (compile : Compile) (text : List ℕ) → CompileAccepts text
     → HasOutput (CompileMakes compile text)
-compile_made laws compile text (block, firmware, gives) =
+compile_made laws firmwares compile text (block, given) =
+    let (firmware, gives) = firmwares compile.form text block given in
     let records =
-    firmware_records laws compile.form block firmware gives.spelled.valid gives.limits gives.compiled in (
+    firmware_records laws compile.form block firmware given.spelled.valid given.limits gives.compiled in (
       _,
       record {
         block = block;
@@ -59,11 +77,12 @@ compile_made laws compile text (block, firmware, gives) =
       },
     )
 
-lcompile_made : RecordLaws → TwoStandBeside → (slow fast : List ℕ) → LcompileAccepts slow fast
+lcompile_made : RecordLaws → TwoStandBeside → GivenBlocksHaveTwos → (slow fast : List ℕ) → LcompileAccepts slow fast
     → HasOutput (LcompileMakes slow fast)
-lcompile_made laws beside slow fast (slow_block, fast_block, two, gives) =
-    let stands = beside slow_block fast_block two gives.slow_is.spelled.valid gives.slow_is.limits
-    gives.fast_is.spelled.valid gives.fast_is.limits gives.both in
+lcompile_made laws beside twos slow fast (slow_block, fast_block, slow_is, fast_is) =
+    let (two, gives) = twos slow fast slow_block fast_block slow_is fast_is in
+    let stands = beside slow_block fast_block two slow_is.spelled.valid slow_is.limits fast_is.spelled.valid
+    fast_is.limits gives.both in
     let records = image_records laws.texts laws.holds _ two.image gives.both.image stands.0.bytes in (
       _,
       record {
@@ -75,23 +94,14 @@ lcompile_made laws beside slow fast (slow_block, fast_block, two, gives) =
       },
     )
 
-pub accepted_made : RecordLaws → TwoStandBeside → HalvingsAreWithinTheirTarget → AcceptedContentsMakeOutput
-accepted_made laws beside halvings = record {
+pub accepted_made : RecordLaws → TwoStandBeside → HalvingsAreWithinTheirTarget → GivenBlocksHaveFirmware
+    → GivenBlocksHaveTwos → AcceptedContentsMakeOutput
+accepted_made laws beside halvings firmwares twos = record {
   asm = asm_made laws.texts laws.sources;
   certify = certify_made halvings;
-  check = λ check text cert a. (
-    _,
-    record {
-      block = a.0;
-      firmware = a.1;
-      errors = a.2;
-      gives = a.3;
-      accepts = a.4;
-      output_is = refl;
-    },
-  );
-  compile = compile_made laws;
+  check = check_made firmwares;
+  compile = compile_made laws firmwares;
   exec = λ exec text a. (_, record { steps = a.0; last = a.1; arrives = a.2; output_is = refl });
   hcheck = λ text a. (_, record { image = a.0; instrs = a.1; gives = a.2; output_is = refl });
-  lcompile = lcompile_made laws beside;
+  lcompile = lcompile_made laws beside twos;
 }

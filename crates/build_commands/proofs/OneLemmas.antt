@@ -2,6 +2,7 @@
 use Rattle.std.proofs.Common.{◌≡◌, ◌∙◌, ℕ, List, [], ◌∷◌, sym, ap, subst}
 use Rattle.std.specs.Prelude.{Ok, Result, Some, codes, length}
 use Rattle.fuzzy_meaning.specs.declared.block.Block.{Block}
+use Rattle.fcl_check.specs.OneBlock.{SpelledBlocksAreOne}
 use Rattle.box_tree.specs.{Texts.lines_of, Trees.leaf_count, declared.cert.Cert.Cert}
 use Rattle.cpu12_emul.specs.{Image.ImagesLoadAlike, Image.image_memory, Run.EndsRun, Run.RunsEndOnce, Step.reset_with}
 use Rattle.cpu12_emul.specs.declared.ends.RunEnd.TheVariants as end
@@ -34,15 +35,15 @@ checks_once firmwares accepted check text cert output other a b =
     (subst (λ (c : Block). AcceptsCert check.kind check.width c cert b.errors) (sym one.0) b.accepts) in
     a.output_is ∙ (λ i. only_lines (check_lines (errors i) (instruction_bound check.width (one.0 i)))) ∙ sym b.output_is
 
-pub certifies_once : GivenFirmwaresAreOne → AnswersAreOne → (certify : Certify) (text : List ℕ)
+pub certifies_once : SpelledBlocksAreOne → AnswersAreOne → (certify : Certify) (text : List ℕ)
     → OutputsAreOne (CertifyMakes certify text)
-certifies_once firmwares answers certify text output other a b =
-    let one = firmwares (Alone certify.width) text a.block b.block a.firmware b.firmware a.gives b.gives in
+certifies_once blocks answers certify text output other a b =
+    let one = blocks text a.block b.block a.gives.spelled b.gives.spelled in
     let x : Result Cert NotReached = Ok a.cert in
     let y : Result Cert NotReached = Ok b.cert in
     let same : x ≡ y = answers certify.kind a.block (parts certify.width) certify.target x y
     a.gives.spelled.valid a.halving
-    (subst (λ (c : Block). IsHalving certify.kind c (parts certify.width) certify.target b.cert) (sym one.0)
+    (subst (λ (c : Block). IsHalving certify.kind c (parts certify.width) certify.target b.cert) (sym one)
     b.halving) in
     let cert : a.cert ≡ b.cert = cc in
     let out : a.out ≡ b.out = a.spelled.lines

@@ -16,8 +16,7 @@ pub record AcceptedContentsMakeOutput : Type 0 where
       → HasOutput (CertifyMakes certify text)
   pub check : (check : Check) (text cert : List ℕ) → CheckAccepts check text cert
       → HasOutput (CheckMakes check text cert)
-  pub compile : (compile : Compile) (text : List ℕ) → CompileAccepts compile text
-      → HasOutput (CompileMakes compile text)
+  pub compile : (compile : Compile) (text : List ℕ) → CompileAccepts text → HasOutput (CompileMakes compile text)
   pub exec : (exec : Exec) (text : List ℕ) → ExecAccepts exec text → HasOutput (ExecMakes exec text)
   pub hcheck : (text : List ℕ) → HcheckAccepts text → HasOutput (HcheckMakes text)
   pub lcompile : (slow fast : List ℕ) → LcompileAccepts slow fast → HasOutput (LcompileMakes slow fast)

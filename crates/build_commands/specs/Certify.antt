@@ -3,7 +3,6 @@
 use Rattle.std.specs.Prelude.{◌≡◌, ◌≤◌, ℕ, List, [], ◌∷◌, ◌++◌, All, codes, Option, Some, option_map, Result, Ok, Err}
 use Rattle.fuzzy_meaning.specs.{declared.block.Block.Block}
 use Rattle.byte_scaling.specs.{Widths.parts, declared.width.Width.Width}
-use Rattle.alone_code.specs.declared.firmware.Firmware.{Firmware}
 use Rattle.box_tree.specs.{Certificates.CertText, Trees.leaf_count}
 use Rattle.box_tree.specs.declared.{cert.CertKind.CertKind, cert.Cert.Cert}
 use Rattle.error_certifier.specs.{Halving.IsHalving}
@@ -11,8 +10,8 @@ use Rattle.fz_status.specs.{Refusals.Refusals, Refusals.Refuses, Words.Text, Wor
 use Rattle.fz_status.specs.declared.status.Status.{Status}
 use Rattle.fz_status.specs.declared.status.Status.TheVariants as status
 use Rattle.build_commands.specs.declared.certify.Certify.{Certify}
-use Rattle.command_parts.specs.{SeenOutputs.SeenOutput, Certs.StopsHalving, Words.number_of, Firmwares.GivesFirmware}
-use Rattle.command_parts.specs.{Firmwares.RefusesText, Lines.line, declared.firmware.Form.TheVariants.Alone}
+use Rattle.command_parts.specs.{SeenOutputs.SeenOutput, Certs.StopsHalving, Words.number_of}
+use Rattle.command_parts.specs.Firmwares.{GivesBlock, RefusesText}
 use Rattle.command_parts.specs.Lines.{error_lines, line}
 
 abbrev pub certify_with : CertKind → Width → ℕ → Certify
@@ -33,12 +32,11 @@ certify_lines errors leaves = error_lines (codes "error ") errors ++ line (codes
 
 -- ---- what it makes of its file
 
--- the text gives firmware with answers of this width, the certificate is that of the halving of its block for this
--- kind, with errors of at most the target, and OUT is to hold the certificate's text
+-- the text gives a block, the certificate is that of its halving for this kind, with errors of at most the target, and
+-- OUT is to hold the certificate's text
 pub record CertifyGives (certify : Certify) (text : List ℕ) (output : SeenOutput) : Type 0 where
   pub block : Block
-  pub firmware : Firmware
-  pub gives : GivesFirmware (Alone certify.width) text block firmware
+  pub gives : GivesBlock text block
   pub cert : Cert
   pub halving : IsHalving certify.kind block (parts certify.width) certify.target cert
   pub within : All (λ error. error ≤ certify.target) cert.claims
@@ -50,20 +48,15 @@ pub record CertifyGives (certify : Certify) (text : List ℕ) (output : SeenOutp
 abbrev pub certify_refusals : Certify → List ℕ → Refusals
 certify_refusals certify text (status.Fcl f) = RefusesText text f
 certify_refusals certify text (status.NotReached stop) =
-    (block : Block) × (firmware : Firmware) × GivesFirmware (Alone certify.width) text block firmware
-    × StopsHalving certify.kind certify.width certify.target block stop
+    (block : Block) × GivesBlock text block × StopsHalving certify.kind certify.width certify.target block stop
 certify_refusals certify text s = ⊥
 
 abbrev pub CertifyMakes : Certify → List ℕ → Result SeenOutput Status → Type 0
 CertifyMakes certify text (Ok output) = CertifyGives certify text output
 CertifyMakes certify text (Err s) = Refuses (certify_refusals certify text) s
 
--- the text gives firmware with answers of this width, and halving its block ends with this certificate
-pub record AcceptsTarget (certify : Certify) (text : List ℕ) (block : Block) (firmware : Firmware) (cert : Cert)
-    : Type 0 where
-  pub gives : GivesFirmware (Alone certify.width) text block firmware
-  pub halving : IsHalving certify.kind block (parts certify.width) certify.target cert
-
+-- the text gives a block, and its halving ends with a certificate
 abbrev pub CertifyAccepts : Certify → List ℕ → Type 0
 CertifyAccepts certify text =
-    (block : Block) × (firmware : Firmware) × (cert : Cert) × AcceptsTarget certify text block firmware cert
+    (block : Block) × (cert : Cert) × GivesBlock text block
+    × IsHalving certify.kind block (parts certify.width) certify.target cert

@@ -7,8 +7,9 @@ use Rattle.byte_scaling.specs.declared.width.Width.{Width}
 use Rattle.alone_code.specs.declared.firmware.Firmware.{Firmware}
 use Rattle.box_tree.specs.declared.cert.CertKind.{CertKind}
 use Rattle.command_parts.specs.{Certs.AcceptsCert, Certs.RefusesCert, SeenOutputs.SeenOutput, SeenOutputs.only_lines}
-use Rattle.command_parts.specs.{Lines.line, declared.firmware.Form.TheVariants.Alone}
-use Rattle.command_parts.specs.{Firmwares.GivesFirmware, Firmwares.RefusesText, Lines.error_lines, Lines.line}
+use Rattle.command_parts.specs.declared.firmware.Form.TheVariants.{Alone}
+use Rattle.command_parts.specs.Firmwares.{GivesBlock, GivesFirmware, RefusesText}
+use Rattle.command_parts.specs.Lines.{error_lines, line}
 use Rattle.build_commands.specs.declared.check.Check.{Check}
 use Rattle.fz_status.specs.{Refusals.Refusals, Refusals.Refuses, declared.status.Status.Status}
 use Rattle.fz_status.specs.declared.status.Status.TheVariants as status
@@ -48,7 +49,7 @@ abbrev pub CheckMakes : Check → List ℕ → List ℕ → Result SeenOutput St
 CheckMakes check text cert (Ok output) = CheckGives check text cert output
 CheckMakes check text cert (Err s) = Refuses (check_refusals check text cert) s
 
--- the text gives firmware, and CERT is accepted
+-- the text gives a block, and CERT is accepted
 abbrev pub CheckAccepts : Check → List ℕ → List ℕ → Type 0
-CheckAccepts check text cert = (block : Block) × (firmware : Firmware) × (errors : List ℕ)
-    × GivesFirmware (Alone check.width) text block firmware × AcceptsCert check.kind check.width block cert errors
+CheckAccepts check text cert =
+    (block : Block) × (errors : List ℕ) × GivesBlock text block × AcceptsCert check.kind check.width block cert errors

@@ -5,11 +5,12 @@ use Rattle.std.specs.Prelude.{ℕ, List, [], ◌∷◌, Result, Ok, Err}
 use Rattle.eval_code.specs.Bounds.{instruction_bound}
 use Rattle.byte_scaling.specs.declared.width.Width.TheVariants.{Byte}
 use Rattle.fuzzy_meaning.specs.declared.block.Block.{Block}
-use Rattle.alone_code.specs.{Mailboxes.mailbox_bound, declared.firmware.Firmware.Firmware}
+use Rattle.alone_code.specs.Mailboxes.{mailbox_bound}
 use Rattle.watched_code.specs.Watched.{watched_bound}
 use Rattle.command_parts.specs.declared.firmware.Form.{Form}
 use Rattle.command_parts.specs.declared.firmware.Form.TheVariants.{Alone, Mailbox, Watched}
-use Rattle.command_parts.specs.{SeenOutputs.SeenOutput, Firmwares.GivesFirmware, Firmwares.text_refusals}
+use Rattle.command_parts.specs.{SeenOutputs.SeenOutput, Firmwares.GivesBlock, Firmwares.GivesFirmware}
+use Rattle.command_parts.specs.Firmwares.{text_refusals}
 use Rattle.build_commands.specs.{Written.WritesFirmware, declared.compile.Compile.Compile}
 use Rattle.fz_status.specs.{Refusals.Refuses, declared.status.Status.Status}
 
@@ -31,6 +32,6 @@ abbrev pub CompileMakes : Compile → List ℕ → Result SeenOutput Status → 
 CompileMakes compile text (Ok output) = WritesFirmware (GivesFirmware compile.form text) (bound_of compile.form) output
 CompileMakes compile text (Err s) = Refuses (text_refusals text) s
 
--- the text gives firmware of this form
-abbrev pub CompileAccepts : Compile → List ℕ → Type 0
-CompileAccepts compile text = (block : Block) × (firmware : Firmware) × GivesFirmware compile.form text block firmware
+-- the text gives a block, whatever the form is
+abbrev pub CompileAccepts : List ℕ → Type 0
+CompileAccepts text = (block : Block) × GivesBlock text block

@@ -5,7 +5,8 @@ use Rattle.fuzzy_meaning.specs.declared.block.Block.{Block}
 use Rattle.eval_code.specs.Bounds.{instruction_bound}
 use Rattle.byte_scaling.specs.declared.width.Width.TheVariants.{Byte}
 use Rattle.two_level_code.specs.{Images.fast_most, declared.two.Two.Two}
-use Rattle.command_parts.specs.{SeenOutputs.SeenOutput, Lines.line, Twos.GivesTwo, Twos.two_refusals}
+use Rattle.command_parts.specs.{SeenOutputs.SeenOutput, Firmwares.GivesBlock, Lines.line}
+use Rattle.command_parts.specs.Twos.{GivesTwo, two_refusals}
 use Rattle.build_commands.specs.Written.{WritesImage}
 use Rattle.fz_status.specs.{Refusals.Refuses, declared.status.Status.Status}
 
@@ -32,7 +33,7 @@ abbrev pub LcompileMakes : List ℕ → List ℕ → Result SeenOutput Status �
 LcompileMakes slow fast (Ok output) = LcompileGives slow fast output
 LcompileMakes slow fast (Err s) = Refuses (two_refusals slow fast) s
 
--- the texts give blocks and these the firmware of both
+-- the texts give blocks
 abbrev pub LcompileAccepts : List ℕ → List ℕ → Type 0
-LcompileAccepts slow fast = (slow_block : Block) × (fast_block : Block) × (two : Two)
-    × GivesTwo slow fast slow_block fast_block two
+LcompileAccepts slow fast =
+    (slow_block : Block) × (fast_block : Block) × GivesBlock slow slow_block × GivesBlock fast fast_block

@@ -9,7 +9,7 @@ use box_tree::{Cert, CertKind, Node, write_for};
 use byte_scaling::Width;
 use command_parts::certs::halved;
 use command_parts::contents::Content;
-use command_parts::firmware::{Form, firmware_of};
+use command_parts::firmware::laid_out_block_of;
 use command_parts::lines::{labelled, push_errors};
 use command_parts::output::Output;
 use command_parts::words::{Number, number_in};
@@ -56,8 +56,8 @@ impl Certify {
         ensures { IsResultOf (CertifyMakes self fcl.now) result }
     {
         let (kind, width) = (self.kind, self.width);
-        let compiled = firmware_of(alloc, Form::Alone(width), fcl)?;
-        let cert = halved(alloc, kind, width, self.target.get(), &compiled.block)?;
+        let block = laid_out_block_of(alloc, fcl)?.block;
+        let cert = halved(alloc, kind, width, self.target.get(), &block)?;
         let text = write_for(alloc, &cert, kind, width)?;
         let lines = lines(alloc, &cert)?;
         Ok(Output {

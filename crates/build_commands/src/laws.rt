@@ -10,9 +10,10 @@ ghost use Rattle.command_parts.specs.SeenOutputs.{OutputHasNoFault, OutputsAreOn
 
 use alone_code::laws::firmware_is_bytes;
 use command_parts::laws::{
-    accepted_certs_have_no_fault, accepted_errors_are_one, given_firmwares_are_one,
-    given_handlers_have_no_fault, given_records_have_no_fault, given_twos_are_one,
-    halved_blocks_do_not_stop, spelled_texts_have_no_fault,
+    accepted_certs_have_no_fault, accepted_errors_are_one, given_blocks_have_firmware,
+    given_blocks_have_twos, given_firmwares_are_one, given_handlers_have_no_fault,
+    given_records_have_no_fault, given_twos_are_one, halved_blocks_do_not_stop,
+    spelled_texts_have_no_fault,
 };
 use cpu12_asm::laws::{ascending_bytes_are_one, sources_give_bytes};
 use cpu12_emul::laws::{holds_image, images_load_alike, runs_end_once};
@@ -33,6 +34,8 @@ pub fn accepted_contents_make_output()
     firmware_is_bytes();
     watched_is_bytes();
     two_stand_beside();
+    given_blocks_have_firmware();
+    given_blocks_have_twos();
     halvings_are_within_their_target()
 }
 
@@ -109,7 +112,7 @@ pub fn certified_texts_have_no_fault()
 pub fn certify_outputs_are_one()
     ensures { (certify : TheCertify) (text : List ℕ) → OutputsAreOne (CertifyMakes certify text) }
 {
-    given_firmwares_are_one();
+    spelled_blocks_are_one();
     error_certifier::laws::answers_are_one()
 }
 

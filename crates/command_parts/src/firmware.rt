@@ -64,14 +64,14 @@ fn compile_form(alloc: Global, form: Form, block: &Block) -> Result<Firmware, La
 
 /// A block with its layout.
 #[derive(Drop)]
-pub(crate) struct LaidOut {
+pub struct LaidOut {
     pub block: Block,
     /// The block's rules as `spread` lays them out.
     pub flat: Flat,
 }
 
 /// The block that the text spells, with its layout. The faults are the same.
-pub(crate) fn laid_out_block_of(alloc: Global, text: &Content) -> Result<LaidOut, Status>
+pub fn laid_out_block_of(alloc: Global, text: &Content) -> Result<LaidOut, Status>
     ensures gives { IfOk result (λ l. GivesBlock text.now l.block) }
     ensures flat { IfOk result (λ l. l.flat ≡ flat_of l.block) }
     ensures laid_out { IfOk result (λ l. IsLaidOut l.flat) }

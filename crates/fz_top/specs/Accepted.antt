@@ -17,7 +17,7 @@ unfoldable pub Accepts : Command → List (List ℕ) → Type 0
 Accepts Asm contents = AsmAccepts (content_at contents 0)
 Accepts (Certify certify) contents = CertifyAccepts certify (content_at contents 0)
 Accepts (Check check) contents = CheckAccepts check (content_at contents 0) (content_at contents 1)
-Accepts (Compile compile) contents = CompileAccepts compile (content_at contents 0)
+Accepts (Compile compile) contents = CompileAccepts (content_at contents 0)
 Accepts (Debug debug) contents = DebugAccepts (debug_files contents)
 Accepts (Exec exec) contents = ExecAccepts exec (content_at contents 0)
 Accepts (Generate generate) contents = GenerateAccepts generate

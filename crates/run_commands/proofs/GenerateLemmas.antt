@@ -3,13 +3,13 @@ use Rattle.run_commands.proofs.Words.{[], ◌++◌, ◌∙◌, ◌∷◌, ◌≡
 use Rattle.run_commands.proofs.Words.{arith, Byte, codes, firmware_rows, frames_of, generate_lines, input_bytes}
 use Rattle.run_commands.proofs.Words.{length, line, List, made_with, map, refl, report_of, resumed_of, RowSeen, ℕ}
 use Rattle.run_commands.specs.{Generate.AcceptedNumbersMakeOutput}
-use Rattle.command_parts.specs.{Firmwares.GivesFirmware, Lines.error_lines}
+use Rattle.command_parts.specs.{Firmwares.GivenBlocksHaveFirmware, Lines.error_lines}
 use Rattle.command_parts.specs.declared.firmware.Form.TheVariants.{Alone}
 use Rattle.workload.specs.{Blocks.drawn_block, Draws.draw, Laws.DrawnBlocksAreWithinLimits, Laws.NumbersHaveWorkloads}
 
 pub generate_made : AnswersAreReported → AnswersUnderPlans → NumbersHaveWorkloads → DrawnBlocksAreWithinLimits
-    → AcceptedNumbersMakeOutput
-generate_made reported under workloads limits generate (firmware, cert, a) =
+    → GivenBlocksHaveFirmware → AcceptedNumbersMakeOutput
+generate_made reported under workloads limits firmwares generate (cert, halving) =
     let number = generate.number in
     let shift = draw number 0 5 in
     let block = drawn_block shift in
@@ -20,8 +20,8 @@ generate_made reported under workloads limits generate (firmware, cert, a) =
     let samples = drawn.3 in
     let requests = drawn.4 in
     let workload = drawn.5 in
-    let gives : GivesFirmware (Alone Byte) text block firmware =
-    record { spelled = workload.spelled; limits = limits shift; compiled = a.compiled } in
+    let (firmware, gives) =
+    firmwares (Alone Byte) text block (record { spelled = workload.spelled; limits = limits shift }) in
     let bytes = map input_bytes samples in
     let rows = (firmware_rows firmware bytes requests 0).rows in (
       _,
@@ -36,11 +36,11 @@ generate_made reported under workloads limits generate (firmware, cert, a) =
         firmware = firmware;
         gives = gives;
         cert = cert;
-        halving = a.halving;
+        halving = halving;
         report = report_of cert.claims firmware.instr_bound rows;
         errors = refl;
         reported = reported Byte 0 text block firmware cert cert.claims trace samples requests rows gives
-            a.halving.claims workload.in_trace
+            halving.claims workload.in_trace
             (under firmware 0 bytes requests (omega arith) workload.in_plan.good);
         output_is = refl;
       },

@@ -15,7 +15,7 @@ use Rattle.fz_status.specs.{Refusals.Refusals, Refusals.Refuses, Words.Text, Wor
 use Rattle.fz_status.specs.declared.status.Status.{Status}
 use Rattle.fz_status.specs.declared.status.Status.TheVariants as status
 use Rattle.run_reports.specs.Reports.{IsReportOf, Report}
-use Rattle.command_parts.specs.{Certs.StopsHalving, Firmwares.GivesFirmware, Firmwares.IsOfForm, Lines.line}
+use Rattle.command_parts.specs.{Certs.StopsHalving, Firmwares.GivesFirmware, Lines.line}
 use Rattle.command_parts.specs.{Words.number_up_to}
 use Rattle.command_parts.specs.{declared.firmware.Form.TheVariants.Alone}
 use Rattle.command_parts.specs.SeenOutputs.{HasOutput, SeenOutput, only_lines}
@@ -90,14 +90,10 @@ abbrev pub GenerateMakes : Generate → Result SeenOutput Status → Type 0
 GenerateMakes generate (Ok output) = GenerateGives generate.number output
 GenerateMakes generate (Err s) = Refuses (generate_refusals generate.number) s
 
--- The block that is drawn has this firmware, and halving it ends with this certificate.
-pub record AcceptsBlock (block : Block) (firmware : Firmware) (cert : Cert) : Type 0 where
-  pub compiled : IsOfForm (Alone Byte) block firmware
-  pub halving : IsHalving Named block (parts Byte) generated_target cert
-
+-- halving the block that is drawn ends with a certificate
 abbrev pub GenerateAccepts : Generate → Type 0
-GenerateAccepts generate = (firmware : Firmware) × (cert : Cert)
-    × AcceptsBlock (drawn_block (draw generate.number 0 5)) firmware cert
+GenerateAccepts generate =
+    (cert : Cert) × IsHalving Named (drawn_block (draw generate.number 0 5)) (parts Byte) generated_target cert
 
 -- a number that is accepted makes an output
 abbrev pub AcceptedNumbersMakeOutput : Type 0

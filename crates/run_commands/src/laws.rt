@@ -11,8 +11,8 @@ ghost use Rattle.run_reports.specs.declared.files.RunFiles.{RunFiles};
 use alone_code::laws::firmwares_are_one;
 use alone_runs::laws::answers_under_plans;
 use command_parts::laws::{
-    accepted_errors_are_one, given_firmwares_are_one, given_images_have_no_fault,
-    halved_blocks_do_not_stop, spelled_texts_have_no_fault,
+    accepted_errors_are_one, given_blocks_have_firmware, given_firmwares_are_one,
+    given_images_have_no_fault, halved_blocks_do_not_stop, spelled_texts_have_no_fault,
 };
 use error_certifier::laws::answers_are_one;
 use run_reports::laws::{
@@ -35,7 +35,8 @@ pub fn accepted_numbers_make_output()
     answers_are_reported();
     answers_under_plans();
     numbers_have_workloads();
-    drawn_blocks_are_within_limits()
+    drawn_blocks_are_within_limits();
+    given_blocks_have_firmware()
 }
 
 /// A number makes at most one output.

@@ -12,4 +12,5 @@ returns c =
       mailbox = c.firmware_is_bytes.ensures.mailbox;
       watched = c.watched_is_bytes.ensures;
     })
-    c.two_stand_beside.ensures c.halvings_are_within_their_target.ensures
+    c.two_stand_beside.ensures c.halvings_are_within_their_target.ensures c.given_blocks_have_firmware.ensures
+    c.given_blocks_have_twos.ensures

@@ -2,4 +2,4 @@ use Rattle.build_commands.proofs.OneLemmas.{certifies_once}
 use Rattle.build_commands.proofs.laws.certify_outputs_are_one.Goals as goal
 
 pub returns : goal.returns
-returns c = certifies_once c.given_firmwares_are_one.ensures c.answers_are_one.ensures
+returns c = certifies_once c.spelled_blocks_are_one.ensures c.answers_are_one.ensures
