@@ -1,3 +1,4 @@
+pub mod Algebra
 pub mod AnsweredRows
 pub mod Requests
 pub mod StandAlone

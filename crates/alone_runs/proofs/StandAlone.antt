@@ -42,7 +42,7 @@ same_rows law flags f plan k (n ∷ ns) (bytes ∷ rest) s h =
 pub runs_follow_alone : RunsFollowBeside → RequestsAreGood → TakenAtOnce → RunsFollowAlone
 runs_follow_alone law requests at_once flags f most plan ns samples s low good le h =
     let r = law is_free flags f free_opens low (λ j. requests_of j plan)
-    (requests plan good) [] 1 most ns samples s s le h
+    (requests plan good) [] 1 most ns samples s s le (λ k d lt done u own. tt) h
     (record { regs = refl; temps = refl; mem = agree_self (is_hidden is_free s.regs.sp) s.mem }) tt in
     record {
       arrived = r.arrived;

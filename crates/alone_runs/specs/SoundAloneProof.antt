@@ -122,7 +122,6 @@ sound open_to opens flags f low agree quiet = record {
         tt,
       ));
   leaves_open = record {
-    gives = λ done x w o. tt;
     leaves = λ done x w o. tt;
     pushes = λ done w s p l o. tt;
     steps = λ done w s p l o. tt;

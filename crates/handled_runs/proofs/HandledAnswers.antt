@@ -1,7 +1,6 @@
 -- The rows of a run whose interrupts run code.
-use Rattle.std.proofs.Common.{◌≡◌, ℕ, suc, ◌+◌, ◌≤◌, ◌<◌, ◌^◌, List, [], ◌∷◌, length, refl, ap, sym, ◌∙◌, subst, arith}
-use Rattle.std.specs.Prelude.{All, take, map}
-use Rattle.std.proofs.lemmas.List.{take_all}
+use Rattle.std.proofs.Common.{◌≡◌, ℕ, suc, ◌<◌, ◌^◌, List, [], ◌∷◌, refl, ap, sym, ◌∙◌, subst}
+use Rattle.std.specs.Prelude.{All, map}
 use Rattle.std.proofs.lemmas.Simd.{map-map}
 use Rattle.fuzzy_meaning.specs.{declared.block.Block.Block, Blocks.IsValid}
 use Rattle.rule_layout.specs.Layouts.{IsWithinLimits}
@@ -10,73 +9,42 @@ use Rattle.cpu12_isa.proofs.Algebra.{agree_self}
 use Rattle.cpu12_parts.specs.State.{State}
 use Rattle.cpu12_emul.specs.{Image.HoldsImage, Simulation.OnStackOnly}
 use Rattle.run_law.specs.{Forms.RowSeen, Uninterrupted.uninterrupted}
-use Rattle.run_law.specs.Following.{Completes, AllComplete, RunsFollow, expected_row, expected_rows}
+use Rattle.run_law.specs.Following.{AllComplete, RunsFollow, expected_row, expected_rows}
 use Rattle.handler_check.specs.Images.{IsHandler}
 use Rattle.interrupt_plan.specs.{declared.Request.Request, Plans.IsGoodRequest, Plans.IsGood}
 use Rattle.eval_code.specs.{declared.memory_map.MemoryMap.MemoryMap, Firing.AreInputBytes}
 use Rattle.alone_code.specs.{declared.firmware.Firmware.Firmware, Answers.LeavesMapped, Firmwares.IsFirmwareOf}
 use Rattle.firmware_runs.specs.Ports.{given}
 use Rattle.alone_runs.specs.{Forms.with_writes, Following.RunsFollowBeside, Given.RequestsAreGood}
+use Rattle.alone_runs.specs.OpenBytes.{GivenLeavesOpen}
 use Rattle.alone_runs.specs.Rows.{requests_of, first_state}
 use Rattle.alone_runs.specs.Answering.{FirmwareRunsBeside, FirstAlike, FirstStatesAlike, FirstStatesAgree}
 use Rattle.run_forms.specs.{Showing.RowsAreShown, Rows.tellings}
 use Rattle.firmware_runs.specs.Facts.{FactsBeside}
 use Rattle.run_forms.proofs.Algebra.{map-shown_rows, all_onto_all}
+use Rattle.alone_runs.proofs.Algebra.{all_complete, given_leaves}
 use Rattle.handled_runs.specs.{Open.is_open_to_code, Joint.joint_memory, declared.back.HandlerEnd.HandlerEnd}
-use Rattle.handled_runs.specs.Forms.{with_code, first_handled, handled_rows, steps_of, HandledSeen, with_steps}
+use Rattle.handled_runs.specs.Forms.{code_parts, with_code, first_handled, handled_rows, steps_of, HandledSeen}
+use Rattle.handled_runs.specs.Forms.{with_steps}
 use Rattle.handled_runs.specs.Answering.{AnswersHandled, CameBack, HandledAnswers}
-use Rattle.handled_runs.specs.SoundHandledProof.{CodeLaws, Handled, HandlerStands, opens_free}
+use Rattle.handled_runs.specs.SoundHandledProof.{CodeLaws, Handled, HandlerStands, opens_free, stands}
 use Rattle.handled_runs.proofs.Beginnings.{code_leaves, joint_agrees, joint_has, first_stands}
 
--- samples of at most eight bytes
-abbrev AreFew : List (List ℕ) → Type 0
-AreFew [] = Unit {0}
-AreFew (x ∷ xs) = (length x ≤ 8) × AreFew xs
-
-all_few : (b : Block) (samples : List (List ℕ)) → length b.inputs ≤ 8 → All (AreInputBytes b) samples → AreFew samples
-all_few b [] few all = tt
-all_few b (x ∷ xs) few all =
-    (let i = all 0 x (omega arith) in omega (arith, i.count), all_few b xs few (λ k d lt. all (suc k) d (omega arith)))
-
-given_same : (l : MemoryMap) (x : List ℕ) (s : State) → length x ≤ 8 → given l (take 8 x) s ≡ given l x s
-given_same l x s few = ap (λ (v : List ℕ). given l v s) (take_all 8 x few)
-
--- the run without interrupts is that of listed writes
-complete : (P : State → Type 0) (flags : ℕ) (f : Firmware) (ns : List ℕ) (samples : List (List ℕ))
-    (s : State) → AreFew samples
-    → AllComplete P (with_writes flags f) ns samples s → AllComplete P (with_code flags f) ns samples s
-complete P flags f [] [] s few h = h
-complete P flags f (n ∷ ns) [] s few h = h
-complete P flags f [] (x ∷ xs) s few h = h
-complete P flags f (n ∷ ns) (x ∷ xs) s few h =
-    let e = given_same f.memory_map x s few.0 in
-    let one = h.0 in
-    let moved : Completes P (with_code flags f) 0 n n (given f.memory_map x s) =
-    record { sum = one.sum; holds = one.holds; on = one.on; ended = one.ended } in (
-      subst (λ (u : State). Completes P (with_code flags f) 0 n n u) (sym e) moved,
-      subst (λ (u : State). AllComplete P (with_code flags f) ns xs (uninterrupted flags n u)) (sym e)
-          (complete P flags f ns xs (uninterrupted flags n (given f.memory_map x s)) few.1 h.1),
-    )
-
--- so are the rows that are expected
+-- the rows that are expected are those of listed writes
 expected : (flags : ℕ) (f : Firmware) (asks : ℕ → List Request) (k : ℕ) (ns : List ℕ)
-    (samples : List (List ℕ)) (s : State) → AreFew samples
-    → expected_rows (with_code flags f) asks k ns samples s ≡ expected_rows
-    (with_writes flags f) asks k ns samples s
-expected flags f asks k [] samples s few = refl
-expected flags f asks k (n ∷ ns) [] s few = refl
-expected flags f asks k (n ∷ ns) (x ∷ xs) s few =
-    let e = given_same f.memory_map x s few.0 in
-    let code = with_code flags f in
-    ap (λ (u : State). expected_row code (asks k) n x u ∷ expected_rows code asks (suc k) ns xs
-    (uninterrupted flags n u)) e
-    ∙ ap (λ (rows : List (RowSeen (List ℕ))). expected_row (with_writes flags f) (asks k) n x
-    (given f.memory_map x s) ∷ rows)
-    (expected flags f asks (suc k) ns xs (uninterrupted flags n (given f.memory_map x s)) few.1)
+    (samples : List (List ℕ)) (s : State)
+    → expected_rows (with_code flags f) asks k ns samples s ≡ expected_rows (with_writes flags f) asks k ns samples s
+expected flags f asks k [] samples s = refl
+expected flags f asks k (n ∷ ns) [] s = refl
+expected flags f asks k (n ∷ ns) (x ∷ xs) s =
+    let u = given f.memory_map x s in
+    ap (λ (rows : List (RowSeen (List ℕ))). expected_row (with_writes flags f) (asks k) n x u ∷ rows)
+    (expected flags f asks (suc k) ns xs (uninterrupted flags n u))
 
 -- the laws of lower crates, and the law on runs
 pub record Laws : Type 0 where
   pub code : CodeLaws
+  pub given_leaves_open : GivenLeavesOpen
   pub holds_image : HoldsImage
   pub firmware_runs_beside : FirmwareRunsBeside
   pub first_states_alike : FirstStatesAlike
@@ -96,41 +64,39 @@ comes_back laws b f handler most flags samples plan hf good is v limits h all =
     subst (λ (l : MemoryMap). LeavesMapped is_open_to_code l) (sym h.memory_map) code_leaves in
     let runs = laws.firmware_runs_beside is_open_to_code b f flags samples hf leaves v limits h all in
     let ns = runs.ns in
-    let few = all_few b samples v.few_inputs all in
     let mem = joint_memory f.image.bytes handler in
     let w = first_handled f handler flags in
     let s = first_state f flags in
     let alike : FirstAlike is_open_to_code f flags mem w =
     laws.first_states_alike is_open_to_code b f flags mem hf leaves v limits h
     (joint_agrees laws.holds_image f.image.bytes handler is.whole) in
-    let stands : HandlerStands handler most [] w =
+    let begins : HandlerStands handler most [] w =
     first_stands f flags handler most mem w is.whole alike
     (joint_has laws.holds_image f.image.bytes handler is.whole) in
-    let inputs : f.memory_map.samples + 8 ≤ 0x1800 =
-    subst (λ (l : MemoryMap). l.samples + 8 ≤ 0x1800) (sym h.memory_map) (omega arith) in
     let x : Handled = record {
       laws = laws.code;
       flags = flags;
       firmware = f;
       low = runs.low;
-      samples = inputs;
       handler = handler;
-      most =
-          most;
+      most = most;
       is_handler = is;
     } in
     let asks : ℕ → List Request = λ k. requests_of k plan in
-    let completes = complete (FactsBeside is_open_to_code flags f) flags f ns samples s few runs.complete in
+    let completes : AllComplete (FactsBeside is_open_to_code flags f) (with_code flags f) ns samples s =
+    all_complete (FactsBeside is_open_to_code flags f) flags f (code_parts f) ns samples s runs.complete in
     let code = laws.runs_follow x asks (laws.requests_are_good plan good) [] 1 f.step_bound ns samples w s runs.within
-    completes (laws.first_states_agree is_open_to_code f flags mem w alike) stands in
+    (λ k d lt done u own. stands handler most done u _ is.whole
+    (given_leaves laws.given_leaves_open is_open_to_code f.memory_map h.memory_map leaves b v _ (all k d lt) u) own)
+    completes (laws.first_states_agree is_open_to_code f flags mem w alike) begins in
     let listed = laws.runs_follow_beside is_open_to_code flags f opens_free runs.low asks
     (laws.requests_are_good plan good) [] 1 f.step_bound ns samples s s runs.within
-    runs.complete (record { regs = refl; temps = refl; mem = agree_self (is_hidden is_open_to_code s.regs.sp) s.mem })
-    tt in
+    (λ k d lt done u own. tt) runs.complete
+    (record { regs = refl; temps = refl; mem = agree_self (is_hidden is_open_to_code s.regs.sp) s.mem }) tt in
     let own = code.own in
     record {
       arrived = code.arrived;
-      rows_are = code.rows_are ∙ expected flags f asks 1 ns samples s few ∙ sym listed.rows_are;
+      rows_are = code.rows_are ∙ expected flags f asks 1 ns samples s ∙ sym listed.rows_are;
       ns = ns;
       complete = completes;
       simulates = code.simulates;

@@ -1,6 +1,6 @@
 -- A firmware that stands alone, whose interrupts run code, as a form of the law on runs.
 -- Beside the promise.
-use Rattle.std.specs.Prelude.{ℕ, List, take, map, sum}
+use Rattle.std.specs.Prelude.{ℕ, List, map, sum}
 use Rattle.cpu12_parts.specs.State.{State}
 use Rattle.run_law.specs.Forms.{Form, RowSeen, Rows, rows_from}
 use Rattle.handler_check.specs.Running.{Returned, until_rti, step_limit, at_code}
@@ -9,7 +9,6 @@ use Rattle.alone_code.specs.declared.firmware.Firmware.{Firmware}
 use Rattle.trace_io.specs.{declared.sample.Sample.Sample, Traces.input_bytes}
 use Rattle.run_forms.specs.{declared.sample.Notes.Notes, Rooms.seen_notes, Rows.arrived_at, Rows.shown}
 use Rattle.run_forms.specs.Forms.{FormParts, plan_form, Harness}
-use Rattle.firmware_runs.specs.Ports.{given}
 use Rattle.alone_runs.specs.{Forms.place_of, Forms.stand_alone, Rows.requests_of}
 use Rattle.alone_runs.specs.Rows as rows
 use Rattle.handled_runs.specs.declared.back.HandlerEnd.{HandlerEnd}
@@ -25,12 +24,9 @@ served flags r v = until_rti flags step_limit (at_code r.writes v)
 abbrev pub end_of : Returned → HandlerEnd
 end_of r = record { steps = r.steps; done = r.done }
 
--- The parts of the form: a sample is given by at most eight bytes, and a request tells how its handler ended.
+-- The parts of the form: a request tells how its handler ended.
 abbrev pub code_parts : Firmware → FormParts (List ℕ) Request HandlerEnd
-code_parts f =
-    record (stand_alone f place_of (λ flags r v. (served flags r v).state) (λ flags r v. end_of (served flags r v))) {
-      give = λ bytes. given f.memory_map (take 8 bytes);
-    }
+code_parts f = stand_alone f place_of (λ flags r v. (served flags r v).state) (λ flags r v. end_of (served flags r v))
 
 abbrev pub with_code : ℕ → Firmware → Form (List ℕ) Request HandlerEnd
 with_code flags f = plan_form flags (code_parts f)

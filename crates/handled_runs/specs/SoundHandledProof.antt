@@ -1,9 +1,9 @@
 -- A firmware whose interrupts run an accepted handler is a sound form. The proof stands here, where an impl can cite
 -- it.
 -- Beside the promise.
-use Rattle.std.proofs.Common.{◌≡◌, ℕ, zero, suc, ◌+◌, ◌<◌, ◌≤◌, ◌⊎◌, inl, inr, Bool, true, false, Some, List, [], ◌∷◌}
-use Rattle.std.proofs.Common.{length, get_or, refl, ap, sym, ◌∙◌, subst, arith, nat_lt, nat_le}
-use Rattle.std.specs.Prelude.{All, take, ◌&&◌, ◌||◌}
+use Rattle.std.proofs.Common.{◌≡◌, ℕ, suc, ◌+◌, ◌<◌, ◌≤◌, ◌⊎◌, inl, inr, Bool, true, false, Some, List, [], ◌∷◌}
+use Rattle.std.proofs.Common.{get_or, refl, ap, sym, ◌∙◌, subst, arith, nat_lt, nat_le}
+use Rattle.std.specs.Prelude.{All, ◌&&◌, ◌||◌}
 use Rattle.std.specs.Option.{is_some}
 use Rattle.std.proofs.lemmas.Bool.{or_parts, cases_lt}
 use Rattle.std.proofs.lemmas.Bool.Decides.{nat_tests}
@@ -20,9 +20,9 @@ use Rattle.handler_check.specs.Images.{IsWhole, IsHandler}
 use Rattle.handler_check.specs.Running.{HasImage, CanBegin, IsQuietCode, HandlersAreQuiet}
 use Rattle.interrupt_plan.specs.{declared.Request.Request, Plans.IsGoodRequest}
 use Rattle.alone_code.specs.declared.firmware.Firmware.{Firmware}
-use Rattle.firmware_runs.specs.{Ports.given, Facts.IsStackOfOneCall, Facts.FactsBeside}
+use Rattle.firmware_runs.specs.Facts.{IsStackOfOneCall, FactsBeside}
 use Rattle.alone_runs.specs.Following.{IsLow, OpensFree}
-use Rattle.alone_runs.specs.OpenBytes.{AreOpenAlike, StepsLeaveOpen, GivenLeavesOpen}
+use Rattle.alone_runs.specs.OpenBytes.{AreOpenAlike, StepsLeaveOpen}
 use Rattle.alone_runs.specs.SoundAloneProof.{low_ports, given_alike, answered_alike, ended_alike}
 use Rattle.handled_runs.specs.{Open.is_code, Open.is_open_to_code, Forms.served, Forms.end_of, Forms.with_code}
 use Rattle.handled_runs.specs.{Answering.CameBack, Answering.AllCameBack, declared.back.HandlerEnd.HandlerEnd}
@@ -30,7 +30,6 @@ use Rattle.handled_runs.specs.{Answering.CameBack, Answering.AllCameBack, declar
 -- the laws of lower crates
 pub record CodeLaws : Type 0 where
   pub steps_leave_open : StepsLeaveOpen
-  pub given_leaves_open : GivenLeavesOpen
   pub handlers_are_quiet : HandlersAreQuiet
   pub sums_fit_below : SumsFitBelow
 
@@ -40,7 +39,6 @@ pub record Handled : Type 0 where
   pub flags : ℕ
   pub firmware : Firmware
   pub low : IsLow firmware
-  pub samples : firmware.memory_map.samples + 8 ≤ 0x1800
   pub handler : List (ℕ × ℕ)
   pub most : ℕ
   pub is_handler : IsHandler handler most
@@ -106,19 +104,13 @@ image_stays image m n w keeps h = record {
   bytes = λ at byte e. (let r = in_code image at byte w e in keeps at r.0 (code_open at r.0 r.1) ∙ h.bytes at byte e);
 }
 
-stands : (image : List (ℕ × ℕ)) (most : ℕ) (done : List (Request × HandlerEnd)) (w u : State) → IsWhole image
+pub stands : (image : List (ℕ × ℕ)) (most : ℕ) (done : List (Request × HandlerEnd)) (w u : State) → IsWhole image
     → AreOpenAlike is_open_to_code w.mem u.mem
     → HandlerStands image most done w → HandlerStands image most done u
 stands image most done w u whole alike h = record {
   image = image_stays image w.mem u.mem whole (λ at from is. alike at is) h.image;
   back = h.back;
 }
-
-take_few : (n : ℕ) (xs : List ℕ) → length (take n xs) ≤ n
-take_few zero [] = omega arith
-take_few zero (x ∷ xs) = omega arith
-take_few (suc n) [] = omega arith
-take_few (suc n) (x ∷ xs) = let rest = take_few n xs in omega arith
 
 -- SP under interrupts
 sp_near : (sp : ℕ) → IsStackOfOneCall sp → (0x1FFE ≤ sp) × (sp ≤ 0x2000)
@@ -189,21 +181,16 @@ pub sound : (x : Handled) → WritesAgree → WritesAreQuiet
 sound x agree quiet =
     let whole = (let k = x.is_handler in k.whole) in
     let laws = x.laws in
-    let ready = (let low = x.low in low.ready) in
     let ports = low_ports is_open_to_code opens_free x.firmware x.low in
     record {
       apart = opens_free.apart;
       shown = λ s p. (let facts = p.facts in facts.shown);
-      gives = λ bytes w s l. given_alike agree is_open_to_code x.firmware (take 8 bytes) w s l;
+      gives = λ bytes w s l. given_alike agree is_open_to_code x.firmware bytes w s l;
       leaves = λ bytes w s l. l;
       answers = λ w s l. answered_alike is_open_to_code x.firmware ports x.low w s l;
       ends = λ m w s l. ended_alike is_open_to_code x.firmware ports x.low w s l;
       quiet = λ done a v s good p may begins own. serves x done a v s good p begins own;
       leaves_open = record {
-        gives = λ done bytes w o. stands x.handler x.most done w (given x.firmware.memory_map (take 8 bytes) w) whole
-            (laws.given_leaves_open is_open_to_code x.firmware.memory_map (take 8 bytes) w (take_few 8 bytes)
-            (let end = x.samples in omega (arith, end)) (opens_free.low x.firmware.memory_map.ready ready)
-            (λ at from to. opens_free.low at (let end = x.samples in omega (arith, end, to)))) o;
         leaves = λ done bytes w o. o;
         pushes = λ done w s p l o.
             (let left = laws.steps_leave_open is_open_to_code x.flags x.firmware w s opens_free.apart p l in

@@ -233,7 +233,6 @@ module _ (laws : Stepping) (flags : ℕ) (f : Firmware) (samples : List (List �
           one_more done a v s good shown.room begins own,
         ));
     leaves_open = record {
-      gives = λ done x w o. o;
       leaves = λ done x w o. o;
       pushes = λ done w s p l o.
           (let near = sp_of w s p.stack l in holds_on done (suspended wav w) w (pushes_keep laws w near.0 near.1) o);

@@ -1,5 +1,5 @@
 -- The runs of a list of samples go along with the runs without interrupts.
-use Rattle.std.proofs.Common.{◌≡◌, ℕ, suc, Bool, false, ◌&&◌, List, [], ◌∷◌, refl, ap₂}
+use Rattle.std.proofs.Common.{◌≡◌, ℕ, suc, Bool, false, ◌&&◌, List, [], ◌∷◌, refl, ap₂, arith}
 use Rattle.cpu12_parts.specs.State.{State}
 use Rattle.cpu12_emul.specs.Simulation.{Marks}
 use Rattle.run_law.specs.Forms.{Form, Ran, run_from, RowSeen, row_of, rows_from}
@@ -40,17 +40,18 @@ pub runs_follow : (S A B : Type 0) (marks : Marks) (open_to : ℕ → Bool) (f :
     (Good : A → Type 0) (Own : List (A × B) → State → Type 0) → Ground marks open_to f P Good Own
     → RunsFollow marks open_to f P Good Own
 unfolding rows_from
-runs_follow S A B marks open_to f P Good Own gr asks ok done k most [] [] w s le go l own =
+runs_follow S A B marks open_to f P Good Own gr asks ok done k most [] [] w s le gives go l own =
     record { arrived = refl; rows_are = refl; taken = refl; told = tt; simulates = tt; last = l; own = own }
-runs_follow S A B marks open_to f P Good Own gr asks ok done k most (n ∷ ns) [] w s le go l own = absurd go
-runs_follow S A B marks open_to f P Good Own gr asks ok done k most [] (x ∷ rest) w s le go l own = absurd go
-runs_follow S A B marks open_to f P Good Own gr asks ok done k most (n ∷ ns) (x ∷ rest) w s le go l own =
+runs_follow S A B marks open_to f P Good Own gr asks ok done k most (n ∷ ns) [] w s le gives go l own = absurd go
+runs_follow S A B marks open_to f P Good Own gr asks ok done k most [] (x ∷ rest) w s le gives go l own = absurd go
+runs_follow S A B marks open_to f P Good Own gr asks ok done k most (n ∷ ns) (x ∷ rest) w s le gives go l own =
     let sound = gr.sound in
     let keeps = sound.leaves_open in
     let b = run_follows_whole S A B marks open_to f P Good Own gr done n most (asks k) (f.give x w) (f.give x s) le.0
-    (ok k).0 (ok k).1 (sound.gives x w s l) (keeps.gives done x w own) go.0 in
+    (ok k).0 (ok k).1 (sound.gives x w s l) (gives 0 x (omega arith) done w own) go.0 in
     let r : Ran A B = run_from f most 0 false (asks k) (f.give x w) in
     let t : State = uninterrupted f.flags n (f.give x s) in
     one_row marks open_to f P Good Own gr done asks most k n ns x rest w s b
     (runs_follow S A B marks open_to f P Good Own gr asks ok (onto r.told done) (suc k) most ns rest (f.leave x r.state)
-    (f.leave x t) le.1 go.1 (sound.leaves x r.state t b.last) (keeps.leaves (onto r.told done) x r.state b.own))
+    (f.leave x t) le.1 (λ j d lt. gives (suc j) d (omega arith)) go.1 (sound.leaves x r.state t b.last)
+    (keeps.leaves (onto r.told done) x r.state b.own))

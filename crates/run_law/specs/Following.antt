@@ -1,11 +1,11 @@
 -- The law on runs: a run under requests follows the run without interrupts, for a sample and for a list of samples.
 -- Beside the promise.
-use Rattle.std.specs.Prelude.{◌≡◌, ℕ, suc, ◌+◌, ◌<◌, ◌≤◌, Bool, true, false, List, [], ◌∷◌, map}
+use Rattle.std.specs.Prelude.{◌≡◌, ℕ, suc, ◌+◌, ◌<◌, ◌≤◌, Bool, true, false, List, [], ◌∷◌, All, map}
 use Rattle.cpu12_parts.specs.State.{State}
 use Rattle.run_law.specs.Forms.{Form, Ran, run_from, RowSeen, Rows, rows_from}
 use Rattle.run_law.specs.Uninterrupted.{uninterrupted, counted, is_inside, taken_at, taken_before, left_from}
 use Rattle.run_law.specs.Uninterrupted.{resumed_of, frames_of}
-use Rattle.run_law.specs.Soundness.{Before, Begins, AllSimulate, AllGood, Ascend}
+use Rattle.run_law.specs.Soundness.{Before, Begins, AllSimulate, AllGood, Ascend, GivenLeavesOwn}
 use Rattle.cpu12_emul.specs.Simulation.{Same, Marks}
 
 -- those of a list before others, the last first
@@ -153,11 +153,11 @@ pub record AllFollow {S A B : Type 0} (marks : Marks) (open_to : ℕ → Bool) (
   pub own : Own (all_onto all.told done) all.state
 
 -- The runs of a list of samples follow the runs without interrupts, whatever good requests `asks` gives each, where
--- these ascend and no sample takes more steps than `most`.
+-- these ascend, each sample leaves what stands in the open bytes, and none takes more steps than `most`.
 abbrev pub RunsFollow : {S A B : Type 0} → Marks → (ℕ → Bool) → Form S A B → (State → Type 0) → (A → Type 0)
     → (List (A × B) → State → Type 0) → Type 0
 RunsFollow {S = S} {A = A} {B = B} marks open_to f P Good Own =
     (asks : ℕ → List A) → ((k : ℕ) → AllGood Good (asks k) × Ascend f.moment 0 (asks k))
     → (done : List (A × B)) (k most : ℕ) (ns : List ℕ) (samples : List S) (w s : State) → AllWithin most ns
-    → AllComplete P f ns samples s → Same open_to w s → Own done w
+    → All (GivenLeavesOwn f Own) samples → AllComplete P f ns samples s → Same open_to w s → Own done w
     → AllFollow marks open_to f Own done asks k ns samples s (rows_from f most asks k samples w)

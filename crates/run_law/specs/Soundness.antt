@@ -60,15 +60,18 @@ pub record Quiet (marks : Marks) (open_to : ℕ → Bool) (u v s : State) : Type
   pub mem : Agree (is_hidden open_to v.regs.sp) u.mem v.mem
 
 -- The open bytes belong to the handlers: Own says what stands there after these requests, the last first, with what
--- they told. Samples, steps and the push of the sums leave it.
+-- they told. Steps, the push of the sums and the end of a sample leave it.
 pub record LeavesOpen {S A B : Type 0} (open_to : ℕ → Bool) (f : Form S A B) (P : State → Type 0)
     (Own : List (A × B) → State → Type 0) : Type 0 where
-  pub gives : (done : List (A × B)) (x : S) (w : State) → Own done w → Own done (f.give x w)
   pub leaves : (done : List (A × B)) (x : S) (w : State) → Own done w → Own done (f.leave x w)
   pub pushes : (done : List (A × B)) (w s : State) → P s → Simulates OnStackOrNone open_to w s → Own done w
       → Own done (suspended wav w)
   pub steps : (done : List (A × B)) (w s : State) → P s → Simulates OnStackOrNone open_to w s → Own done w
       → Own done (stepped f.flags w)
+
+-- So does a sample that is given. This is asked of the samples of a run, and not of all that a form could be given.
+abbrev pub GivenLeavesOwn : {S A B : Type 0} → Form S A B → (List (A × B) → State → Type 0) → S → Type 0
+GivenLeavesOwn {A = A} {B = B} f Own x = (done : List (A × B)) (w : State) → Own done w → Own done (f.give x w)
 
 -- A form is sound beside runs without interrupts whose states keep P: a step reads and writes what is shown; samples
 -- are given, taken away and answered alike, and the end looks the same; and where I is 0 a good request is quiet.

@@ -76,10 +76,11 @@ pub fn run_follows<F: SoundForm>()
     writes_are_quiet();
 }
 
-/// The runs of a list of samples follow the runs without interrupts: the same number of steps and of
-/// instructions, the same answers, the frames and resumed boundaries that are read off the states
-/// without interrupts, a state that simulates at every boundary, handlers that tell of states in which
-/// they began there, and the same last memory but for the bytes that interrupts may change.
+/// The runs of a list of samples, each of which leaves what stands in the open bytes, follow the runs
+/// without interrupts: the same number of steps and of instructions, the same answers, the frames and
+/// resumed boundaries that are read off the states without interrupts, a state that simulates at every
+/// boundary, handlers that tell of states in which they began there, and the same last memory but for the
+/// bytes that interrupts may change.
 pub fn runs_follow<F: SoundForm>()
     ensures { (x : F.Setting) → RunsFollow F.marks (F.open_to x) (F.form x) (F.holds x) (F.good x) (F.own x) }
 {

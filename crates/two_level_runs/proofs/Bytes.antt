@@ -1,9 +1,9 @@
 -- Under interrupts memory stays one of bytes.
-use Rattle.two_level_runs.proofs.Words.{[], ◌<◌, ◌^◌, ◌∷◌, ◌≡◌, ap, AreBytes, AreSumsReady, arith, Begins, Bool}
-use Rattle.two_level_runs.proofs.Words.{BytesStay, FitsRegs, FitsState, FitsTemps, FitsWrites, frame_bytes, framed}
-use Rattle.two_level_runs.proofs.Words.{Free, HasRoom, inl, inr, List, Next, OnStack, OnStackOrNone, placed, plus}
-use Rattle.two_level_runs.proofs.Words.{refl, Regs, Running, Simulates, State, state_by, StepFits, stepped, subst}
-use Rattle.two_level_runs.proofs.Words.{suspended, sym, Temps, wav, ℕ}
+use Rattle.two_level_runs.proofs.Words.{[], ◌++◌, ◌<◌, ◌^◌, ◌∷◌, ◌≡◌, All, ap, AreBytes, AreSumsReady, arith, Begins}
+use Rattle.two_level_runs.proofs.Words.{Bool, BytesStay, FitsRegs, FitsState, FitsTemps, FitsWrites, frame_bytes}
+use Rattle.two_level_runs.proofs.Words.{framed, Free, given, HasRoom, inl, inr, List, MemoryMap, Next, OnStack}
+use Rattle.two_level_runs.proofs.Words.{OnStackOrNone, placed, plus, refl, Regs, Running, Simulates, State, state_by}
+use Rattle.two_level_runs.proofs.Words.{StepFits, stepped, subst, suc, suspended, sym, Temps, wav, ℕ}
 use Rattle.cpu12_parts.specs.{Parts.sum_bytes, Inside.PushesRunning, Inside.PushesNone}
 use Rattle.cpu12_emul.specs.{Simulation.IsShownStep, Simulation.StepKeeps}
 use Rattle.run_law.specs.{Soundness.SumsFitBelow}
@@ -23,13 +23,10 @@ pub AllBytes : List ℕ → Type 0
 AllBytes [] = Unit {0}
 AllBytes (v ∷ vs) = (v < 2 ^ 8) × AllBytes vs
 
-pub all_none : AllBytes []
+pub all_bytes : (vs : List ℕ) → All (λ v. v < 2 ^ 8) vs → AllBytes vs
 unfolding AllBytes
-all_none = tt
-
-pub all_more : (v : ℕ) (vs : List ℕ) → v < 2 ^ 8 → AllBytes vs → AllBytes (v ∷ vs)
-unfolding AllBytes
-all_more v vs h hs = (h, hs)
+all_bytes [] h = tt
+all_bytes (v ∷ vs) h = (h 0 v (omega arith), all_bytes vs (λ k x l. h (suc k) x (omega arith)))
 
 pub placed_fits : (at : ℕ) (vs : List ℕ) → at < 2 ^ 16 → AllBytes vs → FitsWrites (placed at vs)
 unfolding AllBytes
@@ -101,6 +98,18 @@ push_bytes laws open_to flags w s shown l bytes = cases w.temps refl
         subst (λ (u : State). AreBytes u.mem) (sym (laws.pushes_running w q k e))
         (laws.bytes_stay (placed (plus w.regs.sp 65530) (sum_bytes q k)) w.mem
         (placed_fits (plus w.regs.sp 65530) (sum_bytes q k) (omega arith) (sums_fit q k sums.0 sums.1)) bytes)
+
+-- a sample is given
+fits_more : (ws : List (ℕ × ℕ)) (w : ℕ × ℕ) → FitsWrites ws → w.0 < 2 ^ 16 → w.1 < 2 ^ 8 → FitsWrites (ws ++ w ∷ [])
+fits_more [] w h at byte = (at, byte, tt)
+fits_more (u ∷ ws) w h at byte = (h.0, h.1, fits_more ws w h.2 at byte)
+
+pub given_bytes : BytesStay → (l : MemoryMap) (x : List ℕ) (w : State) → l.samples < 2 ^ 16 → l.ready < 2 ^ 16
+    → All (λ v. v < 2 ^ 8) x → AreBytes w.mem → AreBytes (given l x w).mem
+given_bytes stay l x w samples ready fits bytes =
+    stay (placed l.samples x ++ (l.ready, 1) ∷ []) w.mem
+    (fits_more (placed l.samples x) (l.ready, 1) (placed_fits l.samples x samples (all_bytes x fits)) ready
+    (omega arith)) bytes
 
 -- an interrupt begins with registers that fit
 pub begins_fits : BytesLaws → (open_to : ℕ → Bool) (v s : State) → HasRoom s → Begins open_to v s → FitsRegs v.regs

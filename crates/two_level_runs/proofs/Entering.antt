@@ -2,16 +2,11 @@
 use Rattle.two_level_runs.proofs.Words.{◌*◌, ◌+◌, ◌-◌, ◌<◌, ◌^◌, ◌∙◌, ◌≡◌, ◌≤◌, All, ap₂, AreBytes, arith, bit_or}
 use Rattle.two_level_runs.proofs.Words.{bit_or_is, BytesStay, Ccr, Each, entered, fast_code, fast_map, FitsRegs}
 use Rattle.two_level_runs.proofs.Words.{frame_bytes, has, HasFastCode, inl, inr, interrupts_masked, IsIn, length}
-use Rattle.two_level_runs.proofs.Words.{List, OuterEnters, placed, plus, six_from, slice_index, State, subst, suc}
-use Rattle.two_level_runs.proofs.Words.{sym, true, word_of, WritesStay, ℕ}
-use Rattle.std.specs.{Prelude.[], Prelude.◌∷◌}
+use Rattle.two_level_runs.proofs.Words.{List, OuterEnters, placed, plus, six_from, slice_index, State, subst, sym}
+use Rattle.two_level_runs.proofs.Words.{true, word_of, WritesStay, ℕ}
 use Rattle.cpu12_isa.proofs.{Algebra.fits_put}
-use Rattle.two_level_runs.proofs.Bytes.{AllBytes, all_none, all_more, placed_fits, frame_fits}
+use Rattle.two_level_runs.proofs.Bytes.{all_bytes, placed_fits, frame_fits}
 use Rattle.two_level_runs.proofs.Pushing.{framed_mem, entered_mem, stays, size_stays, sample_read}
-
-all_bytes : (vs : List ℕ) → All (λ v. v < 2 ^ 8) vs → AllBytes vs
-all_bytes [] h = all_none
-all_bytes (v ∷ vs) h = all_more v vs (h 0 v (omega arith)) (all_bytes vs (λ k x l. h (suc k) x (omega arith)))
 
 -- the memory is one of bytes
 pub bytes_stay : BytesStay → (bytes : List ℕ) (v : State) → All (λ n. n < 2 ^ 8) bytes → FitsRegs v.regs

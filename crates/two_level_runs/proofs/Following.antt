@@ -40,7 +40,6 @@ sound laws image flags outputs sp hf few agree quiet = record {
         take_bytes laws.bytes_stay v (begins_fits laws is_open_inside v s shown.room begins) own,
       ));
   leaves_open = record {
-    gives = λ done x w o. o;
     leaves = λ done x w o. o;
     pushes = λ done w s p l o. push_bytes laws is_open_inside flags w s p.shown l o;
     steps = λ done w s p l o. step_bytes laws is_open_inside flags w s hf p.shown l o;

@@ -1,6 +1,6 @@
 -- Runs at two levels answer.
 use Rattle.two_level_runs.proofs.Words.{[], ◌∙◌, ◌≡◌, ◌≤◌, All, all_onto, ap, AreOnStack, AreTold, Byte, FactsBeside}
-use Rattle.two_level_runs.proofs.Words.{fast_most, FastSeen, FastStands, first_two, FirstAlike, fitted_form}
+use Rattle.two_level_runs.proofs.Words.{fast_most, FastSeen, FastStands, first_two, FirstAlike}
 use Rattle.two_level_runs.proofs.Words.{image_memory, is_open_to_fast, IsGoodLevel, length, Level, level_form}
 use Rattle.two_level_runs.proofs.Words.{levels_of, List, map, OnStackOrNone, Option, plan_of, RequestsAreGood, Rows}
 use Rattle.two_level_runs.proofs.Words.{rows_of_samples, RowSeen, StandsBeside, State, step_bound, subst, sym}
@@ -9,15 +9,17 @@ use Rattle.run_law.specs.{Following.AllFollow, Following.RunsFollow}
 use Rattle.alone_runs.specs.{Rows.first_state, Rows.firmware_rows, Answering.FirstStatesAlike}
 use Rattle.alone_runs.specs.{Answering.FirstStatesAgree}
 use Rattle.firmware_runs.specs.{Facts.FactsAlone}
-use Rattle.two_level_runs.specs.{Levels.Levels, Rows.two_rows, Answering.fast_runs_of, Answering.AnswersUnderLevels}
+use Rattle.two_level_runs.specs.{Levels.Levels, Rows.level_parts, Rows.two_rows, Answering.fast_runs_of}
+use Rattle.two_level_runs.specs.{Answering.AnswersUnderLevels}
 use Rattle.alone_code.specs.Firmwares.{IsFirmwareOf}
 use Rattle.alone_runs.specs.Answering.{AnswerBlock, AnswersUnder, AnswersUnderPlans, RunsBeside, FirmwareRunsBeside}
 use Rattle.run_forms.proofs.Algebra.{all_onto_all}
+use Rattle.alone_runs.proofs.Algebra.{all_complete}
 use Rattle.two_level_runs.proofs.{Arriving.first_stands, LevelPlans.plan_good, LevelPlans.levels_are_good}
-use Rattle.two_level_runs.proofs.{LevelSound.level_sound, LevelTelling.steps_are, LevelTelling.rows_told}
+use Rattle.two_level_runs.proofs.LevelSound.{level_gives, level_sound}
+use Rattle.two_level_runs.proofs.LevelTelling.{steps_are, rows_told}
 use Rattle.two_level_runs.proofs.FastRuns.{Answer, runs_in, runs_are, all_answers, all_told, few_steps}
-use Rattle.two_level_runs.proofs.Fitting.{AreFitted, all_fitted, rows_fitted}
-use Rattle.two_level_runs.proofs.LevelRows.{SlowFacts, complete, same_numbers, same_rows, same_taken, on_stack}
+use Rattle.two_level_runs.proofs.LevelRows.{SlowFacts, same_numbers, same_rows, same_taken, on_stack}
 use Rattle.two_level_runs.proofs.LevelServing.{LevelLaws, Given, bounds, few_outputs}
 
 -- the laws of lower crates, and the law on runs
@@ -31,7 +33,7 @@ pub record AnswerLaws : Type 0 where
   pub answers_under_plans : AnswersUnderPlans
   pub requests_are_good : RequestsAreGood
   pub runs_follow : (x : Levels)
-      → RunsFollow OnStackOrNone is_open_to_fast (fitted_form x.flags x.two x.samples)
+      → RunsFollow OnStackOrNone is_open_to_fast (level_form x.flags x.two x.samples)
       (FactsBeside is_open_to_fast x.flags x.two.slow)
       (IsGoodLevel (length x.samples)) (FastStands x.fast x.two x.samples)
 
@@ -43,8 +45,7 @@ answers_under_levels laws two flags slow_samples samples levels hf good slow fas
       slow_answers = subst (λ (rows : List (RowSeen (List ℕ))). AnswerBlock slow two.slow flags slow_samples rows)
           (sym rows_are) under.answers;
       taken = followed.taken
-          ∙ same_taken laws.taken_at_once flags two samples levels 1 runs.ns slow_samples first fitted_all
-          runs.complete
+          ∙ same_taken laws.taken_at_once flags two samples levels 1 runs.ns slow_samples first runs.complete
           ∙ ap (λ (rows : List (RowSeen (List ℕ))). taken_by 1 levels (map (λ (r : RowSeen (List ℕ)). r.steps) rows))
           (sym rows_of);
       fast_numbers = subst
@@ -119,26 +120,21 @@ answers_under_levels laws two flags slow_samples samples levels hf good slow fas
           level_sound x stand.leaves runs.low;
     }
 
-    fitted_all : AreFitted slow_samples
-    fitted_all = all_fitted slow slow_samples vs.few_inputs slow_inputs
-
     all : Rows (List ℕ) Level (Option FastSeen)
     all = two_rows two slow_samples samples levels flags
 
-    followed : AllFollow OnStackOrNone is_open_to_fast (fitted_form flags two samples) (FastStands fast two samples) []
+    followed : AllFollow OnStackOrNone is_open_to_fast (level_form flags two samples) (FastStands fast two samples) []
         (λ k. levels_of k levels) 1 runs.ns slow_samples first all
     followed =
-        subst (AllFollow OnStackOrNone is_open_to_fast (fitted_form flags two samples) (FastStands fast two samples) []
-        (λ k. levels_of k levels) 1 runs.ns slow_samples first)
-        (rows_fitted (level_form flags two samples) two.slow.step_bound (λ k. levels_of k levels) 1 slow_samples
-        (first_two two flags) fitted_all)
-        (laws.runs_follow setting (λ k. levels_of k levels)
+        laws.runs_follow setting (λ k. levels_of k levels)
         (levels_are_good laws.requests_are_good (length samples) levels good) [] 1
         two.slow.step_bound runs.ns slow_samples (first_two two flags) first runs.within
-        (complete flags two samples runs.ns slow_samples first fitted_all runs.complete)
+        (λ k d lt. level_gives x stand.leaves _ (slow_inputs k d lt))
+        (all_complete (SlowFacts flags two) flags two.slow (level_parts two samples) runs.ns slow_samples first
+        runs.complete)
         (laws.first_states_agree is_open_to_fast two.slow flags (image_memory two.image.bytes)
         (first_two two flags) alike)
-        begins)
+        begins
 
     own : FastStands fast two samples (all_onto all.told []) all.state
     own = followed.own
@@ -152,7 +148,7 @@ answers_under_levels laws two flags slow_samples samples levels hf good slow fas
 
     rows_of : all.rows ≡ rows_of_samples flags two.slow (plan_of levels) 1 runs.ns slow_samples first
     rows_of = followed.rows_are
-        ∙ same_rows laws.taken_at_once flags two samples levels 1 runs.ns slow_samples first fitted_all runs.complete
+        ∙ same_rows laws.taken_at_once flags two samples levels 1 runs.ns slow_samples first runs.complete
 
     numbers : runs.ns ≡ under.ns
     numbers =
@@ -170,7 +166,7 @@ answers_under_levels laws two flags slow_samples samples levels hf good slow fas
         (first_two two flags)
 
     told : AreTold fast two flags samples [] all.told runs.ns slow_samples first
-    told = rows_told x laws.taken_at_once [] all.told runs.ns slow_samples first fitted_all runs.complete
+    told = rows_told x laws.taken_at_once [] all.told runs.ns slow_samples first runs.complete
         (all_onto_all (λ (t : Level × Option FastSeen). IsGoodLevel (length samples) t.0) all.told [] own.good).0
         followed.told
 

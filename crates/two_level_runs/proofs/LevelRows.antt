@@ -1,42 +1,20 @@
 -- What rows under levels are to be.
 use Rattle.two_level_runs.proofs.Words.{[], ◌<◌, ◌∙◌, ◌∷◌, ◌≡◌, ◌≤◌, ◌⊎◌, All, All-cons, AllComplete, ap, ap₂}
 use Rattle.two_level_runs.proofs.Words.{AreOnStack, arith, Before, Bool, Completes, counted, FactsBeside, false}
-use Rattle.two_level_runs.proofs.Words.{fitted, fitted_form, frames_of, FrameSeen, given, inl, inr, is_open_to_fast}
-use Rattle.two_level_runs.proofs.Words.{IsStackOfOneCall, Level, levels_of, List, map, may_interrupt, None, not}
+use Rattle.two_level_runs.proofs.Words.{frames_of, FrameSeen, given, inl, inr, is_open_to_fast, IsStackOfOneCall}
+use Rattle.two_level_runs.proofs.Words.{Level, level_form, levels_of, List, map, may_interrupt, None, not}
 use Rattle.two_level_runs.proofs.Words.{plan_of, refl, Request, request_of, requests_of, resumed_of, rows_of_samples}
 use Rattle.two_level_runs.proofs.Words.{RowSeen, State, subst, suc, sym, taken_at, taken_before, taken_by}
 use Rattle.two_level_runs.proofs.Words.{TakenAtOnce, true, Two, uninterrupted, with_writes, ℕ}
-use Rattle.run_law.specs.{Following.expected_row, Following.expected_rows, Following.expected_taken}
+use Rattle.run_law.specs.Following.{expected_rows, expected_taken}
 use Rattle.firmware_runs.specs.{Ports.answers_in}
 use Rattle.alone_code.specs.declared.firmware.Firmware.{Firmware}
-use Rattle.two_level_runs.proofs.{Fitting.AreFitted, Frames.HasFrameRoom, Frames.frames_fit}
+use Rattle.two_level_runs.proofs.Frames.{HasFrameRoom, frames_fit}
 use Rattle.two_level_runs.proofs.LevelPlans.{requests_are, resumed_each, frames_of_each}
 
 -- the facts before each step of the slow firmware
 abbrev pub SlowFacts : ℕ → Two → State → Type 0
 SlowFacts flags two = FactsBeside is_open_to_fast flags two.slow
-
--- the run without interrupts is that of the slow firmware alone
-pub given_is : (two : Two) (x : List ℕ) (s : State) → fitted x ≡ x
-    → given two.slow.memory_map (fitted x) s ≡ given two.slow.memory_map x s
-given_is two x s e = ap (λ (v : List ℕ). given two.slow.memory_map v s) e
-
-pub complete : (flags : ℕ) (two : Two) (fast : List (List ℕ)) (ns : List ℕ) (samples : List (List ℕ)) (s : State)
-    → AreFitted samples → AllComplete (SlowFacts flags two) (with_writes flags two.slow) ns samples s
-    → AllComplete (SlowFacts flags two) (fitted_form flags two fast) ns samples s
-complete flags two fast [] [] s few h = h
-complete flags two fast (n ∷ ns) [] s few h = h
-complete flags two fast [] (x ∷ xs) s few h = h
-complete flags two fast (n ∷ ns) (x ∷ xs) s few h =
-    let e = given_is two x s few.0 in
-    let P = SlowFacts flags two in
-    let one = h.0 in
-    let moved : Completes P (fitted_form flags two fast) 0 n n (given two.slow.memory_map x s) =
-    record { sum = one.sum; holds = one.holds; on = one.on; ended = one.ended } in (
-      subst (λ (u : State). Completes P (fitted_form flags two fast) 0 n n u) (sym e) moved,
-      subst (λ (u : State). AllComplete P (fitted_form flags two fast) ns xs (uninterrupted flags n u)) (sym e)
-          (complete flags two fast ns xs (uninterrupted flags n (given two.slow.memory_map x s)) few.1 h.1),
-    )
 
 -- two runs that end have the same numbers of steps
 one_number : (P Q : State → Type 0) (flags : ℕ) (f : Firmware) (m n : ℕ) (s : State)
@@ -116,45 +94,37 @@ row_alike flags two ls n x s =
 
 -- So the rows are those of the slow firmware alone under the levels' plan,
 pub same_rows : TakenAtOnce → (flags : ℕ) (two : Two) (fast : List (List ℕ)) (levels : List Level) (k : ℕ) (ns : List ℕ)
-    (samples : List (List ℕ)) (s : State) → AreFitted samples
+    (samples : List (List ℕ)) (s : State)
     → AllComplete (SlowFacts flags two) (with_writes flags two.slow) ns samples s
-    → expected_rows (fitted_form flags two fast) (λ j. levels_of j levels) k ns samples s
+    → expected_rows (level_form flags two fast) (λ j. levels_of j levels) k ns samples s
     ≡ rows_of_samples flags two.slow (plan_of levels) k ns samples s
-same_rows law flags two fast levels k [] samples s few h = refl
-same_rows law flags two fast levels k (n ∷ ns) [] s few h = refl
-same_rows law flags two fast levels k (n ∷ ns) (x ∷ rest) s few h =
-    let form = fitted_form flags two fast in
+same_rows law flags two fast levels k [] samples s h = refl
+same_rows law flags two fast levels k (n ∷ ns) [] s h = refl
+same_rows law flags two fast levels k (n ∷ ns) (x ∷ rest) s h =
     let u : State = given two.slow.memory_map x s in
     let holds = (let one = h.0 in one.holds) in
     let ls = levels_of k levels in
-    ap (λ (v : State). expected_row form ls n x v ∷ expected_rows form (λ j. levels_of j levels) (suc k) ns rest
-    (uninterrupted flags n v))
-    (given_is two x s few.0)
-    ∙ ap₂ (λ (row : RowSeen (List ℕ)) (rows : List (RowSeen (List ℕ))). row ∷ rows)
+    ap₂ (λ (row : RowSeen (List ℕ)) (rows : List (RowSeen (List ℕ))). row ∷ rows)
     (ap (row_by flags two ls n x u) (moments_are law flags two n u holds) ∙ row_alike flags two ls n x u
     ∙ ap (λ (qs : List Request). row_with flags two qs n x u) (sym (requests_are k levels)))
-    (same_rows law flags two fast levels (suc k) ns rest (uninterrupted flags n u) few.1 h.1)
+    (same_rows law flags two fast levels (suc k) ns rest (uninterrupted flags n u) h.1)
 
 -- the levels that are taken are those before the ends of the samples,
 pub same_taken : TakenAtOnce → (flags : ℕ) (two : Two) (fast : List (List ℕ)) (levels : List Level) (k : ℕ)
-    (ns : List ℕ) (samples : List (List ℕ)) (s : State) → AreFitted samples
+    (ns : List ℕ) (samples : List (List ℕ)) (s : State)
     → AllComplete (SlowFacts flags two) (with_writes flags two.slow) ns samples s
-    → expected_taken (fitted_form flags two fast) (λ j. levels_of j levels) k ns samples s
+    → expected_taken (level_form flags two fast) (λ j. levels_of j levels) k ns samples s
     ≡ taken_by k levels (map (λ (r : RowSeen (List ℕ)). r.steps)
     (rows_of_samples flags two.slow (plan_of levels) k ns samples s))
-same_taken law flags two fast levels k [] samples s few h = refl
-same_taken law flags two fast levels k (n ∷ ns) [] s few h = refl
-same_taken law flags two fast levels k (n ∷ ns) (x ∷ rest) s few h =
-    let form = fitted_form flags two fast in
+same_taken law flags two fast levels k [] samples s h = refl
+same_taken law flags two fast levels k (n ∷ ns) [] s h = refl
+same_taken law flags two fast levels k (n ∷ ns) (x ∷ rest) s h =
     let u : State = given two.slow.memory_map x s in
     let holds = (let one = h.0 in one.holds) in
     let ls = levels_of k levels in
-    ap (λ (v : State). taken_before (taken_at flags (λ (l : Level). l.moment) n v) n ls
-    ∷ expected_taken form (λ j. levels_of j levels) (suc k) ns rest (uninterrupted flags n v))
-    (given_is two x s few.0)
-    ∙ ap₂ (λ (ts : List Level) (tss : List (List Level)). ts ∷ tss)
+    ap₂ (λ (ts : List Level) (tss : List (List Level)). ts ∷ tss)
     (ap (λ (moment : Level → ℕ). taken_before moment n ls) (moments_are law flags two n u holds))
-    (same_taken law flags two fast levels (suc k) ns rest (uninterrupted flags n u) few.1 h.1)
+    (same_taken law flags two fast levels (suc k) ns rest (uninterrupted flags n u) h.1)
 
 -- and no frame stands below the stack's start.
 sp_room : (sp : ℕ) → IsStackOfOneCall sp → (0x1FEF ≤ sp) × (sp ≤ 0x2000)

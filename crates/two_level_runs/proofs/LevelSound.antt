@@ -1,16 +1,18 @@
 -- A slow firmware whose interrupts serve levels is a sound form.
-use Rattle.two_level_runs.proofs.Words.{◌*◌, ◌+◌, ◌<◌, ◌∙◌, ◌≡◌, ◌≤◌, ap, AreBytes, AreOpenAlike, arith}
-use Rattle.two_level_runs.proofs.Words.{FactsBeside, FastSeen, FastStands, fitted, fitted_form, given, inl}
-use Rattle.two_level_runs.proofs.Words.{is_open_to_fast, IsGoodLevel, length, Level, List, MemoryMap, OnStackOrNone}
+use Rattle.two_level_runs.proofs.Words.{◌*◌, ◌+◌, ◌<◌, ◌^◌, ◌∙◌, ◌≡◌, ◌≤◌, ap, AreBytes, AreInputBytes, AreOpenAlike}
+use Rattle.two_level_runs.proofs.Words.{arith, FactsBeside, FastSeen, FastStands, given, inl, is_open_to_fast}
+use Rattle.two_level_runs.proofs.Words.{IsGoodLevel, length, Level, level_form, List, MemoryMap, OnStackOrNone}
 use Rattle.two_level_runs.proofs.Words.{Simulates, Sound, State, stepped, subst, suspended, sym, wav, WritesAgree}
 use Rattle.two_level_runs.proofs.Words.{WritesAreQuiet, ℕ}
+use Rattle.run_law.specs.{Soundness.GivenLeavesOwn}
+use Rattle.alone_runs.proofs.Algebra.{given_leaves}
 use Rattle.std.proofs.{Common.Option}
 use Rattle.eval_code.specs.{MemoryMaps.main_map}
 use Rattle.byte_scaling.specs.{declared.width.Width.Width, declared.width.Width.TheVariants.Byte, Widths.places}
 use Rattle.alone_runs.specs.{Following.IsLow, OpenBytes.StepLeavesOpen}
 use Rattle.alone_code.specs.Answers.{LeavesMapped}
 use Rattle.alone_runs.specs.SoundAloneProof.{LeavesPorts, given_alike, answered_alike, ended_alike}
-use Rattle.two_level_runs.proofs.{Bytes.step_bytes, Bytes.push_bytes, Fitting.fitted_few, Fitting.given_bytes}
+use Rattle.two_level_runs.proofs.Bytes.{step_bytes, push_bytes, given_bytes}
 use Rattle.two_level_runs.proofs.{Serving.open_apart, Standing.stands}
 use Rattle.two_level_runs.proofs.LevelServing.{LevelLaws, Given, few_outputs, serves}
 
@@ -43,31 +45,45 @@ ports_of x leaves = record {
     end : (at : ℕ) → at < main_map.outputs + 1 * x.two.slow.outputs → at < main_map.outputs + 8
     end at l = let few = outputs_few x in omega arith
 
-given_stays : (x : Given) → LeavesMapped is_open_to_fast main_map → (bytes : List ℕ) (w : State)
-    → AreOpenAlike is_open_to_fast w.mem (given x.two.slow.memory_map (fitted bytes) w).mem
-given_stays x leaves bytes w =
-    subst (λ (l : MemoryMap). AreOpenAlike is_open_to_fast w.mem (given l (fitted bytes) w).mem) (sym (map_is x))
-    (let laws = x.laws in
-    laws.given_leaves_open is_open_to_fast main_map (fitted bytes) w (fitted_few bytes) (omega arith) leaves.ready
-    (λ at from to. leaves.reads at (inl (from, to))))
+-- a slow sample leaves the fast code and its answers, and memory one of bytes
+pub level_gives : (x : Given) → LeavesMapped is_open_to_fast x.two.slow.memory_map → (bytes : List ℕ)
+    → AreInputBytes x.slow bytes
+    → GivenLeavesOwn (level_form x.flags x.two x.samples) (FastStands x.fast x.two x.samples) bytes
+level_gives x leaves bytes input done w own =
+    stands x.fast x.two x.samples done w (given l bytes w) (few_outputs x) alike fit own
+  where
+    laws : LevelLaws
+    laws = x.laws
+
+    l : MemoryMap
+    l = x.two.slow.memory_map
+
+    alike : AreOpenAlike is_open_to_fast w.mem (given l bytes w).mem
+    alike =
+        given_leaves laws.given_leaves_open is_open_to_fast l (map_is x) leaves x.slow x.slow_valid bytes input w
+
+    inside : (l.samples < 2 ^ 16) × (l.ready < 2 ^ 16)
+    inside = subst (λ (m : MemoryMap). (m.samples < 2 ^ 16) × (m.ready < 2 ^ 16)) (sym (map_is x))
+        (omega arith, omega arith)
+
+    fit : AreBytes (given l bytes w).mem
+    fit = (let b = laws.bytes in given_bytes b.bytes_stay l bytes w inside.0 inside.1 input.fit own.bytes)
 
 pub level_sound : (x : Given) → LeavesMapped is_open_to_fast x.two.slow.memory_map → IsLow x.two.slow → WritesAgree
     → WritesAreQuiet
-    → Sound OnStackOrNone is_open_to_fast (fitted_form x.flags x.two x.samples)
+    → Sound OnStackOrNone is_open_to_fast (level_form x.flags x.two x.samples)
     (FactsBeside is_open_to_fast x.flags x.two.slow)
     (IsGoodLevel (length x.samples)) (FastStands x.fast x.two x.samples)
 level_sound x leaves_slow low agree quiet = record {
   apart = open_apart;
   shown = λ s p. (let facts = p.facts in facts.shown);
-  gives = λ bytes w s l. given_alike agree is_open_to_fast x.two.slow (fitted bytes) w s l;
+  gives = λ bytes w s l. given_alike agree is_open_to_fast x.two.slow bytes w s l;
   leaves = λ bytes w s l. l;
   answers = λ w s l. answered_alike is_open_to_fast x.two.slow ports low w s l;
   ends = λ m w s l. ended_alike is_open_to_fast x.two.slow ports low w s l;
   quiet = λ done a v s good p may begins own. serves x done a v s good
       (record { facts = p; begins = begins; stands = own });
   leaves_open = record {
-    gives = λ done bytes w o. kept done w (given x.two.slow.memory_map (fitted bytes) w) (given_stays x leaves bytes w)
-        (given_fit bytes w o.bytes) o;
     leaves = λ done bytes w o. o;
     pushes = λ done w s p l o.
         (let shown = (let facts = p.facts in facts.shown) in
@@ -97,9 +113,3 @@ level_sound x leaves_slow low agree quiet = record {
     open_left : (w s : State) → FactsBeside is_open_to_fast x.flags x.two.slow s
         → Simulates OnStackOrNone is_open_to_fast w s → StepLeavesOpen is_open_to_fast x.flags w
     open_left w s p l = laws.steps_leave_open is_open_to_fast x.flags x.two.slow w s open_apart p l
-
-    given_fit : (bytes : List ℕ) (w : State) → AreBytes w.mem
-        → AreBytes (given x.two.slow.memory_map (fitted bytes) w).mem
-    given_fit bytes w fits =
-        subst (λ (l : MemoryMap). AreBytes (given l (fitted bytes) w).mem) (sym (map_is x))
-        (let b = laws.bytes in given_bytes b.bytes_stay main_map bytes w (omega arith) (omega arith) fits)

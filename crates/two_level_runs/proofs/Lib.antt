@@ -18,7 +18,6 @@ pub mod Telling
 pub mod LevelServing
 pub mod LevelTelling
 pub mod LevelSound
-pub mod Fitting
 pub mod LevelPlans
 pub mod LevelRows
 pub mod FastRuns

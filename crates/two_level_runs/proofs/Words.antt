@@ -59,5 +59,5 @@ pub use Rattle.std.proofs.{lemmas.List.Elements.All-cons, lemmas.List.length-map
 pub use Rattle.trace_io.specs.{Traces.input_bytes}
 pub use Rattle.two_level_code.specs.{Images.AloneHasByteBounds, Images.fast_most, Standing.StandsBeside}
 pub use Rattle.two_level_code.specs.{Standing.TwoStandBeside, declared.two.Two.Two}
-pub use Rattle.two_level_runs.specs.{InnerNotes.inner_notes, Levels.FastStands, Levels.fitted, Levels.fitted_form}
+pub use Rattle.two_level_runs.specs.{InnerNotes.inner_notes, Levels.FastStands}
 unfoldable pub use Rattle.run_law.specs.{Forms.rows_from}

@@ -1,29 +1,21 @@
 -- A slow firmware whose interrupts serve levels, as a sound form.
 -- Beside the promise.
-use Rattle.std.specs.Prelude.{ℕ, ◌%◌, ◌^◌, Option, None, Some, List, [], ◌∷◌, All, map, take, length}
+use Rattle.std.specs.Prelude.{ℕ, Option, None, Some, List, [], ◌∷◌, All, length}
 use Rattle.fuzzy_meaning.specs.declared.block.Block.{Block}
 use Rattle.cpu12_isa.specs.{Agreement.WritesAgree, Fits.AreBytes}
 use Rattle.cpu12_parts.specs.State.{State}
 use Rattle.cpu12_emul.specs.{Image.image_memory, Simulation.OnStackOrNone}
-use Rattle.run_law.specs.{Forms.Form, Soundness.Sound, Soundness.WritesAreQuiet}
+use Rattle.run_law.specs.Soundness.{Sound, WritesAreQuiet}
 use Rattle.interrupt_plan.specs.{declared.levels.Level.Level, Levels.IsGoodLevel}
 use Rattle.byte_scaling.specs.declared.width.Width.TheVariants.{Byte}
 use Rattle.eval_code.specs.Evaluation.{HasAnswers}
 use Rattle.alone_code.specs.Uninterrupted.{IsAnswerOf}
 use Rattle.two_level_code.specs.{declared.two.Two.Two, Images.fast_most, MemoryMaps.fast_map}
 use Rattle.two_level_code.specs.{MemoryMaps.is_open_to_fast}
-use Rattle.firmware_runs.specs.{Ports.given, Facts.FactsBeside}
+use Rattle.firmware_runs.specs.Facts.{FactsBeside}
 use Rattle.alone_runs.specs.Rows.{bytes_of}
 use Rattle.two_level_runs.specs.{Runs.FastSeen, Outer.HasFastCode, Rows.level_form}
 use Rattle.two_level_runs.specs.Answering.{answer_of_fast, outputs_after}
-
--- eight bytes of a sample at the most
-abbrev pub fitted : List ℕ → List ℕ
-fitted x = map (λ v. v % 2 ^ 8) (take 8 x)
-
--- The form that takes these of each sample, whatever it is given: of the bytes of a block's inputs it takes all.
-abbrev pub fitted_form : ℕ → Two → List (List ℕ) → Form (List ℕ) Level (Option FastSeen)
-fitted_form flags two fast = record (level_form flags two fast) { give = λ x. given two.slow.memory_map (fitted x) }
 
 -- each fast run answered its sample after the run before it
 abbrev pub IsAnswerTold : Block → Two → List (List ℕ) → (ℕ → ℕ) → Option FastSeen → Type 0
@@ -53,5 +45,5 @@ pub record Levels : Type 0 where
   pub flags : ℕ
   pub samples : List (List ℕ)
   pub sound : WritesAgree → WritesAreQuiet
-      → Sound OnStackOrNone is_open_to_fast (fitted_form flags two samples) (FactsBeside is_open_to_fast flags two.slow)
+      → Sound OnStackOrNone is_open_to_fast (level_form flags two samples) (FactsBeside is_open_to_fast flags two.slow)
       (IsGoodLevel (length samples)) (FastStands fast two samples)

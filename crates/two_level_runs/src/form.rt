@@ -1,13 +1,13 @@
 //! A slow firmware with a fast block beside it, as a form of runs.
 ghost use Rattle.std.specs.Prelude.{ℕ, ◌≡◌, ◌≤◌, ◌<◌, List, Option, Some, length, slice_get};
 ghost use Rattle.run_forms.specs.{Rest.counted_at, Rest.shown_by, Rooms.Fits};
-ghost use Rattle.two_level_runs.specs.{Runs.FastSeen, Rows.TwoSeen, Harness.level_harness};
+ghost use Rattle.two_level_runs.specs.{Runs.FastSeen, Rows.TwoSeen, Rows.level_form, Harness.level_harness};
 ghost use Rattle.cpu12_emul.specs.Simulation.{OnStackOrNone};
 ghost use Rattle.interrupt_plan.specs.declared.levels.Level as plan;
 ghost use Rattle.interrupt_plan.specs.Levels.{IsGoodLevel};
 ghost use Rattle.two_level_code.specs.MemoryMaps.{is_open_to_fast};
 ghost use Rattle.firmware_runs.specs.Facts.{FactsBeside};
-ghost use Rattle.two_level_runs.specs.{Levels.Levels, Levels.fitted_form, Levels.FastStands};
+ghost use Rattle.two_level_runs.specs.Levels.{Levels, FastStands};
 
 use crate::rows::TwoRow;
 use crate::serve::{FastRow, serve};
@@ -120,7 +120,7 @@ impl<'a> SoundForm for TwoLevelForm<'a> {
 
     ghost Told = { Option FastSeen };
 
-    ghost form = { λ x. fitted_form x.flags x.two x.samples };
+    ghost form = { λ x. level_form x.flags x.two x.samples };
 
     ghost marks = { OnStackOrNone };
 

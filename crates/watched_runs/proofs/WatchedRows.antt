@@ -273,7 +273,8 @@ under laws b f p flags samples plan upsets s hf good ready a answered =
     let waits : WaitsAlone f s =
     record { image = c.same; stack = c.stack; unmasked = c.mask; sums = c.temps } in
     let runs : AllFollow OnStackOnly is_free g Nothing [] asks 1 ns xs s (rows_from g f.step_bound asks 1 xs s) =
-    laws.runs_follow flags f p.low asks (laws.requests_are_good plan good) [] 1 f.step_bound ns xs s s bounded complete
+    laws.runs_follow flags f p.low asks (laws.requests_are_good plan good) [] 1 f.step_bound ns xs s s bounded
+    (λ k d lt done u own. tt) complete
     (record { regs = refl; temps = refl; mem = agree_self (is_hidden is_free s.regs.sp) s.mem }) tt in
     let follows : AllFollow OnStackOnly is_free g Nothing [] asks 1 ns xs (first_state f flags)
     (upset_rows f samples plan upsets flags) =

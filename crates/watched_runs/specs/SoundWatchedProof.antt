@@ -55,7 +55,6 @@ sound flags f low agree quiet =
             tt,
           ));
       leaves_open = record {
-        gives = λ done x w o. tt;
         leaves = λ done x w o. tt;
         pushes = λ done w s p l o. tt;
         steps = λ done w s p l o. tt;

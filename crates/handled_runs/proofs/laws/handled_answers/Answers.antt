@@ -5,10 +5,10 @@ pub returns : goal.returns
 returns c = handled_answers (record {
   code = record {
     steps_leave_open = c.steps_leave_open.ensures;
-    given_leaves_open = c.given_leaves_open.ensures;
     handlers_are_quiet = c.handlers_are_quiet.ensures;
     sums_fit_below = c.sums_fit_below.ensures;
   };
+  given_leaves_open = c.given_leaves_open.ensures;
   holds_image = c.holds_image.ensures;
   firmware_runs_beside = c.firmware_runs_beside.ensures;
   first_states_alike = c.first_states_alike.ensures;
