@@ -65,8 +65,8 @@ fn fast_most(bound: u32) -> u32
     bound.saturating_sub(4)
 }
 
-/// The firmware of a slow block with a fast block that runs inside its interrupts. It is refused where
-/// `compile` refuses the slow block, or else the fast one.
+/// The firmware of two levels: of a slow block, with a fast block that runs inside its interrupts. It is
+/// refused where `compile` refuses the slow block, or else the fast one.
 pub fn compile_two(alloc: Global, slow: &Block, fast: &Block) -> Result<Two, TwoFault>
     requires slow { IsValid slow.now }
     requires fast { IsValid fast.now }

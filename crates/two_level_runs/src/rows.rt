@@ -25,7 +25,7 @@ pub struct TwoRow {
     pub fast: Vec<Option<FastRow>>,
 }
 
-/// Runs a slow firmware over a trace, where the interrupts of levels run the fast block over samples of its
+/// Runs two levels: the slow firmware over a trace, where interrupts run the fast block over samples of its
 /// own, which inner interrupts interrupt in turn. Answers a row for each slow sample. Bits of `flags` give
 /// the flags that the CPU12 Reference Manual leaves undefined. All memory is taken before the first step,
 /// and want of it is the one error. Where both are those of two blocks, the rows are as

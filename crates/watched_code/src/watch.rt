@@ -72,7 +72,7 @@ fn watched_image(
     image_of(alloc, items.as_slice())
 }
 
-/// The firmware of a block that answers bytes and watches its tables: before each sample it sums
+/// The firmware of a block with watched tables, which answers bytes: before each sample it sums
 /// them, and where they are not what they were it sets FAULT, the byte at `$1030`, and answers the
 /// outputs' defaults; an output with NC keeps its byte. Else FAULT is 0. It is refused where
 /// `compile` is.

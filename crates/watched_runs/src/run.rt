@@ -16,7 +16,7 @@ use run_forms::{Start, run_form};
 use std::alloc::Global;
 use trace_io::Sample;
 
-/// Runs a firmware over a trace under a plan, with the upsets of the samples that have their numbers,
+/// Runs firmware with watched tables over a trace under a plan, with the upsets of the samples of their numbers,
 /// counted from 1: during such a sample its byte holds the upset's value, and then the image's byte
 /// stands there again. Answers a row for each sample. Bits of `flags` give the flags that the CPU12
 /// Reference Manual leaves undefined. All memory is taken before the first step, and want of it is the
