@@ -1,7 +1,7 @@
 //! What the commands that run firmware share: the files CERT, TRACE and PLAN ([`inputs`]), what a report of a run says
 //! (`IsReportOf`), what the program's answer to each such command says (`CertifiedRun`, `HandledRun`, `LevelRun`,
-//! `PostedRun` and `WatchedRun`), how far its answers are from the exact ones ([`nearness`]), the lines of its samples,
-//! answers and frames ([`row_lines`]), and laws of these ([`laws`]).
+//! `PostedRun` and `WatchedRun`), the lines of its samples, answers and frames ([`row_lines`]), and laws of these, such as
+//! how far its answers are from the exact ones ([`laws`]).
 //!
 //! Of CERT, TRACE and PLAN [`inputs::inputs_of`] answers what they give ([`inputs::Inputs`]), or the first
 //! fault in their order, and never a fault of files that are accepted
