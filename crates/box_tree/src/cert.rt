@@ -13,7 +13,7 @@ pub struct Cert {
 }
 
 /// What the leaves of a certificate say.
-#[derive(Clone, Copy, PartialEq, Eq, Debug)]
+#[derive(Clone, Copy)]
 pub enum CertKind {
     /// Each leaf names for each output a rule, and how much of its truth is counted on.
     Named,
@@ -22,7 +22,7 @@ pub enum CertKind {
 }
 
 /// A node of a tree of boxes.
-#[derive(Clone, PartialEq, Eq, Debug, Drop)]
+#[derive(Clone, Drop)]
 pub enum Node {
     /// The input, from 1 to 8, and the byte where its interval is cut: the left part keeps the bytes
     /// below, the right part those from there on.
@@ -32,7 +32,7 @@ pub enum Node {
 }
 
 /// What the line of a leaf says.
-#[derive(Clone, PartialEq, Eq, Debug, Drop)]
+#[derive(Clone, Drop)]
 pub enum LeafForm {
     /// One pair for each claim: the number of a rule, from 1 to 256, and how many 255ths of its
     /// truth are counted on, from 1 to 255; or 0 and 0, where no rule has any. It stands in

@@ -18,7 +18,7 @@ use fz_status::{Status, word};
 use std::alloc::{AllocError, Global};
 
 /// `certify FCL TARGET OUT`, `tcertify ..` for tight certificates, and both with `16` for answers of 16 bits.
-#[derive(Clone, Copy, Debug, PartialEq, Eq)]
+#[derive(Clone, Copy)]
 pub struct Certify {
     /// What the certificate's leaves say.
     kind: CertKind,

@@ -16,7 +16,7 @@ use fz_status::Status;
 use std::alloc::{AllocError, Global};
 
 /// `check FCL CERT`, `tcheck ..` of tight certificates, and both with `16` for answers of 16 bits.
-#[derive(Clone, Copy, Debug, PartialEq, Eq)]
+#[derive(Clone, Copy)]
 pub struct Check {
     /// What the certificate's leaves say.
     pub kind: CertKind,

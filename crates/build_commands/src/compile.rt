@@ -11,7 +11,7 @@ use std::alloc::Global;
 
 /// `compile FCL OUT`, `compile16 ..` with answers of 16 bits, `mcompile ..` in the mailbox form, and `scompile ..` with
 /// watched tables.
-#[derive(Clone, Copy, Debug, PartialEq, Eq)]
+#[derive(Clone, Copy)]
 pub struct Compile {
     /// What stands around EVAL.
     pub form: Form,

@@ -21,7 +21,7 @@ use std::alloc::{AllocError, Global};
 use std::fmt::Write;
 
 /// `exec IMAGE STEPS FLAGS`
-#[derive(Clone, Copy, Debug, PartialEq, Eq)]
+#[derive(Clone, Copy)]
 pub struct Exec {
     /// The most steps that are taken.
     steps: u32,

@@ -8,7 +8,7 @@ use fuzzy_meaning::Input;
 use fz_num::{Dec, Frac};
 
 /// A number lies below the low end of an input's range, or above the high one.
-#[derive(Clone, Copy, PartialEq, Eq, Debug)]
+#[derive(Clone, Copy, PartialEq, Eq)]
 pub struct OutOfRange;
 
 /// The byte of a number, or `OutOfRange` exactly where the number is not within the range.

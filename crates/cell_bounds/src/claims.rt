@@ -11,7 +11,7 @@ use error_bound::{BoxTable, Leaf};
 use fuzzy_meaning::Block;
 
 /// What a leaf says of an output.
-#[derive(Clone, Copy, PartialEq, Eq, Debug)]
+#[derive(Clone, Copy)]
 pub enum Claim {
     /// That a rule is strong, or that none fires.
     Pair(Leaf),

@@ -17,7 +17,7 @@ use fuzzy_meaning::Block;
 pub const MOST_CELLS: u32 = 64;
 
 /// A cell, by its bytes, on which an output, from 1, counts more than a limit.
-#[derive(Clone, PartialEq, Eq, Debug, Drop)]
+#[derive(Clone, Drop)]
 pub struct CellAbove {
     pub bytes: ArrayVec<u8, 8>,
     pub out: u8,

@@ -10,7 +10,7 @@ use crate::ranges::{Answer, MassRange};
 
 /// Which masses are high: none, those from a singleton on, those up to it, or those of the singletons whose
 /// product with the first number is at least the second, or at most.
-#[derive(Clone, Copy, Debug)]
+#[derive(Clone, Copy)]
 enum Cut {
     Nowhere,
     From(u64),

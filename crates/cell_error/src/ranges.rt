@@ -2,7 +2,7 @@
 
 /// A term of an output: how far its singleton is above the low end of the range, in 1/10000, and
 /// what its mass lies between.
-#[derive(Clone, Copy, Debug)]
+#[derive(Clone, Copy)]
 pub struct MassRange {
     pub at: u64,
     pub low: u64,
@@ -10,7 +10,7 @@ pub struct MassRange {
 }
 
 /// An answer: so many parts of a range of this width in 1/10000, which has `parts` of them.
-#[derive(Clone, Copy, Debug)]
+#[derive(Clone, Copy)]
 pub struct Answer {
     pub value: u64,
     pub parts: u64,

@@ -27,7 +27,7 @@ pub struct Compiled {
 }
 
 /// What stands around EVAL in a block's firmware.
-#[derive(Clone, Copy, Debug, PartialEq, Eq)]
+#[derive(Clone, Copy)]
 pub enum Form {
     /// The firmware stands alone, with answers of this width.
     Alone(Width),

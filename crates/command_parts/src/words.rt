@@ -22,7 +22,7 @@ pub fn flags(text: &str) -> Option<u8>
 const MOST: u32 = 1_000_000;
 
 /// A number up to 1000000, which a contract sees as that number.
-#[derive(Clone, Copy, Debug, PartialEq, Eq)]
+#[derive(Clone, Copy)]
 pub struct Number {
     number: u32,
 }

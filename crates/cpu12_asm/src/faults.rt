@@ -5,7 +5,7 @@ ghost use Rattle.cpu12_asm.specs.Faults.{at_line};
 use crate::items::AsmFault;
 
 /// What a line is refused for, or that there was no memory.
-#[derive(Clone, Copy, Debug, Drop)]
+#[derive(Clone, Copy, Drop)]
 pub(crate) enum LineFault {
     BadLine,
     UnknownName,

@@ -11,7 +11,7 @@ use std::alloc::{AllocError, Global};
 use thiserror::Error;
 
 /// What an assembly is made of.
-#[derive(Clone, Copy, Debug, PartialEq, Eq, Drop)]
+#[derive(Clone, Copy, Drop)]
 pub enum Item {
     /// The next byte stands at this address.
     Place(u16),

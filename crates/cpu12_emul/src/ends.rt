@@ -6,7 +6,7 @@ use arrayvec::ArrayVec;
 
 /// What a step was: a plain instruction, a part of REV, REVW or WAV after which there is more, or a
 /// last part.
-#[derive(Clone, Copy, Debug, PartialEq, Eq, Drop)]
+#[derive(Clone, Copy, Drop)]
 pub enum Stepped {
     Plain,
     Part,
@@ -27,7 +27,7 @@ impl Stepped {
 
 /// How a run ended: PC at a branch to itself after so many steps; a trap with the place and the byte
 /// that is in no table; or the budget spent, with its number of steps.
-#[derive(Clone, Copy, Debug, PartialEq, Eq, Drop)]
+#[derive(Clone, Copy, PartialEq, Eq, Drop)]
 pub enum RunEnd {
     Arrived(u32),
     Trap(u16, u8),

@@ -7,7 +7,7 @@ use crate::mnemonic::Mnemonic;
 
 /// The table in which an opcode stands: page 1, page 2 behind `$18`, or the postbytes of `TFR` behind
 /// `$B7` and of `ADDB` with an index behind `$EB` (CPU12 Reference Manual, appendix A).
-#[derive(Clone, Copy, Debug, PartialEq, Eq, Drop)]
+#[derive(Clone, Copy, Drop)]
 pub enum Page {
     One,
     Two,
@@ -16,7 +16,7 @@ pub enum Page {
 }
 
 /// An operand, by the way it addresses (CPU12 Reference Manual, section 3).
-#[derive(Clone, Copy, Debug, PartialEq, Eq, Drop)]
+#[derive(Clone, Copy, Drop)]
 pub enum Operand {
     /// None is written.
     Inherent,
@@ -41,7 +41,7 @@ pub enum Operand {
 }
 
 /// A row of the table: the mnemonic, where the opcode or postbyte stands, that byte, and the operand.
-#[derive(Clone, Copy, Debug, PartialEq, Eq, Drop)]
+#[derive(Clone, Copy, Drop)]
 pub struct Form {
     pub mnemonic: Mnemonic,
     pub page: Page,

@@ -1,12 +1,12 @@
 //! Registers and instructions.
 
 /// The condition codes `S X H I N Z V C`, from bit 7 to bit 0 (CPU12 Reference Manual, section 2.2.5).
-#[derive(Clone, Copy, Debug, PartialEq, Eq, Drop)]
+#[derive(Clone, Copy, PartialEq, Eq, Drop)]
 pub struct Ccr(pub u8);
 
 /// The registers of the CPU12 (CPU12 Reference Manual, section 2). D is A and B together, A its
 /// high byte. SP is the address of the byte that was pushed last.
-#[derive(Clone, Copy, Debug, PartialEq, Eq, Drop)]
+#[derive(Clone, Copy, PartialEq, Eq, Drop)]
 pub struct Regs {
     pub a: u8,
     pub b: u8,
@@ -18,7 +18,7 @@ pub struct Regs {
 }
 
 /// A byte to be written.
-#[derive(Clone, Copy, Debug, PartialEq, Eq, Drop)]
+#[derive(Clone, Copy, PartialEq, Eq, Drop)]
 pub struct Write {
     pub at: u16,
     pub value: u8,
@@ -34,7 +34,7 @@ pub struct Trap {
 
 /// An instruction in one of its byte forms, with the operands in their order. A branch has its
 /// offset from the next instruction as the byte that it is, in two's complement.
-#[derive(Clone, Copy, Debug, PartialEq, Eq, Drop)]
+#[derive(Clone, Copy, Drop)]
 pub enum Instr {
     /// `LDAA #ii`: loads A.
     LdaaImmediate(u8),

@@ -8,7 +8,7 @@ use cpu12_isa::instr::Regs;
 use cpu12_isa::mem::Mem;
 
 /// The sums of WAV: none, running with the sum of products and the sum of weights, or on the stack.
-#[derive(Clone, Copy, Debug, PartialEq, Eq, Drop)]
+#[derive(Clone, Copy, Drop)]
 pub enum Temps {
     Free,
     Running(u32, u16),
@@ -16,7 +16,7 @@ pub enum Temps {
 }
 
 /// Whether an instruction is over after a part.
-#[derive(Clone, Copy, Debug, PartialEq, Eq, Drop)]
+#[derive(Clone, Copy, Drop)]
 pub enum PartEnd {
     More,
     Done,

@@ -4,7 +4,7 @@ use fz_list::List;
 use thiserror::Error;
 
 /// What a line of a script asks for. An address is that of a byte of memory.
-#[derive(Clone, Copy, Debug, PartialEq, Eq, Drop)]
+#[derive(Clone, Copy, PartialEq, Eq, Drop)]
 pub enum Order {
     /// `break HHHH`: to stop where PC is there.
     Break(u16),

@@ -5,7 +5,7 @@ use arrayvec::ArrayVec;
 use fz_num::Nano;
 
 /// The bytes of an input from `from` to `to`.
-#[derive(Clone, Copy, Default, Debug)]
+#[derive(Clone, Copy, Default)]
 pub struct Interval {
     pub from: u8,
     pub to: u8,

@@ -1,7 +1,7 @@
 //! Where a firmware stands in memory.
 
 /// The addresses of a firmware's parts.
-#[derive(Clone, Copy, Debug, PartialEq, Eq)]
+#[derive(Clone, Copy)]
 pub struct MemoryMap {
     /// The first instruction, which the reset vector holds.
     pub code: u16,

@@ -28,7 +28,7 @@ use run_reports::row_lines::{begun, push_labelled_row};
 use std::alloc::{AllocError, Global};
 
 /// `hrun FCL HANDLER CERT TRACE PLAN FLAGS`
-#[derive(Clone, Copy, Debug, PartialEq, Eq)]
+#[derive(Clone, Copy)]
 pub struct Hrun {
     /// The condition codes that the machine leaves open.
     flags: u8,

@@ -37,7 +37,7 @@ use two_level_runs::laws::{levels_make_a_plan, rows_are_seen};
 use two_level_runs::run_two;
 
 /// `lrun SLOW FAST IMAGE SCERT FCERT STRACE FTRACE LEVELS FLAGS`
-#[derive(Clone, Copy, Debug, PartialEq, Eq)]
+#[derive(Clone, Copy)]
 pub struct Lrun {
     /// The condition codes that the machine leaves open.
     flags: u8,

@@ -32,7 +32,7 @@ use std::alloc::Global;
 use trace_io::Sample;
 
 /// `mrun FCL IMAGE CERT TRACE POSTS FLAGS`
-#[derive(Clone, Copy, Debug, PartialEq, Eq)]
+#[derive(Clone, Copy)]
 pub struct Mrun {
     /// The condition codes that the machine leaves open.
     flags: u8,

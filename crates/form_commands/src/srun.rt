@@ -31,7 +31,7 @@ use std::alloc::{AllocError, Global};
 use watched_runs::{WatchedRow, run_upsets};
 
 /// `srun FCL IMAGE CERT TRACE PLAN UPSETS FLAGS`
-#[derive(Clone, Copy, Debug, PartialEq, Eq)]
+#[derive(Clone, Copy)]
 pub struct Srun {
     /// The condition codes that the machine leaves open.
     flags: u8,

@@ -21,7 +21,7 @@ pub struct Input {
 
 /// A term of an input. `b` is the first point of degree 1 and `c` the last; `a` is the last zero
 /// point before `b` and `d` the first after `c`, where there is one.
-#[derive(Clone, Copy, Debug)]
+#[derive(Clone, Copy)]
 pub struct Trapezoid {
     pub a: Option<Dec>,
     pub b: Dec,

@@ -1,5 +1,5 @@
 //! Want of memory.
 
 /// Memory was wanted and not found.
-#[derive(Clone, Copy, Debug, PartialEq, Eq, Drop)]
+#[derive(Clone, Copy, Debug, Drop)]
 pub struct Memory;

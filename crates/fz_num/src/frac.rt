@@ -6,7 +6,7 @@ use crate::dec::Dec;
 use std::cmp::Ordering;
 
 /// A fraction. Its denominator is above 0; it need not be in lowest terms.
-#[derive(Clone, Copy, Debug)]
+#[derive(Clone, Copy)]
 pub struct Frac {
     pub num: i128,
     pub den: i128,

@@ -20,7 +20,7 @@ use std::alloc::AllocError;
 use trace_io::TraceFault;
 
 /// How a call of the program ends. A word is told by its index, the program's name being 0.
-#[derive(Debug, Drop)]
+#[derive(Drop)]
 pub enum Status {
     /// All input was read and accepted, and all lines were put.
     Ok,
@@ -63,7 +63,7 @@ pub enum Status {
 }
 
 /// Why a file of the fast block is refused, where a slow block's files are read beside it.
-#[derive(Debug, Drop)]
+#[derive(Drop)]
 pub enum FastFault {
     /// The text spells no block that can be laid out.
     Fcl(FclFault),
@@ -74,7 +74,7 @@ pub enum FastFault {
 }
 
 /// Why a text gives no firmware. It never carries want of memory.
-#[derive(Debug, Drop)]
+#[derive(Drop)]
 pub enum FclFault {
     /// The text is not of the grammar, or uses a part that is left out.
     Syntax(SyntaxFault),
@@ -85,7 +85,7 @@ pub enum FclFault {
 }
 
 /// Why an image is refused. It never carries want of memory.
-#[derive(Debug, Drop)]
+#[derive(Drop)]
 pub enum ImageFault {
     /// The text has no image.
     Records(SrecFault),
@@ -96,7 +96,7 @@ pub enum ImageFault {
 }
 
 /// Why a certificate is refused. It never carries want of memory.
-#[derive(Debug, Drop)]
+#[derive(Drop)]
 pub enum CertRefusal {
     /// The text has no certificate.
     Text(CertFault),

@@ -81,7 +81,7 @@ static COMMANDS: [(&str, usize, Name); 26] = [
 ];
 
 /// A command with what its words give beside the names of files.
-#[derive(Clone, Copy, Debug, PartialEq, Eq)]
+#[derive(Clone, Copy)]
 pub enum Command {
     /// `asm SRC OUT`
     Asm,

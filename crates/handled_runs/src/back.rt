@@ -11,7 +11,7 @@ use handler_check::STEP_LIMIT;
 const RTI: u8 = 0x0B;
 
 /// How the steps of a handler ended.
-#[derive(Clone, Copy, Debug, PartialEq, Eq)]
+#[derive(Clone, Copy)]
 pub struct HandlerEnd {
     /// How many there were.
     pub steps: u16,

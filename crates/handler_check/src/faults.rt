@@ -2,7 +2,7 @@
 use thiserror::Error;
 
 /// A handler that is accepted.
-#[derive(Clone, Copy, Debug, PartialEq, Eq, Drop)]
+#[derive(Clone, Copy, PartialEq, Eq, Drop)]
 pub struct Handler {
     /// The greatest number of instructions on a path, RTI counted.
     pub instrs: u32,

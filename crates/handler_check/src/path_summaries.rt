@@ -8,7 +8,7 @@ use std::alloc::{AllocError, Global};
 
 /// What is known of the paths to a place: the bytes that they leave pushed, the greatest number of instructions on
 /// one, and whether two of them leave different numbers of bytes; then the first two numbers tell nothing.
-#[derive(Clone, Copy, Debug, PartialEq, Eq, Drop)]
+#[derive(Clone, Copy, Drop)]
 pub(crate) struct PathSummary {
     pub(crate) height: u8,
     pub(crate) most: u32,

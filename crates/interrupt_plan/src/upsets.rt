@@ -16,7 +16,7 @@ use std::alloc::Global;
 use thiserror::Error;
 
 /// A byte of a table that holds another value while a sample is answered.
-#[derive(Clone, Copy, Debug, PartialEq, Eq)]
+#[derive(Clone, Copy, PartialEq, Eq)]
 pub struct Upset {
     /// The sample, counted from 1.
     pub sample: u32,

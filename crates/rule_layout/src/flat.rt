@@ -2,7 +2,7 @@
 use fz_list::List;
 
 /// A byte that the rules read or write. Variables and terms count from 1.
-#[derive(Clone, Copy, PartialEq, Eq, Debug)]
+#[derive(Clone, Copy, PartialEq, Eq)]
 pub enum Slot {
     /// The degree of an input's term.
     Term(u8, u8),
@@ -21,7 +21,7 @@ pub struct Conjunction {
 }
 
 /// The instruction that evaluates the rules (CPU12 Reference Manual).
-#[derive(Clone, Copy, PartialEq, Eq, Debug)]
+#[derive(Clone, Copy)]
 pub enum Form {
     /// Rules without weights over slots that a byte can number.
     Rev,

@@ -23,7 +23,7 @@ use std::alloc::Global;
 use trace_io::Sample;
 
 /// `debug FCL IMAGE TRACE PLAN FLAGS SCRIPT`
-#[derive(Clone, Copy, Debug, PartialEq, Eq)]
+#[derive(Clone, Copy)]
 pub struct DebugRun {
     /// The condition codes that the machine leaves open.
     flags: u8,

@@ -29,7 +29,7 @@ use std::alloc::{AllocError, Global};
 use workload::laws::drawn_blocks_are_within_limits;
 
 /// `gen NUMBER`.
-#[derive(Clone, Copy, Debug, PartialEq, Eq)]
+#[derive(Clone, Copy)]
 pub struct Generate {
     number: u32,
 }

@@ -30,7 +30,7 @@ use std::alloc::{AllocError, Global};
 
 /// `run FCL IMAGE CERT TRACE PLAN FLAGS`, `trun ..` under tight certificates, and both with `16` for answers
 /// of 16 bits.
-#[derive(Clone, Copy, Debug, PartialEq, Eq)]
+#[derive(Clone, Copy)]
 pub struct Run {
     /// What the certificate's leaves say.
     kind: CertKind,

@@ -10,7 +10,7 @@ use hex::FromHexError;
 use std::alloc::Global;
 
 /// What a record gives.
-#[derive(Clone, Copy, PartialEq, Eq, Debug)]
+#[derive(Clone, Copy, PartialEq, Eq)]
 pub(crate) enum Kind {
     /// S0: nothing.
     Header,
