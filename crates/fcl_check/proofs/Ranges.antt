@@ -10,14 +10,15 @@ use Rattle.fcl_check.proofs.Words.{pos, Range, reach, refl, SignedNumber, Single
 use Rattle.fcl_check.proofs.Words.{take, Term, term_of, terms_of, Token, true, value, widened, x_of, ℕ, ℤ}
 use Rattle.std.proofs.{lemmas.Int.clamps}
 use Rattle.std.specs.{Prelude.neg_ℤ, Prelude.◌+ℤ◌, Int.int_min, Int.int_max}
-use Rattle.fcl_syntax.specs.{Annotations.tokens_of, Scale.IsTokenInScale, Scale.NumbersInScale}
+use Rattle.fcl_tokens.specs.Scale.{IsTokenInScale}
+use Rattle.fcl_tokens.specs.declared.token.Amount.TheVariants as amount
+use Rattle.fcl_tokens.specs.declared.token.Token.TheVariants as tok
+use Rattle.fcl_syntax.specs.{Annotations.tokens_of, Scale.NumbersInScale}
 use Rattle.fcl_check.specs.{Sections.to_scale, Sections.magnitude, Kept.IsKept, Kept.NumbersAreKept}
 use Rattle.fcl_syntax.specs.declared.tree.FuzzyLine.TheVariants as fuzzy
 use Rattle.fcl_syntax.specs.declared.tree.DefuzzyLine.TheVariants as defuzzy
 use Rattle.fcl_syntax.specs.declared.tree.FallbackValue.TheVariants as fallback
 use Rattle.fcl_syntax.specs.declared.tree.SignedNumber.TheVariants as signed
-use Rattle.fcl_syntax.specs.declared.token.Amount.TheVariants as amount
-use Rattle.fcl_syntax.specs.declared.token.Token.TheVariants as tok
 use Rattle.fcl_check.proofs.{Places.map-cons_option, Elements.all_weaker, Elements.filter_map-next}
 use Rattle.fcl_check.proofs.{Faultless.no_place, Faultless.nowhere}
 

@@ -14,11 +14,11 @@ use Rattle.fcl_check.proofs.Words.{view_rule_line, view_section, view_weight, we
 use Rattle.fuzzy_meaning.specs.Conditions.{depth, greatest_depth, nodes, total_nodes, AllHaveLiterals}
 use Rattle.std.proofs.{lemmas.List.length-append}
 use Rattle.fuzzy_meaning.specs.{Blocks.IsValidCondition}
+use Rattle.fcl_tokens.specs.declared.token.Keyword.TheVariants as key
+use Rattle.fcl_tokens.specs.declared.token.Token.TheVariants as tok
 use Rattle.fcl_syntax.specs.{Grammar.opener, Grammar.key_text, declared.fault.Kind.TheVariants.Unsupported}
 use Rattle.std.proofs.lemmas.List.Sums.{sum_by-cons}
 use Rattle.fcl_syntax.specs.{declared.fault.Kind.Kind, declared.fault.Kind.TheVariants.Deep}
-use Rattle.fcl_syntax.specs.declared.token.Keyword.TheVariants as key
-use Rattle.fcl_syntax.specs.declared.token.Token.TheVariants as tok
 use Rattle.fcl_check.proofs.Elements.{parts_of}
 
 -- ---- How deep the condition of a text is, and how many conditions there are: no more than the text's offsets.

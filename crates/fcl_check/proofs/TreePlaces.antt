@@ -22,6 +22,8 @@ use Rattle.fcl_check.proofs.Words.{term_of, terms_of, terms_over_limit, TNot, TN
 use Rattle.fcl_check.proofs.Words.{unknown_in, unknown_pair, unknown_section, value, view, view_part, view_rule_item}
 use Rattle.fcl_check.proofs.Words.{view_rule_line, view_section, view_weight, Weight, weight_outside, weight_text}
 use Rattle.fcl_check.proofs.Words.{without_section, without_terms, wrong_side, ℕ}
+use Rattle.fcl_tokens.specs.declared.token.Keyword.TheVariants as key
+use Rattle.fcl_tokens.specs.declared.token.Token.TheVariants as tok
 use Rattle.fcl_syntax.specs.Grammar.{name_token, is_text, TTerm, TRange, point_text, name_text, declaration_text}
 use Rattle.fcl_syntax.specs.View.{view_with, view_point, view_term, view_fuzzy_line, view_singleton, view_fallback}
 use Rattle.fcl_syntax.specs.View.{view_defuzzy_line, view_declaration, view_rulebase}
@@ -36,8 +38,6 @@ use Rattle.fcl_syntax.specs.declared.tree.FallbackValue.TheVariants as fallback
 use Rattle.fcl_syntax.specs.declared.tree.FuzzyLine.TheVariants as fuzzy
 use Rattle.fcl_syntax.specs.declared.tree.Part.TheVariants as part
 use Rattle.fcl_syntax.specs.Grammar.{term_text, range_text, singleton_text, fallback_text, defuzzy_line_text}
-use Rattle.fcl_syntax.specs.declared.token.Keyword.TheVariants as key
-use Rattle.fcl_syntax.specs.declared.token.Token.TheVariants as tok
 use Rattle.fcl_check.proofs.Places.{StandIn, none, passed, taken, no_places, join, in_front, in_back, at_head}
 use Rattle.fcl_check.proofs.Places.{at_head_and, in_some, in_row, dropped_items, in_each, in_each_after, in_each_kept}
 use Rattle.fcl_check.proofs.Places.{in_first_kept, in_repeated, in_each_of_each, AscendWithin-places}

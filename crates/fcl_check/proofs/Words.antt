@@ -32,8 +32,9 @@ pub use Rattle.fcl_syntax.specs.Grammar.{block_text, conclusion_text, conclusion
 pub use Rattle.fcl_syntax.specs.Grammar.{less, lone, more_ands, more_nots, neg, no_ands, no_nots, not_text, nots_text}
 pub use Rattle.fcl_syntax.specs.Grammar.{or_of, or_text, part_text, rule_item_text, rule_line_text, rulebase_text}
 pub use Rattle.fcl_syntax.specs.Grammar.{section_text, semicolon_text, weight_text}
-pub use Rattle.fcl_syntax.specs.Offsets.{AscendWithin, OffsetsAscend, offset_of, offsets}
+pub use Rattle.fcl_syntax.specs.Offsets.{OffsetsAscend, offsets}
 pub use Rattle.fcl_syntax.specs.View.{view, view_part, view_rule_item, view_rule_line, view_section, view_weight}
+pub use Rattle.fcl_tokens.specs.Offsets.{AscendWithin, offset_of}
 pub use Rattle.std.proofs.Common.{Bool, Err, List, None, Option, Some, [], ap, arith, cond, drop, false, get_or, inl}
 pub use Rattle.std.proofs.Common.{inr, length, map, not, option_and_then, option_map, refl, rules, subst, suc, sym}
 pub use Rattle.std.proofs.Common.{take, tests, true, zero, ℕ, ◌&&◌, ◌*◌, ◌++◌, ◌+◌, ◌-◌, ◌<◌, ◌||◌, ◌∙◌, ◌∷◌, ◌≡◌}
@@ -47,8 +48,8 @@ pub use denote.Enum.Bare.{sameb}
 pub use Rattle.fcl_check.specs.{Corners.AreCornersOf, Spans.ends_in, Steps.extended, Texts.SpelledBlocksAreValid}
 pub use Rattle.fcl_check.specs.{declared.fault.LoadFault.LoadFault, declared.inputs.Corners.Corners}
 pub use Rattle.fcl_check.specs.{declared.names.Variable.Variable}
-pub use Rattle.fcl_syntax.specs.{contracts.tree.Direction.the_type, declared.token.Token.Token}
-pub use Rattle.fcl_syntax.specs.{declared.tree.Conclusion.Conclusion, declared.tree.Declaration.Declaration}
+pub use Rattle.fcl_syntax.specs.{contracts.tree.Direction.the_type, declared.tree.Conclusion.Conclusion}
+pub use Rattle.fcl_syntax.specs.{declared.tree.Declaration.Declaration}
 pub use Rattle.fcl_syntax.specs.{declared.tree.Defuzzify.Defuzzify, declared.tree.DefuzzyLine.DefuzzyLine}
 pub use Rattle.fcl_syntax.specs.{declared.tree.Direction.Direction, declared.tree.Direction.TheVariants.Input}
 pub use Rattle.fcl_syntax.specs.{declared.tree.Direction.TheVariants.Output}
@@ -58,6 +59,7 @@ pub use Rattle.fcl_syntax.specs.{declared.tree.Name.Name, declared.tree.Part.Par
 pub use Rattle.fcl_syntax.specs.{declared.tree.Range.Range, declared.tree.Rule.Rule as RuleNode}
 pub use Rattle.fcl_syntax.specs.{declared.tree.SignedNumber.SignedNumber, declared.tree.Singleton.Singleton}
 pub use Rattle.fcl_syntax.specs.{declared.tree.Term.Term, declared.tree.Weight.Weight}
+pub use Rattle.fcl_tokens.specs.{declared.token.Token.Token}
 pub use Rattle.fuzzy_meaning.specs.{Blocks.HasTerm, Blocks.IsInScale, Blocks.rule_size, Conditions.Condition}
 pub use Rattle.fuzzy_meaning.specs.{declared.block.Block.Block, declared.block.Rule.Rule}
 pub use Rattle.fuzzy_meaning.specs.{declared.block.Trapezoid.Trapezoid}

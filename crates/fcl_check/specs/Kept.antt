@@ -1,9 +1,9 @@
 -- A loaded number is the token's number: the scale changes none of a text.
 -- Beside the promise.
 use Rattle.std.specs.Prelude.{◌≡◌, List, ℕ, All, neg_ℤ}
+use Rattle.fcl_tokens.specs.declared.token.Token.{Token}
+use Rattle.fcl_tokens.specs.declared.token.Token.TheVariants as tok
 use Rattle.fcl_syntax.specs.{Annotations.tokens_of, Grammar.TBlock, Grammar.block_text, Text.SpellsTree}
-use Rattle.fcl_syntax.specs.declared.token.Token.{Token}
-use Rattle.fcl_syntax.specs.declared.token.Token.TheVariants as tok
 use Rattle.fcl_check.specs.Sections.{magnitude, to_scale}
 
 -- a number is as it is written, without a sign and behind a minus

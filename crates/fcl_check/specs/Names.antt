@@ -5,6 +5,7 @@ use Rattle.std.specs.Prelude.{if◌then◌else◌, ℕ, suc, Bool, true, false, 
 use Rattle.std.specs.Prelude.{option_map, option_and_then}
 use Rattle.std.specs.List.{filter_map, find, flat_map, position, take_while}
 use Rattle.std.specs.Str.{bytes_eq}
+use Rattle.fcl_tokens.specs.Tokens.{is_name_byte}
 use Rattle.fcl_syntax.specs.declared.tree.{Declaration.Declaration, Defuzzify.Defuzzify, DefuzzyLine.DefuzzyLine}
 use Rattle.fcl_syntax.specs.declared.tree.{Direction.Direction, FunctionBlock.FunctionBlock}
 use Rattle.fcl_syntax.specs.declared.tree.{Direction.TheVariants.Input, Direction.TheVariants.Output, Fuzzify.Fuzzify}
@@ -13,7 +14,6 @@ use Rattle.fcl_syntax.specs.declared.tree.Variables.{Variables}
 use Rattle.fcl_syntax.specs.declared.tree.DefuzzyLine.TheVariants as defuzzy
 use Rattle.fcl_syntax.specs.declared.tree.FuzzyLine.TheVariants as fuzzy
 use Rattle.fcl_syntax.specs.declared.tree.Part.TheVariants as part
-use Rattle.fcl_syntax.specs.Tokens.{is_name_byte}
 
 -- a declared variable
 abbrev pub Declared : Type 0

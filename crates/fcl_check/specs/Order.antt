@@ -2,7 +2,8 @@
 -- Beside the promise.
 use Rattle.std.specs.Prelude.{ℕ, List, length, All}
 use Rattle.std.specs.Str.{str_to_ascii_lowercase}
-use Rattle.fcl_syntax.specs.{Offsets.AscendWithin, Text.SpellsTree, View.view}
+use Rattle.fcl_tokens.specs.Offsets.{AscendWithin}
+use Rattle.fcl_syntax.specs.{Text.SpellsTree, View.view}
 use Rattle.fcl_syntax.specs.declared.tree.FunctionBlock.{FunctionBlock}
 use Rattle.fcl_check.specs.{Faults.kinds, declared.fault.LoadFault.LoadFault}
 

@@ -5,6 +5,8 @@ use Rattle.std.specs.Prelude.{ℕ, Bool, false, not, ◌&&◌, ◌||◌, List, [
 use Rattle.std.specs.Prelude.{option_map, is_none, ℤ, pos, neg_ℤ, int_lt}
 use Rattle.std.specs.List.{filter_map, flat_map, list_all}
 use Rattle.std.specs.Int.{int_min, int_max}
+use Rattle.fcl_tokens.specs.declared.token.Amount.{Amount}
+use Rattle.fcl_tokens.specs.declared.token.Amount.TheVariants as amount
 use Rattle.fcl_syntax.specs.declared.tree.{Defuzzify.Defuzzify, DefuzzyLine.DefuzzyLine, Degree.Degree}
 use Rattle.fcl_syntax.specs.declared.tree.{Fallback.Fallback, FallbackValue.FallbackValue, Fuzzify.Fuzzify}
 use Rattle.fcl_syntax.specs.declared.tree.{FuzzyLine.FuzzyLine, Name.Name, SignedNumber.SignedNumber, Part.Part}
@@ -15,8 +17,6 @@ use Rattle.fcl_syntax.specs.declared.tree.FallbackValue.TheVariants as fallback
 use Rattle.fcl_syntax.specs.declared.tree.FuzzyLine.TheVariants as fuzzy
 use Rattle.fcl_syntax.specs.declared.tree.SignedNumber.TheVariants as signed
 use Rattle.fcl_syntax.specs.declared.tree.Part.TheVariants as part
-use Rattle.fcl_syntax.specs.declared.token.Amount.{Amount}
-use Rattle.fcl_syntax.specs.declared.token.Amount.TheVariants as amount
 use Rattle.fcl_check.specs.Places.{at_if, at_some, at_each, first, drop_while}
 use Rattle.fcl_check.specs.Names.{terms_of, singletons_of}
 

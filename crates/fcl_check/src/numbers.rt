@@ -6,7 +6,8 @@ ghost use Rattle.fcl_check.specs.{Spans.ends_in, Loaded.number_of, Loaded.widene
 ghost use Rattle.fcl_check.specs.Sections.{magnitude, value, fallback_number, is_one, ends_of, lies_in};
 ghost use Rattle.fcl_check.specs.Sections.{is_empty_range};
 
-use fcl_syntax::{Amount, Degree, FallbackValue, Number, Range, SignedNumber};
+use fcl_syntax::{Degree, FallbackValue, Number, Range, SignedNumber};
+use fcl_tokens::Amount;
 use fz_num::Dec;
 
 /// The greatest magnitude of a number, in 1/10000. A tree that was read has none above it.

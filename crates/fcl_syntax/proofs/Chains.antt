@@ -1,6 +1,7 @@
 -- Readers in a row, as the parser has them and as a sequence of forms has them.
 use Rattle.std.proofs.Common.{◌≡◌, Bool, true, false, List, Result, Ok, Err, refl}
-use Rattle.fcl_syntax.specs.declared.{fault.Fault.Fault, token.Token.Token}
+use Rattle.fcl_tokens.specs.declared.token.Token.{Token}
+use Rattle.fcl_syntax.specs.declared.fault.Fault.{Fault}
 use Rattle.fcl_syntax.specs.Readers.{◌>>=◌, cond_read}
 
 pub bind_assoc : {A B C : Type 0} (r : Result A Fault) (f : A → Result B Fault) (g : B → Result C Fault)

@@ -2,7 +2,8 @@
 use Rattle.std.proofs.Common.{◌≡◌, ℕ, ◌+◌, Bool, true, false, List, [], ◌∷◌, ◌++◌, length, Result, Ok, Err, refl, sym}
 use Rattle.std.proofs.Common.{ap, subst, ◌∙◌, arith, inl, inr, ◌⊎◌}
 use Rattle.std.proofs.lemmas.List.{length-append}
-use Rattle.fcl_syntax.specs.declared.{fault.Fault.Fault, fault.Kind.Kind, token.Token.Token}
+use Rattle.fcl_tokens.specs.declared.token.Token.{Token}
+use Rattle.fcl_syntax.specs.declared.{fault.Fault.Fault, fault.Kind.Kind}
 use Rattle.fcl_syntax.specs.declared.fault.Kind.TheVariants.{Expected, Deep, Unsupported}
 use Rattle.fcl_syntax.specs.TokenClasses.{class_of, mem}
 use Rattle.fcl_syntax.specs.Annotations.{either_text, Sym, tokens_of, IsClean, annotated}

@@ -3,7 +3,8 @@ use Rattle.std.proofs.Common.{◌≡◌, ℕ, suc, ◌+◌, ◌≤◌, Bool, tru
 use Rattle.std.proofs.Common.{Result, Ok, Err, refl, sym, ap, subst, ◌∙◌, append_assoc, arith, inl, inr, ◌⊎◌}
 use Rattle.std.proofs.lemmas.List.{append-nil, length-append}
 use Rattle.std.proofs.lemmas.Bool.{cases_lt}
-use Rattle.fcl_syntax.specs.declared.{fault.Fault.Fault, fault.Kind.Kind, token.Token.Token}
+use Rattle.fcl_tokens.specs.declared.token.Token.{Token}
+use Rattle.fcl_syntax.specs.declared.{fault.Fault.Fault, fault.Kind.Kind}
 use Rattle.fcl_syntax.specs.Annotations.{Sym, tokens_of, IsClean, plain, annotated, Spells}
 use Rattle.fcl_syntax.specs.First.{looks_on, SameNext, SameHead, Shown, IsAnnotation, IsPlain, IsPlainAnnotation}
 use Rattle.fcl_syntax.specs.First.{Begins, NoTextHas, NoAnnotation, Here, FirstFault}

@@ -1,13 +1,13 @@
 -- The forms of variables, terms and ranges.
 use Rattle.std.proofs.Common.{◌≡◌, ℕ, true, List, [], ◌∷◌, ◌++◌, Ok, refl, ap, inl, inr, ◌⊎◌}
+use Rattle.fcl_tokens.specs.declared.token.Keyword.{Keyword}
+use Rattle.fcl_tokens.specs.declared.token.Keyword.TheVariants as key
+use Rattle.fcl_tokens.specs.declared.token.Token.{Token}
+use Rattle.fcl_tokens.specs.declared.token.Token.TheVariants as tok
+use Rattle.fcl_tokens.specs.declared.token.Word.{Word}
+use Rattle.fcl_tokens.specs.declared.token.Word.TheVariants as word
 use Rattle.fcl_syntax.specs.declared.{terms.Sign.Sign}
 use Rattle.fcl_syntax.specs.declared.terms.Sign.TheVariants as sign
-use Rattle.fcl_syntax.specs.declared.token.Keyword.{Keyword}
-use Rattle.fcl_syntax.specs.declared.token.Keyword.TheVariants as key
-use Rattle.fcl_syntax.specs.declared.token.Token.{Token}
-use Rattle.fcl_syntax.specs.declared.token.Token.TheVariants as tok
-use Rattle.fcl_syntax.specs.declared.token.Word.{Word}
-use Rattle.fcl_syntax.specs.declared.token.Word.TheVariants as word
 use Rattle.fcl_syntax.specs.declared.{tree.Direction.Direction, tree.Name.Name, tree.Number.Number}
 use Rattle.fcl_syntax.specs.declared.{tree.UnitNumber.UnitNumber, tree.ZeroNumber.ZeroNumber}
 use Rattle.fcl_syntax.specs.TokenClasses.{name_classes, other_type_classes, beyond_unit_classes, beyond_zero_classes}

@@ -1,10 +1,11 @@
 -- Each block in a text is one of the program, so each text spells one or has a first fault.
 use Rattle.std.proofs.Common.{◌≡◌, ℕ, ◌⊎◌, inl, inr, [], ◌∷◌, ◌++◌, Some, None, Result, Ok}
 use Rattle.std.proofs.Common.{Err, refl, ap, sym, subst, ◌∙◌}
+use Rattle.fcl_tokens.specs.declared.token.Keyword.TheVariants as key
+use Rattle.fcl_tokens.specs.declared.token.Token.TheVariants as tok
+use Rattle.fcl_tokens.specs.declared.token.Word.TheVariants as word
+use Rattle.fcl_tokens.specs.Cuts.{CutsAreTokens}
 use Rattle.fcl_syntax.specs.declared.{fault.Kind.TheVariants.Unsupported, text.SyntaxFault.SyntaxFault}
-use Rattle.fcl_syntax.specs.declared.token.Keyword.TheVariants as key
-use Rattle.fcl_syntax.specs.declared.token.Token.TheVariants as tok
-use Rattle.fcl_syntax.specs.declared.token.Word.TheVariants as word
 use Rattle.fcl_syntax.specs.declared.tree.ActWord.TheVariants as act
 use Rattle.fcl_syntax.specs.declared.tree.FunctionBlock.{FunctionBlock}
 use Rattle.fcl_syntax.specs.declared.tree.RuleLine.TheVariants as line
@@ -142,13 +143,13 @@ block_tree b h =
 
 -- ---- texts
 
-pub each_text_is_read_lem : EachTextIsRead
-each_text_is_read_lem text short = go (read_text text) refl
+pub each_text_is_read_lem : CutsAreTokens → EachTextIsRead
+each_text_is_read_lem cuts text short = go (read_text text) refl
   where
     go : (r : Result TBlock SyntaxFault) → read_text text ≡ r
         → ((b : FunctionBlock) × SpellsTree text (view b)) ⊎ ((e : SyntaxFault) × IsFirstFault text e)
     go (Ok t) is =
-        let spells = read_spells text t is in
+        let spells = read_spells cuts text t is in
         let found = block_tree t spells.spells.clean in
         inl (found.0, subst (SpellsTree text) (sym found.1) spells)
-    go (Err e) is = inr (e, read_faults text e is)
+    go (Err e) is = inr (e, read_faults cuts text e is)

@@ -17,14 +17,8 @@ pub mod TermForms
 pub mod ConditionForms
 pub mod RuleForms
 pub mod Rooms
-pub mod CutLists
-pub mod CutPieces
-pub mod CutSpellings
-pub mod CutTexts
 pub mod OneTree
 pub mod Theorem
-pub mod Cutting
-pub mod Scale
 pub mod Offsets
 pub mod KeptLists
 pub mod KeptTerms

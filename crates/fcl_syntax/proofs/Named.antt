@@ -1,6 +1,7 @@
 -- A form under another reader that answers the same, and choices with their classes worked out.
 use Rattle.std.proofs.Common.{◌≡◌, ℕ, Bool, true, false, cond, List, [], ◌++◌, refl, sym, ◌∙◌, ◌⊎◌}
-use Rattle.fcl_syntax.specs.declared.{fault.Kind.Kind, fault.Kind.TheVariants.Unsupported, token.Token.Token}
+use Rattle.fcl_tokens.specs.declared.token.Token.{Token}
+use Rattle.fcl_syntax.specs.declared.{fault.Kind.Kind, fault.Kind.TheVariants.Unsupported}
 use Rattle.fcl_syntax.specs.TokenClasses.{class_of, mem, Among}
 use Rattle.fcl_syntax.specs.{Annotations.refused_text, First.looks_on, Readers.Read}
 use Rattle.fcl_syntax.specs.Reading.{refusing, either_at}

@@ -1,6 +1,6 @@
 -- Trees of the program with one view are one: each is what its view gives back.
 use Rattle.std.proofs.Common.{◌≡◌, ℕ, false, ◌⊎◌, inl, inr, List, [], ◌∷◌, map, Option, Some, None, refl, sym, ap, ◌∙◌}
-use Rattle.fcl_syntax.specs.declared.token.Amount.TheVariants as amount
+use Rattle.fcl_tokens.specs.declared.token.Amount.TheVariants as amount
 use Rattle.fcl_syntax.specs.declared.tree.ActWord.{ActWord}
 use Rattle.fcl_syntax.specs.declared.tree.ActWord.TheVariants as act
 use Rattle.fcl_syntax.specs.declared.tree.DefuzzyLine.{DefuzzyLine}

@@ -1,9 +1,9 @@
 -- A condition's part, by what comes next.
 use Rattle.std.proofs.Common.{◌≡◌, ◌≢◌, ℕ, zero, suc, ◌-◌, ◌<◌, true, false, List, [], ◌∷◌, ◌++◌, length, Result, Ok}
 use Rattle.std.proofs.Common.{Err, refl, sym, arith}
+use Rattle.fcl_tokens.specs.declared.{token.Keyword.Keyword, token.Token.Token}
 use Rattle.fcl_syntax.specs.declared.{fault.Fault.Fault, fault.Kind.TheVariants.Deep, fault.ParseError.ParseError}
 use Rattle.fcl_syntax.specs.declared.fault.ParseError.TheVariants as errors
-use Rattle.fcl_syntax.specs.declared.{token.Keyword.Keyword, token.Token.Token}
 use Rattle.fcl_syntax.specs.TokenClasses.{keyword_class, opener_classes}
 use Rattle.fcl_syntax.specs.Readers.{FailsAs, Read, TakesSome, starts, fault_at}
 use Rattle.fcl_syntax.specs.Reading.{behind_key_in, key_at, not_at, opened_in, operand_at}

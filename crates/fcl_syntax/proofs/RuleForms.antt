@@ -1,8 +1,8 @@
 -- The forms of rules and of the block.
 use Rattle.std.proofs.Common.{◌≡◌, ℕ, true, List, [], ◌∷◌, refl, ◌⊎◌}
-use Rattle.fcl_syntax.specs.declared.token.Keyword.TheVariants as key
-use Rattle.fcl_syntax.specs.declared.token.Token.TheVariants as tok
-use Rattle.fcl_syntax.specs.declared.token.Word.TheVariants as word
+use Rattle.fcl_tokens.specs.declared.token.Keyword.TheVariants as key
+use Rattle.fcl_tokens.specs.declared.token.Token.TheVariants as tok
+use Rattle.fcl_tokens.specs.declared.token.Word.TheVariants as word
 use Rattle.fcl_syntax.specs.declared.{tree.Conclusion.Conclusion, tree.Label.Label}
 use Rattle.fcl_syntax.specs.TokenClasses.{Among, name_classes, keyword_class}
 use Rattle.fcl_syntax.specs.Grammar.{conclusion_text, TSignedNumber, TWeight, weight_text, TOr, TRule, rule_text}

@@ -2,9 +2,10 @@
 use Rattle.std.proofs.Common.{◌≡◌, ℕ, zero, suc, ◌≤◌, ◌<◌, true, false, List, [], ◌∷◌, ◌++◌, length, map, Result, Ok}
 use Rattle.std.proofs.Common.{Err, refl, sym, ap, subst, ◌∙◌, append_assoc, arith}
 use Rattle.std.proofs.lemmas.List.{append-nil, length-append, map_push}
+use Rattle.fcl_tokens.specs.declared.token.Token.{Token}
 use Rattle.fcl_syntax.specs.declared.{fault.Fault.Fault, fault.ParseError.ParseError}
 use Rattle.fcl_syntax.specs.declared.fault.ParseError.TheVariants as errors
-use Rattle.fcl_syntax.specs.{declared.token.Token.Token, Annotations.tokens_of}
+use Rattle.fcl_syntax.specs.Annotations.{tokens_of}
 use Rattle.fcl_syntax.specs.Readers.{TakesSome, ◌>>=◌, starts, with_front, loop, FailsAs}
 use Rattle.fcl_syntax.proofs.{Form.Starts, Form.Form}
 

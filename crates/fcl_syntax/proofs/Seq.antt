@@ -2,7 +2,8 @@
 use Rattle.std.proofs.Common.{◌≡◌, ℕ, ◌+◌, true, List, [], ◌∷◌, ◌++◌, length, Option, Some, None, Result, Ok, Err, refl}
 use Rattle.std.proofs.Common.{sym, ap, subst, ◌∙◌, append_assoc, arith, inl, inr}
 use Rattle.std.proofs.lemmas.List.{append-nil, length-append}
-use Rattle.fcl_syntax.specs.declared.{fault.Fault.Fault, fault.Kind.Kind, token.Token.Token}
+use Rattle.fcl_tokens.specs.declared.token.Token.{Token}
+use Rattle.fcl_syntax.specs.declared.{fault.Fault.Fault, fault.Kind.Kind}
 use Rattle.fcl_syntax.specs.declared.fault.Kind.TheVariants.{Expected, Deep, Unsupported}
 use Rattle.fcl_syntax.specs.Annotations.{Sym, tokens_of, IsClean, annotated}
 use Rattle.fcl_syntax.specs.{First.SameHead, First.Shown, Readers.◌>>=◌}

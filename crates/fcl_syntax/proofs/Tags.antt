@@ -2,11 +2,11 @@
 use Rattle.std.proofs.Common.{◌≡◌, ℕ, Bool, true, false, cond, eqb, [], ◌∷◌, refl, sym, ap, ◌∙◌, ◌+◌, arith}
 use denote.Enum.Bare.{sameb, tag_one}
 use denote.Enum.Declared.{tag_of}
-use Rattle.fcl_syntax.specs.{contracts.token.Keyword.the_type, contracts.token.Word.the_type as word_type}
-use Rattle.fcl_syntax.specs.declared.token.Keyword.{Keyword}
-use Rattle.fcl_syntax.specs.declared.token.Keyword.TheVariants as key
-use Rattle.fcl_syntax.specs.declared.token.Word.{Word}
-use Rattle.fcl_syntax.specs.declared.token.Word.TheVariants as word
+use Rattle.fcl_tokens.specs.{contracts.token.Keyword.the_type, contracts.token.Word.the_type as word_type}
+use Rattle.fcl_tokens.specs.declared.token.Keyword.{Keyword}
+use Rattle.fcl_tokens.specs.declared.token.Keyword.TheVariants as key
+use Rattle.fcl_tokens.specs.declared.token.Word.{Word}
+use Rattle.fcl_tokens.specs.declared.token.Word.TheVariants as word
 use Rattle.fcl_syntax.specs.TokenClasses.{keyword_class, word_class, mem}
 
 pub tag-key : (k : Keyword) → tag_of the_type k ≡ keyword_class k

@@ -1,10 +1,11 @@
 -- The forms of FUZZIFY and DEFUZZIFY.
 use Rattle.std.proofs.Common.{◌≡◌, ℕ, Bool, true, false, List, [], ◌∷◌, refl, inl, inr, ◌⊎◌}
-use Rattle.fcl_syntax.specs.declared.{fault.Kind.TheVariants.Unsupported, token.Keyword.Keyword}
-use Rattle.fcl_syntax.specs.declared.token.Keyword.TheVariants as key
-use Rattle.fcl_syntax.specs.declared.token.Token.TheVariants as tok
-use Rattle.fcl_syntax.specs.declared.token.Word.{Word}
-use Rattle.fcl_syntax.specs.declared.token.Word.TheVariants as word
+use Rattle.fcl_tokens.specs.declared.token.Keyword.{Keyword}
+use Rattle.fcl_tokens.specs.declared.token.Keyword.TheVariants as key
+use Rattle.fcl_tokens.specs.declared.token.Token.TheVariants as tok
+use Rattle.fcl_tokens.specs.declared.token.Word.{Word}
+use Rattle.fcl_tokens.specs.declared.token.Word.TheVariants as word
+use Rattle.fcl_syntax.specs.declared.fault.Kind.TheVariants.{Unsupported}
 use Rattle.fcl_syntax.specs.{First.looks_on}
 use Rattle.fcl_syntax.specs.TokenClasses.{Among, word_class, signed_classes, open_classes}
 use Rattle.fcl_syntax.specs.Grammar.{TSignedNumber, TPoint, point_text, TPoints, TTerm, term_text, TRange, range_text}

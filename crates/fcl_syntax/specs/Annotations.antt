@@ -2,7 +2,8 @@
 -- Reached by the promise.
 use Rattle.std.specs.Prelude.{◌≡◌, ℕ, List, [], ◌∷◌, Option, Some, None, ◌⊎◌}
 use Rattle.std.proofs.Common.{inl, inr}
-use Rattle.fcl_syntax.specs.{declared.fault.Kind.Kind, declared.token.Token.Token, TokenClasses.Among}
+use Rattle.fcl_tokens.specs.declared.token.Token.{Token}
+use Rattle.fcl_syntax.specs.{declared.fault.Kind.Kind, TokenClasses.Among}
 
 -- a token of a text, and what is wrong with it, if anything is
 pub record Sym : Type 0 where

@@ -6,7 +6,7 @@ use Rattle.std.proofs.Common.{ap}
 use Rattle.std.specs.Coded.{Coded, Coded-set, coded_bool}
 use base.Stored.{Gv, gnil, gnum, gcons, num}
 use mathlib.Core.HLevel.{is_prop→PathP}
-use Rattle.fcl_syntax.specs.contracts.token.Token as token
+use Rattle.fcl_tokens.specs.contracts.token.Token as token
 use Rattle.fcl_syntax.specs.contracts.tree.Name as name
 use Rattle.fcl_syntax.specs.contracts.tree.Operand as operand
 use Rattle.fcl_syntax.specs.declared.tree.Operand.{Operand}

@@ -2,15 +2,15 @@
 -- that is refused in its place, and the text has an annotation there; what follows an annotation is free.
 -- Reached by the promise.
 use Rattle.std.specs.Prelude.{ℕ, zero, suc, Bool, true, false, List, [], ◌∷◌, ◌++◌, Option, Some, None, ◌⊎◌}
+use Rattle.fcl_tokens.specs.declared.token.Amount.{Amount}
+use Rattle.fcl_tokens.specs.declared.token.Amount.TheVariants as amount
+use Rattle.fcl_tokens.specs.declared.token.Keyword.{Keyword}
+use Rattle.fcl_tokens.specs.declared.token.Keyword.TheVariants as key
+use Rattle.fcl_tokens.specs.declared.token.Token.{Token}
+use Rattle.fcl_tokens.specs.declared.token.Token.TheVariants as tok
+use Rattle.fcl_tokens.specs.declared.token.Word.{Word}
+use Rattle.fcl_tokens.specs.declared.token.Word.TheVariants as word
 use Rattle.fcl_syntax.specs.declared.fault.Kind.TheVariants.{Deep, Unsupported}
-use Rattle.fcl_syntax.specs.declared.token.Amount.{Amount}
-use Rattle.fcl_syntax.specs.declared.token.Amount.TheVariants as amount
-use Rattle.fcl_syntax.specs.declared.token.Keyword.{Keyword}
-use Rattle.fcl_syntax.specs.declared.token.Keyword.TheVariants as key
-use Rattle.fcl_syntax.specs.declared.token.Token.{Token}
-use Rattle.fcl_syntax.specs.declared.token.Token.TheVariants as tok
-use Rattle.fcl_syntax.specs.declared.token.Word.{Word}
-use Rattle.fcl_syntax.specs.declared.token.Word.TheVariants as word
 use Rattle.fcl_syntax.specs.declared.{tree.Conclusion.Conclusion, tree.Direction.Direction, tree.Label.Label}
 use Rattle.fcl_syntax.specs.declared.tree.Direction.TheVariants.{Input, Output}
 use Rattle.fcl_syntax.specs.declared.{tree.Name.Name, tree.Number.Number, tree.UnitNumber.UnitNumber}

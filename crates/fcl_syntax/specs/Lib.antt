@@ -6,8 +6,6 @@ pub mod Conditions
 pub mod ConditionCodes
 pub mod ConditionsFall
 pub mod View
-pub mod Meanings
-pub mod Tokens
 pub mod Text
 pub mod Parsed
 pub mod Scale
@@ -15,6 +13,4 @@ pub mod Offsets
 pub mod Readings
 pub mod Readers
 pub mod Reading
-pub mod Lexing
 pub mod TextReading
-pub mod Cuts

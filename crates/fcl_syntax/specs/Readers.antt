@@ -2,10 +2,11 @@
 -- Beside the promise.
 use Rattle.std.specs.Prelude.{◌≡◌, ℕ, zero, suc, Bool, true, false, List, [], ◌∷◌, length, Option, Some, None, Result}
 use Rattle.std.specs.Prelude.{Ok, Err, ◌<◌}
+use Rattle.fcl_tokens.specs.declared.token.Token.{Token}
 use Rattle.fcl_syntax.specs.declared.{fault.Fault.Fault, fault.Kind.Kind, fault.Kind.TheVariants.Expected}
 use Rattle.fcl_syntax.specs.declared.fault.ParseError.{ParseError}
 use Rattle.fcl_syntax.specs.declared.fault.ParseError.TheVariants as errors
-use Rattle.fcl_syntax.specs.{declared.token.Token.Token, TokenClasses.class_of, TokenClasses.mem}
+use Rattle.fcl_syntax.specs.{TokenClasses.class_of, TokenClasses.mem}
 
 infixl 10 ◌>>=◌
 abbrev pub ◌>>=◌ : {A B : Type 0} → Result A Fault → (A → Result B Fault) → Result B Fault

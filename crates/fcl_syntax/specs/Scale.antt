@@ -1,22 +1,8 @@
--- The size of a text's numbers.
+-- The size of a tree's numbers.
 -- Beside the promise.
-use Rattle.std.specs.Prelude.{ℕ, List, pos, neg_ℤ, ◌≤ℤ◌, All}
-use Rattle.fcl_syntax.specs.declared.token.Amount.{Amount}
-use Rattle.fcl_syntax.specs.declared.token.Amount.TheVariants as amount
-use Rattle.fcl_syntax.specs.declared.token.Token.{Token}
-use Rattle.fcl_syntax.specs.declared.token.Token.TheVariants as tok
+use Rattle.std.specs.Prelude.{ℕ, List, All}
+use Rattle.fcl_tokens.specs.Scale.{IsTokenInScale}
 use Rattle.fcl_syntax.specs.{Grammar.TBlock, Grammar.block_text, Annotations.tokens_of, Text.SpellsTree}
-
--- at most 100000, in 1/10000
-abbrev pub IsAmountInScale : Amount → Type 0
-IsAmountInScale amount.Zero = Unit {0}
-IsAmountInScale amount.One = Unit {0}
-IsAmountInScale (amount.Other d) = (neg_ℤ (pos 1000000000) ≤ℤ d.0) × (d.0 ≤ℤ pos 1000000000)
-
--- a number is; other tokens have none
-abbrev pub IsTokenInScale : Token → Type 0
-IsTokenInScale (tok.Number at n whole) = IsAmountInScale n
-IsTokenInScale _ = Unit {0}
 
 -- No number of a tree that a text spells is beyond 100000.
 abbrev pub NumbersInScale : Type 0

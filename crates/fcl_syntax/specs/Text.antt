@@ -2,13 +2,15 @@
 -- Reached by the promise.
 use Rattle.std.specs.Prelude.{◌≡◌, ℕ, ◌≤◌, List, [], ◌∷◌, length, drop}
 use Rattle.std.specs.Str.{str_to_ascii_lowercase}
+use Rattle.fcl_tokens.specs.declared.lexer.LexKind.TheVariants as kinds
+use Rattle.fcl_tokens.specs.declared.token.Token.{Token}
+use Rattle.fcl_tokens.specs.{Tokens.HasTokens, Tokens.HasTokenFault}
 use Rattle.fcl_syntax.specs.declared.fault.Kind.{Kind}
 use Rattle.fcl_syntax.specs.declared.fault.Kind.TheVariants.{Expected, Deep, Unsupported}
-use Rattle.fcl_syntax.specs.declared.lexer.LexKind.TheVariants as kinds
 use Rattle.fcl_syntax.specs.declared.text.SyntaxFault.{SyntaxFault}
 use Rattle.fcl_syntax.specs.declared.text.SyntaxFault.TheVariants as faults
-use Rattle.fcl_syntax.specs.declared.{token.Token.Token, tree.FunctionBlock.FunctionBlock}
-use Rattle.fcl_syntax.specs.{Annotations.Spells, First.FirstFault, Tokens.HasTokens, Tokens.HasTokenFault}
+use Rattle.fcl_syntax.specs.declared.tree.FunctionBlock.{FunctionBlock}
+use Rattle.fcl_syntax.specs.{Annotations.Spells, First.FirstFault}
 use Rattle.fcl_syntax.specs.{Grammar.TBlock, Grammar.block_text, View.view}
 
 -- the text has no token fault, and its tokens spell the tree

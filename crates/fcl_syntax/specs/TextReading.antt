@@ -1,13 +1,15 @@
 -- Reading a text: its tokens, and then all of them. No public clause cites it.
 -- Beside the promise.
 use Rattle.std.specs.Prelude.{◌≡◌, ℕ, ◌-◌, List, length, drop, Result, Ok, Err}
-use Rattle.fcl_syntax.specs.declared.{fault.Fault.Fault, fault.Kind.Kind, lexer.LexFault.LexFault}
+use Rattle.fcl_tokens.specs.declared.lexer.LexFault.{LexFault}
+use Rattle.fcl_tokens.specs.declared.lexer.LexKind.{LexKind}
+use Rattle.fcl_tokens.specs.declared.lexer.LexKind.TheVariants as kinds
+use Rattle.fcl_tokens.specs.{Lexing.Lexed, Lexing.tokenization}
+use Rattle.fcl_syntax.specs.declared.{fault.Fault.Fault, fault.Kind.Kind}
 use Rattle.fcl_syntax.specs.declared.fault.Kind.TheVariants.{Expected, Deep, Unsupported}
-use Rattle.fcl_syntax.specs.declared.lexer.LexKind.{LexKind}
-use Rattle.fcl_syntax.specs.declared.lexer.LexKind.TheVariants as kinds
 use Rattle.fcl_syntax.specs.declared.text.SyntaxFault.{SyntaxFault}
 use Rattle.fcl_syntax.specs.declared.text.SyntaxFault.TheVariants as faults
-use Rattle.fcl_syntax.specs.{declared.tree.Tree.Tree, Lexing.Lexed, Lexing.tokenization, Text.OrMemory, Text.head_or}
+use Rattle.fcl_syntax.specs.{declared.tree.Tree.Tree, Text.OrMemory, Text.head_or}
 use Rattle.fcl_syntax.specs.{Grammar.TBlock, Reading.all_of, View.view}
 
 abbrev pub of_kind : LexKind → ℕ → SyntaxFault

@@ -7,8 +7,8 @@ use crate::fault::{Kind, ParseError};
 use crate::repeated::many;
 use crate::rules::rulebase;
 use crate::single::{fault, is_keyword, keyword, name};
-use crate::token::{Keyword, Token};
 use crate::tree::{FunctionBlock, Part, Variables};
+use fcl_tokens::{Keyword, Token};
 use std::alloc::Global;
 
 // END_FUNCTION_BLOCK, where OPTION and RULEBLOCK are refused.

@@ -9,8 +9,8 @@ use crate::fault::{Fault, Kind, ParseError};
 use crate::single::{
     expect, fault, is_keyword, is_next, is_open, keyword, name, open, optional_keyword,
 };
-use crate::token::{Keyword, Token};
 use crate::tree::{And, Node, Not, Operand, Or};
+use fcl_tokens::{Keyword, Token};
 use std::alloc::Global;
 
 // [NOT]

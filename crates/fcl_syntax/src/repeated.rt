@@ -1,11 +1,11 @@
 //! What the grammar repeats.
 
 ghost use Rattle.std.specs.Prelude.{◌≡◌, ℕ, List as Items, length, map};
-ghost use Rattle.fcl_syntax.specs.declared.token.Token.{Token};
+ghost use Rattle.fcl_tokens.specs.declared.token.Token.{Token};
 ghost use Rattle.fcl_syntax.specs.Readers.{Read, Gives, TakesSome, loop, starts};
 
 use crate::fault::ParseError;
-use crate::token::Token;
+use fcl_tokens::Token;
 use fz_list::List;
 use std::alloc::Global;
 

@@ -17,10 +17,10 @@ use crate::single::{
     expect, fault, is_keyword, is_name, is_next, is_word, keyword, label, name, word,
 };
 use crate::terms::{accu, setting, signed_number};
-use crate::token::{Keyword, Token, Word};
 use crate::tree::{
     ActWord, Activation, Conclusion, Rule, RuleLine, Rulebase, Setting, SignedNumber, Weight,
 };
+use fcl_tokens::{Keyword, Token, Word};
 use fz_list::List;
 use std::alloc::Global;
 

@@ -9,8 +9,8 @@ ghost use Rattle.fcl_syntax.specs.Reading.{IsBare, unit, expect_at, key_at, word
 ghost use Rattle.fcl_syntax.specs.Reading.{unit_number_at, zero_number_at, label_at, direction_at};
 
 use crate::fault::{Fault, Kind, ParseError};
-use crate::token::{Amount, Keyword, Token, Word};
 use crate::tree::{Direction, Label, Name, Number, UnitNumber, ZeroNumber};
+use fcl_tokens::{Amount, Keyword, Token, Word};
 
 pub fn fault(kind: Kind, tokens: &[Token]) -> ParseError
     ensures { result ≡ ParseError.Fault (record { kind = kind; left = length tokens.now }) }

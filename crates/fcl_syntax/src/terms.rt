@@ -21,11 +21,11 @@ use crate::single::{
     expect, fault, is_beyond_unit, is_beyond_zero, is_keyword, is_name, is_open, is_signed,
     is_word, keyword, name, number, open, optional, unit_number, word, zero_number,
 };
-use crate::token::{Keyword, Token, Word};
 use crate::tree::{
     Defuzzify, DefuzzyLine, Degree, Fallback, FallbackValue, Fuzzify, FuzzyLine, Number, Part,
     Point, Range, Setting, SignedNumber, Singleton, Term, UnitNumber, ZeroNumber,
 };
+use fcl_tokens::{Keyword, Token, Word};
 use fz_list::List;
 use std::alloc::Global;
 

@@ -8,8 +8,9 @@ ghost use Rattle.fcl_syntax.specs.TextReading.{Reads, read_text, token_fault, gr
 
 use crate::block::function_block;
 use crate::fault::{Kind, ParseError};
-use crate::lexer::{LexError, LexFault, LexKind, lex};
 use crate::tree::Tree;
+use fcl_tokens::laws::cuts_are_tokens;
+use fcl_tokens::{LexError, LexFault, LexKind, lex};
 use fz_num::DecFault;
 use std::alloc::Global;
 use thiserror::Error;
@@ -76,6 +77,7 @@ fn read(alloc: Global, text: &[u8]) -> Result<Tree, SyntaxFault>
     ensures read { Reads result (read_text text.now) }
     ensures kept { IfOk result (λ tree. tree.text.items ≡ str_to_ascii_lowercase text.now) }
 {
+    cuts_are_tokens();
     let (tokens, places) = match lex(alloc, text) {
         Ok(lexed) => lexed,
         Err(LexError::Memory) => return Err(SyntaxFault::Memory),
@@ -111,5 +113,6 @@ pub fn parse(alloc: Global, text: &[u8]) -> Result<Tree, SyntaxFault>
     ensures fault { IfErr result (OrMemory (IsFirstFault text.now)) }
     ensures only_fault { (e : SyntaxFault) → IsFirstFault text.now e → GivesFault result e }
 {
+    cuts_are_tokens();
     read(alloc, text)
 }

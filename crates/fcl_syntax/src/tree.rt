@@ -6,10 +6,10 @@
 
 ghost use Rattle.std.specs.Prelude.{◌≡◌, drop};
 ghost use Rattle.std.specs.List.{take_while};
-ghost use Rattle.fcl_syntax.specs.{Tokens.is_name_byte, Text.IsSpelled};
+ghost use Rattle.fcl_tokens.specs.Tokens.{is_name_byte};
+ghost use Rattle.fcl_syntax.specs.Text.{IsSpelled};
 
-use crate::lexer::name_len;
-use crate::token::{Amount, Word};
+use fcl_tokens::{Amount, Word, name_len};
 use fz_list::List;
 use std::marker::Model;
 

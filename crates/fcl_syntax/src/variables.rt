@@ -12,8 +12,8 @@ use crate::repeated::{Repeated, many};
 use crate::single::{
     direction, expect, fault, is_keyword, is_name, is_next, is_other_type, keyword, name, word,
 };
-use crate::token::{Keyword, Token, Word};
 use crate::tree::{Declaration, Name, Variables};
+use fcl_tokens::{Keyword, Token, Word};
 use fz_list::List;
 use std::alloc::Global;
 

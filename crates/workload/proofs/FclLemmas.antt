@@ -7,11 +7,13 @@ use Rattle.std.specs.Prelude.{codes, is_none}
 use Rattle.std.specs.Str.{str_to_ascii_lowercase}
 use Rattle.std.proofs.lemmas.Bool.{and_parts}
 use Rattle.fuzzy_meaning.specs.declared.block.Rule.{Rule}
+use Rattle.fcl_tokens.specs.Cuts.{CutsAreTokens}
+use Rattle.fcl_tokens.specs.Lexing.{Lexed, colon_piece, delimiter_piece, lexed, number_len, number_piece, open_piece}
+use Rattle.fcl_tokens.specs.Lexing.{point_piece, slash_piece, tokenization, word_token}
+use Rattle.fcl_tokens.specs.declared.token.Token.{Token}
 use Rattle.fcl_syntax.specs.Annotations.{IsClean, Sym, tokens_of, Spells}
-use Rattle.fcl_syntax.specs.{Cuts.CutsAreTokens, Grammar.block_text, Text.SpellsTree, View.view}
-use Rattle.fcl_syntax.specs.Lexing.{Lexed, colon_piece, delimiter_piece, lexed, number_len, number_piece, open_piece}
-use Rattle.fcl_syntax.specs.Lexing.{point_piece, slash_piece, tokenization, word_token}
-use Rattle.fcl_syntax.specs.declared.{fault.Kind.Kind, token.Token.Token, tree.Rule.Rule as RuleNode}
+use Rattle.fcl_syntax.specs.{Grammar.block_text, Text.SpellsTree, View.view}
+use Rattle.fcl_syntax.specs.declared.{fault.Kind.Kind, tree.Rule.Rule as RuleNode}
 use Rattle.fcl_check.specs.Faults.{first_fault, kinds, mistaken_in, mistaken_section, unknown, unknown_in}
 use Rattle.fcl_check.specs.Faults.{unknown_section, wrong_side}
 use Rattle.fcl_check.specs.Loaded.{IsBlockOf, IsInputOf, IsOutputOf, IsRuleOf, IsTermOf}

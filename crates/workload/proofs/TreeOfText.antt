@@ -1,9 +1,9 @@
 -- The tree that the FCL text of a workload spells. Its offsets do not hang on the shift.
 use Rattle.std.specs.Prelude.{ℕ, zero, suc, ◌+◌, ◌*◌, ◌==◌, Bool, true, false, List, [], ◌∷◌, nat_lt, if◌then◌else◌}
 use Rattle.std.specs.Prelude.{None}
+use Rattle.fcl_tokens.specs.Tokens.{amount_of}
+use Rattle.fcl_tokens.specs.declared.token.Word.TheVariants as word
 use Rattle.fcl_syntax.specs.Grammar.{is, no_nots, more_nots, and_of, no_ands, or_of}
-use Rattle.fcl_syntax.specs.Tokens.{amount_of}
-use Rattle.fcl_syntax.specs.declared.token.Word.TheVariants as word
 use Rattle.fcl_syntax.specs.declared.{tree.Declaration.Declaration, tree.Defuzzify.Defuzzify}
 use Rattle.fcl_syntax.specs.declared.tree.DefuzzyLine.{DefuzzyLine}
 use Rattle.fcl_syntax.specs.declared.tree.DefuzzyLine.TheVariants as defuzzy

@@ -3,7 +3,7 @@ ghost use Rattle.workload.specs.Laws.{DrawnBlocksAreWithinLimits, DrawnTextsSpel
 ghost use Rattle.workload.specs.Laws.{WorkloadsAreOne};
 
 use fcl_check::laws::spelled_blocks_are_valid;
-use fcl_syntax::laws::cuts_are_tokens;
+use fcl_tokens::laws::cuts_are_tokens;
 
 /// The rules of a block that is drawn can be laid out.
 pub fn drawn_blocks_are_within_limits()

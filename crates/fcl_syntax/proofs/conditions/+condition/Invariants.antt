@@ -1,5 +1,5 @@
 use Rattle.std.proofs.Common.{length, [], ◌∷◌, ◌+◌, ◌*◌}
-use Rattle.fcl_syntax.specs.declared.token.Keyword.TheVariants as key
+use Rattle.fcl_tokens.specs.declared.token.Keyword.TheVariants as key
 use Rattle.fcl_syntax.specs.{TokenClasses.keyword_class, Readers.loop}
 use Rattle.fcl_syntax.specs.Reading.{and_in, behind_key_in, not_at}
 use Rattle.fcl_syntax.proofs.Run.{Going}

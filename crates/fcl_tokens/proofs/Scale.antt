@@ -6,9 +6,9 @@ use Rattle.std.specs.Prelude.{if◌then◌else◌, nat_lt, not}
 use Rattle.fz_num.specs.Decimals.{decimal, magnitude, signed, is_negative, without_sign, is_numeral, has_four_places}
 use Rattle.fz_num.specs.declared.{dec.Dec.Dec, dec.DecFault.DecFault}
 use Rattle.fz_num.specs.declared.dec.DecFault.TheVariants.{Shape, Places, Large}
-use Rattle.fcl_syntax.specs.Tokens.{amount_of}
-use Rattle.fcl_syntax.specs.declared.token.Amount.TheVariants as amount
-use Rattle.fcl_syntax.specs.{Scale.IsAmountInScale}
+use Rattle.fcl_tokens.specs.Tokens.{amount_of}
+use Rattle.fcl_tokens.specs.declared.token.Amount.TheVariants as amount
+use Rattle.fcl_tokens.specs.{Scale.IsAmountInScale}
 
 pub amount_scale : (d : Dec) → (neg_ℤ (pos 1000000000) ≤ℤ d.0) × (d.0 ≤ℤ pos 1000000000) → IsAmountInScale (amount_of d)
 amount_scale d h = first (int_eq d.0 (pos 0))

@@ -1,7 +1,7 @@
 use Rattle.std.proofs.Common.{◌<◌, length, arith}
-use Rattle.fcl_syntax.specs.Lexing.{tokenization}
-use Rattle.fcl_syntax.proofs.Cutting.{cut_skips, cut_takes, cut_fails, cut_done, positive, nothing}
-use Rattle.fcl_syntax.proofs.lexer.lex.Goals as goal
+use Rattle.fcl_tokens.specs.Lexing.{tokenization}
+use Rattle.fcl_tokens.proofs.Cutting.{cut_skips, cut_takes, cut_fails, cut_done, positive, nothing}
+use Rattle.fcl_tokens.proofs.lexer.lex.Goals as goal
 
 pub each-preserved-in-Skip : goal.each-preserved-in-Skip
 each-preserved-in-Skip c =

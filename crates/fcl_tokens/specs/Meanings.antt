@@ -1,10 +1,10 @@
 -- The words that have a meaning of their own.
 -- Reached by the promise.
 use Rattle.std.specs.Prelude.{ℕ, List, [], ◌∷◌, codes}
-use Rattle.fcl_syntax.specs.declared.token.Keyword.TheVariants as key
-use Rattle.fcl_syntax.specs.declared.token.Meaning.{Meaning}
-use Rattle.fcl_syntax.specs.declared.token.Meaning.TheVariants as meaning
-use Rattle.fcl_syntax.specs.declared.token.Word.TheVariants as word
+use Rattle.fcl_tokens.specs.declared.token.Keyword.TheVariants as key
+use Rattle.fcl_tokens.specs.declared.token.Meaning.{Meaning}
+use Rattle.fcl_tokens.specs.declared.token.Meaning.TheVariants as meaning
+use Rattle.fcl_tokens.specs.declared.token.Word.TheVariants as word
 
 abbrev pub meanings : List (List ℕ × Meaning)
 meanings =

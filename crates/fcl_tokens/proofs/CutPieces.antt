@@ -3,7 +3,7 @@ use Rattle.std.proofs.Common.{◌≡◌, ℕ, ◌+◌, ◌<◌, ◌≤◌, Bool,
 use Rattle.std.proofs.Common.{Some, None, Result, Ok, Err, refl, sym, ap, subst, ◌∙◌, append_assoc, arith, inl, inr}
 use Rattle.std.specs.Prelude.{◌==◌, ◌||◌, if◌then◌else◌, not}
 use Rattle.std.specs.Char.{is_ascii_digit}
-use Rattle.std.specs.List.{list_all, prefix_len, take_while}
+use Rattle.std.specs.List.{list_all, list_any, prefix_len, take_while}
 use Rattle.std.proofs.lemmas.Bool.{and_parts, eqb-true, eq-eqb, ne_eqb, both_ways, not-true, or_cases, cases_lt}
 use Rattle.std.proofs.lemmas.Bool.{cases_Bool}
 use Rattle.std.proofs.lemmas.List.{length-append, take-append-drop}
@@ -11,29 +11,33 @@ use Rattle.std.proofs.lemmas.List.Sums.{take_while-cons}
 use Rattle.std.proofs.Math.Seq.{drop-append_seam, take-append_seam, drop-append-add}
 use Rattle.fz_num.specs.Decimals.{decimal}
 use Rattle.fz_num.specs.declared.{dec.Dec.Dec, dec.DecFault.DecFault, dec.DecFault.TheVariants.Shape}
-use Rattle.fcl_syntax.specs.declared.lexer.LexKind.{LexKind}
-use Rattle.fcl_syntax.specs.declared.lexer.LexKind.TheVariants as kinds
-use Rattle.fcl_syntax.specs.declared.lexer.Piece.{Piece}
-use Rattle.fcl_syntax.specs.declared.lexer.Piece.TheVariants as piece
-use Rattle.fcl_syntax.specs.declared.token.Meaning.{Meaning}
-use Rattle.fcl_syntax.specs.declared.token.Meaning.TheVariants as meaning
-use Rattle.fcl_syntax.specs.declared.token.Token.{Token}
-use Rattle.fcl_syntax.specs.declared.token.Token.TheVariants as tok
-use Rattle.fcl_syntax.specs.{Meanings.meanings, TokenClasses.mem}
-use Rattle.fcl_syntax.specs.Tokens.{is_blank, is_name_start, is_name_byte, is_line_byte, starts_name, IsComment}
-use Rattle.fcl_syntax.specs.Tokens.{IsLineComment, IsName, IsDigits, IsPointed, IsNumber, amount_of, meaning_in}
-use Rattle.fcl_syntax.specs.Tokens.{IsToken, IsSpelling, IsTogether, IsLongest, IsFaulty, IsFront}
-use Rattle.fcl_syntax.specs.Lexing.{run, comment_end, comment_piece, has_fraction, number_len, decimal_piece}
-use Rattle.fcl_syntax.specs.Lexing.{number_piece, token_of, word_token, open_piece, slash_piece, point_piece}
-use Rattle.fcl_syntax.specs.Lexing.{colon_piece, delimiter_piece, piece_of}
-use Rattle.fcl_syntax.proofs.Cutting.{or_left, run_first}
-use Rattle.fcl_syntax.proofs.CutLists.{same_front, begins_with, all_in_run, run_ends, run_is, run_passes, run_splits}
-use Rattle.fcl_syntax.proofs.CutLists.{FirstEnd, comment_ends, comment_open, same_head, same_tail}
+use Rattle.fcl_tokens.specs.declared.lexer.LexKind.{LexKind}
+use Rattle.fcl_tokens.specs.declared.lexer.LexKind.TheVariants as kinds
+use Rattle.fcl_tokens.specs.declared.lexer.Piece.{Piece}
+use Rattle.fcl_tokens.specs.declared.lexer.Piece.TheVariants as piece
+use Rattle.fcl_tokens.specs.declared.token.Meaning.{Meaning}
+use Rattle.fcl_tokens.specs.declared.token.Meaning.TheVariants as meaning
+use Rattle.fcl_tokens.specs.declared.token.Token.{Token}
+use Rattle.fcl_tokens.specs.declared.token.Token.TheVariants as tok
+use Rattle.fcl_tokens.specs.Meanings.{meanings}
+use Rattle.fcl_tokens.specs.Tokens.{is_blank, is_name_start, is_name_byte, is_line_byte, starts_name, IsComment}
+use Rattle.fcl_tokens.specs.Tokens.{IsLineComment, IsName, IsDigits, IsPointed, IsNumber, amount_of, meaning_in}
+use Rattle.fcl_tokens.specs.Tokens.{IsToken, IsSpelling, IsTogether, IsLongest, IsFaulty, IsFront}
+use Rattle.fcl_tokens.specs.Lexing.{run, comment_end, comment_piece, has_fraction, number_len, decimal_piece}
+use Rattle.fcl_tokens.specs.Lexing.{number_piece, token_of, word_token, open_piece, slash_piece, point_piece}
+use Rattle.fcl_tokens.specs.Lexing.{colon_piece, delimiter_piece, piece_of}
+use Rattle.fcl_tokens.proofs.Cutting.{or_left, run_first}
+use Rattle.fcl_tokens.proofs.CutLists.{same_front, begins_with, all_in_run, run_ends, run_is, run_passes, run_splits}
+use Rattle.fcl_tokens.proofs.CutLists.{FirstEnd, comment_ends, comment_open, same_head, same_tail}
 
 -- ---- single bytes
 
 pub clash : (p : ℕ → Bool) (b n : ℕ) → b ≡ n → p b ≡ true → p n ≡ false → ⊥
 clash p b n e h f = both_ways (p b) (ap p e ∙ f) h
+
+-- whether a byte is one of these
+abbrev pub mem : ℕ → List ℕ → Bool
+mem b ns = list_any (λ (n : ℕ). b == n) ns
 
 -- what holds of none of the list does not hold of its member
 pub member : (p : ℕ → Bool) (ns : List ℕ) (b : ℕ) → mem b ns ≡ true → list_all (λ (n : ℕ). not (p n)) ns ≡ true
@@ -43,7 +47,7 @@ member p (n ∷ ns) b h all =
     go (member p ns b) (b == n) refl h (and_parts (not (p n)) (list_all (λ (n : ℕ). not (p n)) ns) all)
   where
     go : (mem b ns ≡ true → list_all (λ (n : ℕ). not (p n)) ns ≡ true → p b ≡ false) → (c : Bool) → (b == n) ≡ c
-        → (if c then true else mem b ns) ≡ true
+        → (c || mem b ns) ≡ true
         → (not (p n) ≡ true) × (list_all (λ (n : ℕ). not (p n)) ns ≡ true) → p b ≡ false
     go again true e h all = ap p (eqb-true b n e) ∙ not-true (p n) all.0
     go again false e h all = again h all.1

@@ -6,19 +6,19 @@ use Rattle.std.specs.List.{take_while}
 use Rattle.std.specs.Char.{is_ascii_digit}
 use Rattle.fz_num.specs.Decimals.{decimal}
 use Rattle.fz_num.specs.declared.{dec.Dec.Dec, dec.DecFault.DecFault, dec.DecFault.TheVariants.Shape}
-use Rattle.fcl_syntax.specs.declared.lexer.LexError.{LexError}
-use Rattle.fcl_syntax.specs.declared.lexer.LexError.TheVariants as errors
-use Rattle.fcl_syntax.specs.declared.lexer.LexFault.{LexFault}
-use Rattle.fcl_syntax.specs.declared.lexer.LexKind.TheVariants as kinds
-use Rattle.fcl_syntax.specs.declared.lexer.Piece.{Piece}
-use Rattle.fcl_syntax.specs.declared.lexer.Piece.TheVariants as piece
-use Rattle.fcl_syntax.specs.declared.token.Meaning.{Meaning}
-use Rattle.fcl_syntax.specs.declared.token.Meaning.TheVariants as meaning
-use Rattle.fcl_syntax.specs.declared.token.Token.{Token}
-use Rattle.fcl_syntax.specs.declared.token.Token.TheVariants as tok
-use Rattle.fcl_syntax.specs.Meanings.{meanings}
-use Rattle.fcl_syntax.specs.Tokens.{is_blank, meaning_in, is_name_start, amount_of, starts_name, is_line_byte}
-use Rattle.fcl_syntax.specs.Tokens.{is_name_byte}
+use Rattle.fcl_tokens.specs.declared.lexer.LexError.{LexError}
+use Rattle.fcl_tokens.specs.declared.lexer.LexError.TheVariants as errors
+use Rattle.fcl_tokens.specs.declared.lexer.LexFault.{LexFault}
+use Rattle.fcl_tokens.specs.declared.lexer.LexKind.TheVariants as kinds
+use Rattle.fcl_tokens.specs.declared.lexer.Piece.{Piece}
+use Rattle.fcl_tokens.specs.declared.lexer.Piece.TheVariants as piece
+use Rattle.fcl_tokens.specs.declared.token.Meaning.{Meaning}
+use Rattle.fcl_tokens.specs.declared.token.Meaning.TheVariants as meaning
+use Rattle.fcl_tokens.specs.declared.token.Token.{Token}
+use Rattle.fcl_tokens.specs.declared.token.Token.TheVariants as tok
+use Rattle.fcl_tokens.specs.Meanings.{meanings}
+use Rattle.fcl_tokens.specs.Tokens.{is_blank, meaning_in, is_name_start, amount_of, starts_name, is_line_byte}
+use Rattle.fcl_tokens.specs.Tokens.{is_name_byte}
 
 -- how long a run at the front is
 abbrev pub run : (ℕ → Bool) → List ℕ → ℕ

@@ -5,10 +5,10 @@ use Rattle.std.specs.{List.prefix_len, Prelude.◌||◌}
 use Rattle.std.proofs.lemmas.List.Folds.{length-prefix_len}
 use Rattle.std.proofs.lemmas.Bool.{eqb-true}
 use Rattle.std.proofs.lemmas.List.{append-nil, length-drop}
-use Rattle.fcl_syntax.specs.declared.{lexer.LexKind.LexKind, lexer.Piece.Piece}
-use Rattle.fcl_syntax.specs.declared.lexer.Piece.TheVariants as piece
-use Rattle.fcl_syntax.specs.declared.token.Token.{Token}
-use Rattle.fcl_syntax.specs.Lexing.{piece_of, run, lexed, Lexed, in_front, next_piece}
+use Rattle.fcl_tokens.specs.declared.{lexer.LexKind.LexKind, lexer.Piece.Piece}
+use Rattle.fcl_tokens.specs.declared.lexer.Piece.TheVariants as piece
+use Rattle.fcl_tokens.specs.declared.token.Token.{Token}
+use Rattle.fcl_tokens.specs.Lexing.{piece_of, run, lexed, Lexed, in_front, next_piece}
 
 abbrev pub fronted : List Token → List ℕ → Lexed → Lexed
 fronted ts ats (Ok l) = Ok (ts ++ l.0, ats ++ l.1)

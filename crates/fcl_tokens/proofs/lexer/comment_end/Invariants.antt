@@ -1,6 +1,6 @@
 use Rattle.std.proofs.Common.{◌≡◌, length, ◌+◌}
-use Rattle.fcl_syntax.specs.Lexing.{comment_end, shifted}
-use Rattle.fcl_syntax.proofs.lexer.comment_end.Given as goal
+use Rattle.fcl_tokens.specs.Lexing.{comment_end, shifted}
+use Rattle.fcl_tokens.proofs.lexer.comment_end.Given as goal
 
 abbrev pub invariant-each : goal.invariant-each
 invariant-each l = record

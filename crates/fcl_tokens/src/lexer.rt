@@ -3,12 +3,12 @@
 ghost use Rattle.std.specs.Prelude.{◌≡◌, ◌<◌, ◌≤◌, ◌+◌, length, map, IfOk, IfErr, IfSome, Ok};
 ghost use Rattle.std.specs.Char.{is_ascii_digit};
 ghost use Rattle.std.specs.Str.{str_eq_ignore_ascii_case};
-ghost use Rattle.fcl_syntax.specs.declared.lexer.LexError.TheVariants.{Memory};
-ghost use Rattle.fcl_syntax.specs.Tokens.{is_blank, is_name_start, is_name_byte, is_line_byte, starts_name};
-ghost use Rattle.fcl_syntax.specs.Tokens.{meaning_in, amount_of};
-ghost use Rattle.fcl_syntax.specs.Lexing.{run, comment_end, starts_close, has_fraction, number_len, word_token};
-ghost use Rattle.fcl_syntax.specs.Lexing.{number_piece, open_piece, slash_piece, point_piece, colon_piece};
-ghost use Rattle.fcl_syntax.specs.Lexing.{delimiter_piece, piece_of, tokenization, LexFails, PieceFits};
+ghost use Rattle.fcl_tokens.specs.declared.lexer.LexError.TheVariants.{Memory};
+ghost use Rattle.fcl_tokens.specs.Tokens.{is_blank, is_name_start, is_name_byte, is_line_byte, starts_name};
+ghost use Rattle.fcl_tokens.specs.Tokens.{meaning_in, amount_of};
+ghost use Rattle.fcl_tokens.specs.Lexing.{run, comment_end, starts_close, has_fraction, number_len, word_token};
+ghost use Rattle.fcl_tokens.specs.Lexing.{number_piece, open_piece, slash_piece, point_piece, colon_piece};
+ghost use Rattle.fcl_tokens.specs.Lexing.{delimiter_piece, piece_of, tokenization, LexFails, PieceFits};
 
 use crate::token::{Amount, MEANINGS, Meaning, Token, Word};
 use fz_num::{Dec, DecFault};
@@ -25,10 +25,12 @@ pub enum LexKind {
     Number(DecFault),
 }
 
-/// The first token fault, and where it stands.
+/// The first token fault of a text.
 #[derive(Clone, Copy, Debug, PartialEq, Eq)]
 pub struct LexFault {
+    /// What is wrong.
     pub kind: LexKind,
+    /// Where it stands: its offset in the text.
     pub at: u32,
 }
 
@@ -58,6 +60,7 @@ fn is_name_byte(b: u8) -> bool
     is_name_start(b) || b.is_ascii_digit()
 }
 
+/// How many letters, digits and `_` stand at the front: the length of a name that begins there.
 pub fn name_len(bytes: &[u8]) -> usize
     ensures value { result ≡ run is_name_byte bytes.now }
     ensures bound { result ≤ length bytes.now }
@@ -276,9 +279,12 @@ fn front_piece(at: u32, bytes: &[u8]) -> Piece
     delimiter_piece(at, first, &bytes[1..])
 }
 
+/// Why a call has no tokens.
 #[derive(Debug, Drop)]
 pub enum LexError {
+    /// Memory was wanting; the text may have a fault or none.
     Memory,
+    /// The text's first token fault.
     Fault(LexFault),
 }
 

@@ -1,7 +1,7 @@
 use Rattle.std.proofs.Common.{◌≡◌, length, ◌+◌}
-use Rattle.fcl_syntax.specs.Lexing.{tokenization}
-use Rattle.fcl_syntax.proofs.Cutting.{Cutting}
-use Rattle.fcl_syntax.proofs.lexer.lex.Given as goal
+use Rattle.fcl_tokens.specs.Lexing.{tokenization}
+use Rattle.fcl_tokens.proofs.Cutting.{Cutting}
+use Rattle.fcl_tokens.proofs.lexer.lex.Given as goal
 
 abbrev pub invariant-each : goal.invariant-each
 invariant-each l = record {

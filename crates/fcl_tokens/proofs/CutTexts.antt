@@ -4,15 +4,15 @@ use Rattle.std.proofs.Common.{Ok, Err, refl, sym, ap, subst, ◌∙◌, arith}
 use Rattle.std.specs.List.{filter_map, cons_option}
 use Rattle.std.proofs.lemmas.List.{length-append, length-drop}
 use Rattle.std.proofs.Math.Seq.{drop-append_seam}
-use Rattle.fcl_syntax.specs.declared.{lexer.LexFault.LexFault, lexer.LexKind.LexKind, lexer.Piece.Piece}
-use Rattle.fcl_syntax.specs.declared.lexer.Piece.TheVariants as piece
-use Rattle.fcl_syntax.specs.{declared.token.Token.Token, Cuts.CutsAreTokens}
-use Rattle.fcl_syntax.specs.Lexing.{Lexed, in_front, lexed, next_piece, piece_of, tokenization}
-use Rattle.fcl_syntax.specs.Tokens.{HasTokens, HasTokenFault, IsCut, IsFaulty, IsFront, IsSpelling, Lexeme}
-use Rattle.fcl_syntax.specs.Tokens.{place_before, places_of}
-use Rattle.fcl_syntax.proofs.CutLists.{same_front}
-use Rattle.fcl_syntax.proofs.CutSpellings.{no_fault_in_nothing, one_fault, one_spelling, some_bytes}
-use Rattle.fcl_syntax.proofs.CutPieces.{Found, PieceStands, piece_stands, together}
+use Rattle.fcl_tokens.specs.declared.{lexer.LexFault.LexFault, lexer.LexKind.LexKind, lexer.Piece.Piece}
+use Rattle.fcl_tokens.specs.declared.lexer.Piece.TheVariants as piece
+use Rattle.fcl_tokens.specs.{declared.token.Token.Token, Cuts.CutsAreTokens}
+use Rattle.fcl_tokens.specs.Lexing.{Lexed, in_front, lexed, next_piece, piece_of, tokenization}
+use Rattle.fcl_tokens.specs.Tokens.{HasTokens, HasTokenFault, IsCut, IsFaulty, IsFront, IsSpelling, Lexeme}
+use Rattle.fcl_tokens.specs.Tokens.{place_before, places_of}
+use Rattle.fcl_tokens.proofs.CutLists.{same_front}
+use Rattle.fcl_tokens.proofs.CutSpellings.{no_fault_in_nothing, one_fault, one_spelling, some_bytes}
+use Rattle.fcl_tokens.proofs.CutPieces.{Found, PieceStands, piece_stands, together}
 
 -- ---- from the cut to the text
 

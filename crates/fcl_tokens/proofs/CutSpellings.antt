@@ -9,22 +9,22 @@ use Rattle.std.proofs.lemmas.List.{append-nil, length-append}
 use Rattle.std.proofs.lemmas.List.Sums.{prefix_len-le-length}
 use Rattle.std.proofs.Math.Seq.{drop-append_seam, take-append_seam}
 use Rattle.fz_num.specs.{Decimals.decimal, declared.dec.Dec.Dec, declared.dec.DecFault.DecFault}
-use Rattle.fcl_syntax.specs.declared.lexer.LexKind.{LexKind}
-use Rattle.fcl_syntax.specs.declared.lexer.LexKind.TheVariants as kinds
-use Rattle.fcl_syntax.specs.declared.lexer.Piece.{Piece}
-use Rattle.fcl_syntax.specs.declared.lexer.Piece.TheVariants as piece
-use Rattle.fcl_syntax.specs.declared.token.Meaning.{Meaning}
-use Rattle.fcl_syntax.specs.declared.token.Meaning.TheVariants as meaning
-use Rattle.fcl_syntax.specs.declared.token.Token.{Token}
-use Rattle.fcl_syntax.specs.declared.token.Token.TheVariants as tok
-use Rattle.fcl_syntax.specs.Meanings.{meanings}
-use Rattle.fcl_syntax.specs.Tokens.{is_blank, is_name_start, is_name_byte, starts_name, IsName, IsDigits, IsPointed}
-use Rattle.fcl_syntax.specs.Tokens.{IsNumber, amount_of, meaning_in, IsToken, IsGap, IsSpelling, IsTogether, IsFaulty}
-use Rattle.fcl_syntax.specs.Lexing.{run, number_len, decimal_piece, number_piece, token_of, word_token, piece_of}
-use Rattle.fcl_syntax.specs.Lexing.{colon_piece, delimiter_piece, open_piece, point_piece}
-use Rattle.fcl_syntax.proofs.CutLists.{same_front, all_in_run, run_is}
-use Rattle.fcl_syntax.proofs.CutPieces.{blank_member, blanks, clash, digit_not_start, digits_most, member}
-use Rattle.fcl_syntax.proofs.CutPieces.{number_digit, number_front, units_are}
+use Rattle.fcl_tokens.specs.declared.lexer.LexKind.{LexKind}
+use Rattle.fcl_tokens.specs.declared.lexer.LexKind.TheVariants as kinds
+use Rattle.fcl_tokens.specs.declared.lexer.Piece.{Piece}
+use Rattle.fcl_tokens.specs.declared.lexer.Piece.TheVariants as piece
+use Rattle.fcl_tokens.specs.declared.token.Meaning.{Meaning}
+use Rattle.fcl_tokens.specs.declared.token.Meaning.TheVariants as meaning
+use Rattle.fcl_tokens.specs.declared.token.Token.{Token}
+use Rattle.fcl_tokens.specs.declared.token.Token.TheVariants as tok
+use Rattle.fcl_tokens.specs.Meanings.{meanings}
+use Rattle.fcl_tokens.specs.Tokens.{is_blank, is_name_start, is_name_byte, starts_name, IsName, IsDigits, IsPointed}
+use Rattle.fcl_tokens.specs.Tokens.{IsNumber, amount_of, meaning_in, IsToken, IsGap, IsSpelling, IsTogether, IsFaulty}
+use Rattle.fcl_tokens.specs.Lexing.{run, number_len, decimal_piece, number_piece, token_of, word_token, piece_of}
+use Rattle.fcl_tokens.specs.Lexing.{colon_piece, delimiter_piece, open_piece, point_piece}
+use Rattle.fcl_tokens.proofs.CutLists.{same_front, all_in_run, run_is}
+use Rattle.fcl_tokens.proofs.CutPieces.{blank_member, blanks, clash, digit_not_start, digits_most, member}
+use Rattle.fcl_tokens.proofs.CutPieces.{number_digit, number_front, units_are}
 
 -- ---- what stands together is not empty
 

@@ -1,6 +1,6 @@
 use Rattle.std.proofs.Common.{◌≡◌, length, map}
-use Rattle.fcl_syntax.specs.Tokens.{meaning_in}
-use Rattle.fcl_syntax.proofs.lexer.meaning.Given as goal
+use Rattle.fcl_tokens.specs.Tokens.{meaning_in}
+use Rattle.fcl_tokens.proofs.lexer.meaning.Given as goal
 
 abbrev pub invariant-loop-table : goal.invariant-loop-table
 invariant-loop-table l =

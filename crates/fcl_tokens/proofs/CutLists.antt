@@ -8,7 +8,7 @@ use Rattle.std.proofs.lemmas.List.{take-append-drop, take-append-le}
 use Rattle.std.proofs.lemmas.List.Folds.{length-prefix_len}
 use Rattle.std.proofs.lemmas.List.Sums.{take_while-cons}
 use Rattle.std.proofs.Math.Seq.{drop-append_seam, take-append_seam}
-use Rattle.fcl_syntax.specs.Lexing.{run, comment_end, shifted, starts_close}
+use Rattle.fcl_tokens.specs.Lexing.{run, comment_end, shifted, starts_close}
 
 -- ---- fronts of one text
 

@@ -1,8 +1,8 @@
 -- What the lexer cuts a text into is what the text has.
 -- Beside the promise.
 use Rattle.std.specs.Prelude.{◌≡◌, ℕ, ◌↔◌, List, Ok, Err}
-use Rattle.fcl_syntax.specs.declared.{lexer.LexKind.LexKind, token.Token.Token}
-use Rattle.fcl_syntax.specs.{Tokens.HasTokens, Tokens.HasTokenFault, Lexing.tokenization}
+use Rattle.fcl_tokens.specs.declared.{lexer.LexKind.LexKind, token.Token.Token}
+use Rattle.fcl_tokens.specs.{Tokens.HasTokens, Tokens.HasTokenFault, Lexing.tokenization}
 
 -- The lexer gives just the tokens of a text, and its places; and just its first token fault.
 pub record CutsAreTokens : Type 0 where

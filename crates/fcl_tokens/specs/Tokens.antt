@@ -8,16 +8,16 @@ use Rattle.std.specs.Ordering.{int_eq}
 use Rattle.std.specs.Str.{str_eq_ignore_ascii_case}
 use Rattle.fz_num.specs.Decimals.{decimal}
 use Rattle.fz_num.specs.declared.{dec.Dec.Dec, dec.DecFault.DecFault, dec.DecFault.TheVariants.Shape}
-use Rattle.fcl_syntax.specs.declared.lexer.LexKind.{LexKind}
-use Rattle.fcl_syntax.specs.declared.lexer.LexKind.TheVariants as kinds
-use Rattle.fcl_syntax.specs.declared.token.Amount.{Amount}
-use Rattle.fcl_syntax.specs.declared.token.Amount.TheVariants as amount
-use Rattle.fcl_syntax.specs.declared.token.Meaning.{Meaning}
-use Rattle.fcl_syntax.specs.declared.token.Meaning.TheVariants as meaning
-use Rattle.fcl_syntax.specs.declared.token.Token.{Token}
-use Rattle.fcl_syntax.specs.declared.token.Token.TheVariants as tok
-use Rattle.fcl_syntax.specs.declared.token.Word.TheVariants as word
-use Rattle.fcl_syntax.specs.Meanings.{meanings}
+use Rattle.fcl_tokens.specs.declared.lexer.LexKind.{LexKind}
+use Rattle.fcl_tokens.specs.declared.lexer.LexKind.TheVariants as kinds
+use Rattle.fcl_tokens.specs.declared.token.Amount.{Amount}
+use Rattle.fcl_tokens.specs.declared.token.Amount.TheVariants as amount
+use Rattle.fcl_tokens.specs.declared.token.Meaning.{Meaning}
+use Rattle.fcl_tokens.specs.declared.token.Meaning.TheVariants as meaning
+use Rattle.fcl_tokens.specs.declared.token.Token.{Token}
+use Rattle.fcl_tokens.specs.declared.token.Token.TheVariants as tok
+use Rattle.fcl_tokens.specs.declared.token.Word.TheVariants as word
+use Rattle.fcl_tokens.specs.Meanings.{meanings}
 
 -- ---- bytes
 

@@ -1,5 +1,0 @@
-use Rattle.fcl_syntax.proofs.CutTexts.{cuts_are_tokens_lem}
-use Rattle.fcl_syntax.proofs.laws.cuts_are_tokens.Goals as goal
-
-pub returns : goal.returns
-returns c = cuts_are_tokens_lem
