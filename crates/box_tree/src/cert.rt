@@ -13,7 +13,7 @@ pub struct Cert {
 }
 
 /// What the leaves of a certificate say.
-#[derive(Clone, Copy)]
+#[derive(Clone, Copy, PartialEq, Eq)]
 pub enum CertKind {
     /// Each leaf names for each output a rule, and how much of its truth is counted on.
     Named,

@@ -3,7 +3,7 @@ ghost use Rattle.std.specs.Prelude.{◌≡◌, ◌≤◌};
 ghost use Rattle.byte_scaling.specs.Widths.{parts, places};
 
 /// How many bits an answer has.
-#[derive(Clone, Copy)]
+#[derive(Clone, Copy, PartialEq, Eq)]
 pub enum Width {
     /// 8 bits: the quotient of the sums, rounded down.
     Byte,

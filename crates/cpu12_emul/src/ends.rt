@@ -6,7 +6,7 @@ use arrayvec::ArrayVec;
 
 /// What a step was: a plain instruction, a part of REV, REVW or WAV after which there is more, or a
 /// last part.
-#[derive(Clone, Copy, Drop)]
+#[derive(Clone, Copy, PartialEq, Eq, Drop)]
 pub enum Stepped {
     Plain,
     Part,

@@ -7,7 +7,7 @@ use crate::mnemonic::Mnemonic;
 
 /// The table in which an opcode stands: page 1, page 2 behind `$18`, or the postbytes of `TFR` behind
 /// `$B7` and of `ADDB` with an index behind `$EB` (CPU12 Reference Manual, appendix A).
-#[derive(Clone, Copy, Drop)]
+#[derive(Clone, Copy, PartialEq, Eq, Drop)]
 pub enum Page {
     One,
     Two,

@@ -4,7 +4,7 @@ ghost use Rattle.cpu12_isa.specs.Mnemonics.{text_of};
 
 /// The name of an operation (CPU12 Reference Manual, appendix A). `WAVR` names the instruction that goes on
 /// with a `WAV`.
-#[derive(Clone, Copy, Drop)]
+#[derive(Clone, Copy, PartialEq, Eq, Drop)]
 pub enum Mnemonic {
     Ldaa,
     Ldab,

@@ -16,7 +16,7 @@ pub enum Temps {
 }
 
 /// Whether an instruction is over after a part.
-#[derive(Clone, Copy, Drop)]
+#[derive(Clone, Copy, PartialEq, Eq, Drop)]
 pub enum PartEnd {
     More,
     Done,

@@ -5,7 +5,7 @@ ghost use Rattle.fcl_syntax.specs.declared.fault.ParseError.TheVariants.{Memory}
 
 use std::alloc::{AllocError, AllocFailed};
 
-#[derive(Clone, Copy, Debug, PartialEq, Eq)]
+#[derive(Clone, Copy)]
 pub enum Kind {
     Expected,
     Deep,
@@ -13,13 +13,13 @@ pub enum Kind {
 }
 
 /// A fault, and how many tokens are left at it.
-#[derive(Clone, Copy, Debug, PartialEq, Eq)]
+#[derive(Clone, Copy)]
 pub struct Fault {
     pub kind: Kind,
     pub left: usize,
 }
 
-#[derive(Debug, Drop)]
+#[derive(Drop)]
 pub enum ParseError {
     Memory,
     Fault(Fault),

@@ -15,7 +15,7 @@ use fz_num::{Dec, DecFault};
 use std::alloc::{AllocError, AllocFailed, Global};
 
 /// Why a text has no tokens.
-#[derive(Clone, Copy, Debug, PartialEq, Eq)]
+#[derive(Clone, Copy)]
 pub enum LexKind {
     /// A byte that begins no token.
     BadByte,
@@ -26,7 +26,7 @@ pub enum LexKind {
 }
 
 /// The first token fault of a text.
-#[derive(Clone, Copy, Debug, PartialEq, Eq)]
+#[derive(Clone, Copy)]
 pub struct LexFault {
     /// What is wrong.
     pub kind: LexKind,
@@ -280,7 +280,7 @@ fn front_piece(at: u32, bytes: &[u8]) -> Piece
 }
 
 /// Why a call has no tokens.
-#[derive(Debug, Drop)]
+#[derive(Drop)]
 pub enum LexError {
     /// Memory was wanting; the text may have a fault or none.
     Memory,

@@ -3,7 +3,7 @@
 use fz_num::Dec;
 
 /// A word that is never a name. Its case does not count.
-#[derive(Clone, Copy, Debug, PartialEq, Eq)]
+#[derive(Clone, Copy, PartialEq, Eq)]
 pub enum Keyword {
     FunctionBlock,
     EndFunctionBlock,
@@ -37,7 +37,7 @@ pub enum Keyword {
 
 /// What a name says where it stands in the place of a type, an operator or a method; anywhere
 /// else it is a name like the others.
-#[derive(Clone, Copy, Debug, PartialEq, Eq)]
+#[derive(Clone, Copy, PartialEq, Eq)]
 pub enum Word {
     Real,
     Min,
@@ -57,7 +57,7 @@ pub enum Word {
 }
 
 /// The value of a number without its sign. 0 and 1 stand apart, since they alone are degrees.
-#[derive(Clone, Copy, Debug, PartialEq, Eq)]
+#[derive(Clone, Copy, PartialEq, Eq)]
 pub enum Amount {
     Zero,
     One,
@@ -65,7 +65,7 @@ pub enum Amount {
 }
 
 /// A token. Those that a tree keeps carry their place in the text.
-#[derive(Clone, Copy, Debug, PartialEq, Eq)]
+#[derive(Clone, Copy, PartialEq, Eq)]
 pub enum Token {
     Word(u32, Keyword),
     Name(u32, Word),

@@ -21,7 +21,7 @@ pub struct Conjunction {
 }
 
 /// The instruction that evaluates the rules (CPU12 Reference Manual).
-#[derive(Clone, Copy)]
+#[derive(Clone, Copy, PartialEq, Eq)]
 pub enum Form {
     /// Rules without weights over slots that a byte can number.
     Rev,
