@@ -1,4 +1,4 @@
-//! What a row spells.
+//! What rows spell, and what reads it.
 ghost use Rattle.std.specs.Prelude.{◌≡◌, ◌↔◌, ◌≤◌, ℕ, List, IfOk, MatchOption, IsTrue};
 ghost use Rattle.csv.specs.Records.{fields_of};
 ghost use Rattle.cpu12_isa.specs.declared.instr.Write as isa;
@@ -16,19 +16,11 @@ const LAST_MOMENT: u32 = 1_000_000;
 
 /// What a row spells: a request of a plan, a post, or a level.
 pub(crate) trait Entry: Sized + Drop {
-    /// The fields that spell it, where it may be of so many samples.
-    ghost spells: { ℕ → List (List ℕ) → Self → Type 0 };
-
     /// What it writes.
     ghost written: { Self → List isa.Write };
 
     /// Which others may stand behind it.
     ghost not_after: { Self → Self → Type 0 };
-
-    /// The entry of a row.
-    fn read(alloc: Global, row: &ByteRecord, samples: u32) -> Result<Option<Self>, AllocError>
-        ensures { IfOk result (λ entry. MatchOption entry ((e : Self) → spells samples (fields_of row.now) e → ⊥)
-            (spells samples (fields_of row.now))) };
 
     /// What it writes, in order.
     fn writes(&self) -> &[Write]
@@ -39,6 +31,18 @@ pub(crate) trait Entry: Sized + Drop {
         ensures { IsTrue result ↔ not_after self.now other.now };
 }
 
+/// What reads the entries of rows: a private type, since an impl on an entry's public type would put csv
+/// into what every crate above reads.
+pub(crate) trait RowReader<E> {
+    /// Which fields spell which entry.
+    ghost spells: { Self → List (List ℕ) → E → Type 0 };
+
+    /// The entry of a row.
+    fn read(&self, alloc: Global, row: &ByteRecord) -> Result<Option<E>, AllocError>
+        ensures { IfOk result (λ entry. MatchOption entry ((e : E) → spells self.now (fields_of row.now) e → ⊥)
+            (spells self.now (fields_of row.now))) };
+}
+
 /// Whether the first of two samples with moments in them does not come after the second.
 pub(crate) fn is_no_later(first: (u32, u32), second: (u32, u32)) -> bool
     ensures { IsTrue result ↔ NoLaterThan first second }
@@ -47,13 +51,27 @@ pub(crate) fn is_no_later(first: (u32, u32), second: (u32, u32)) -> bool
 }
 
 impl Entry for Request {
-    ghost spells = { λ _. SpellsRequest };
-
     ghost written = { writes_by };
 
     ghost not_after = { NotAfter };
 
-    fn read(alloc: Global, row: &ByteRecord, _samples: u32) -> Result<Option<Request>, AllocError> {
+    fn writes(&self) -> &[Write] {
+        self.writes.as_slice()
+    }
+
+    fn is_not_after(&self, other: &Request) -> bool {
+        is_no_later((self.sample, self.moment), (other.sample, other.moment))
+    }
+}
+
+/// Reads the rows of a plan.
+#[derive(Drop)]
+pub(crate) struct RequestReader;
+
+impl RowReader<Request> for RequestReader {
+    ghost spells = { λ _. SpellsRequest };
+
+    fn read(&self, alloc: Global, row: &ByteRecord) -> Result<Option<Request>, AllocError> {
         match parts_in(alloc, row)? {
             Some(
                 Parts {
@@ -75,24 +93,32 @@ impl Entry for Request {
             None => Ok(None),
         }
     }
+}
+
+impl Entry for Post {
+    ghost written = { writes_in };
+
+    ghost not_after = { NoLater };
 
     fn writes(&self) -> &[Write] {
         self.writes.as_slice()
     }
 
-    fn is_not_after(&self, other: &Request) -> bool {
-        is_no_later((self.sample, self.moment), (other.sample, other.moment))
+    fn is_not_after(&self, other: &Post) -> bool {
+        self.moment <= other.moment
     }
 }
 
-impl Entry for Post {
-    ghost spells = { SpellsPost };
+/// Reads rows of posts, of so many samples.
+#[derive(Drop)]
+pub(crate) struct PostReader {
+    pub(crate) samples: u32,
+}
 
-    ghost written = { writes_in };
+impl RowReader<Post> for PostReader {
+    ghost spells = { λ reader. SpellsPost reader.samples };
 
-    ghost not_after = { NoLater };
-
-    fn read(alloc: Global, row: &ByteRecord, samples: u32) -> Result<Option<Post>, AllocError> {
+    fn read(&self, alloc: Global, row: &ByteRecord) -> Result<Option<Post>, AllocError> {
         match parts_in(alloc, row)? {
             Some(
                 Parts {
@@ -101,7 +127,7 @@ impl Entry for Post {
                     writes,
                 },
             ) => {
-                if moment <= LAST_MOMENT && sample <= samples {
+                if moment <= LAST_MOMENT && sample <= self.samples {
                     Ok(Some(Post {
                         moment,
                         sample,
@@ -113,13 +139,5 @@ impl Entry for Post {
             }
             None => Ok(None),
         }
-    }
-
-    fn writes(&self) -> &[Write] {
-        self.writes.as_slice()
-    }
-
-    fn is_not_after(&self, other: &Post) -> bool {
-        self.moment <= other.moment
     }
 }

@@ -8,7 +8,7 @@ ghost use Rattle.interrupt_plan.specs.Levels.{no_writes, numbers_of};
 ghost use Rattle.interrupt_plan.specs.{Rows.count_of, declared.levels.Level.Level as TheLevel};
 
 use crate::PlanFault;
-use crate::entry::{Entry, is_no_later};
+use crate::entry::{Entry, RowReader, is_no_later};
 use crate::reader::entries_of;
 use crate::row::{count_in, field_at};
 use arrayvec::ArrayVec;
@@ -100,15 +100,9 @@ fn level_in(row: &ByteRecord, fast: u32) -> Option<Level>
 }
 
 impl Entry for Level {
-    ghost spells = { SpellsLevel };
-
     ghost written = { no_writes };
 
     ghost not_after = { LevelNotAfter };
-
-    fn read(_alloc: Global, row: &ByteRecord, fast: u32) -> Result<Option<Level>, AllocError> {
-        Ok(level_in(row, fast))
-    }
 
     fn writes(&self) -> &[Write] {
         &[]
@@ -119,6 +113,20 @@ impl Entry for Level {
     }
 }
 
+/// Reads rows of levels, over so many fast samples.
+#[derive(Drop)]
+struct LevelReader {
+    fast: u32,
+}
+
+impl RowReader<Level> for LevelReader {
+    ghost spells = { λ reader. SpellsLevel reader.fast };
+
+    fn read(&self, _alloc: Global, row: &ByteRecord) -> Result<Option<Level>, AllocError> {
+        Ok(level_in(row, self.fast))
+    }
+}
+
 /// The levels that a text spells over so many fast samples: a row per level, with the slow sample and a
 /// moment in it, the fast sample that is answered there or 0 for none, and up to eight inner moments.
 pub fn read_levels(alloc: Global, text: &[u8], fast: u32) -> Result<Levels, PlanFault>
@@ -126,5 +134,5 @@ pub fn read_levels(alloc: Global, text: &[u8], fast: u32) -> Result<Levels, Plan
     ensures levels { IfOk result (SpellsLevels fast text.now) }
     ensures fault { IfErr result (λ f. f ≢ PlanFault.Memory → LevelsHaveFault fast text.now f) }
 {
-    entries_of(alloc, text, fast)
+    entries_of(alloc, text, &LevelReader { fast })
 }

@@ -5,7 +5,7 @@ ghost use Rattle.interrupt_plan.specs.{Plans.HasFault, Plans.Spells, Posts.Posts
 ghost use Rattle.interrupt_plan.specs.Rows.{AreFree, AreInOrder, FirstFault, HasFirstFault, RowFails, SpellAll};
 ghost use Rattle.interrupt_plan.specs.Rows.{SpellsText};
 
-use crate::entry::Entry;
+use crate::entry::{Entry, PostReader, RequestReader, RowReader};
 use crate::row::first_taken;
 use crate::{Plan, PlanFault, Posts};
 use csv::ByteRecord;
@@ -17,21 +17,21 @@ use std::alloc::Global;
 const MOST_ROWS: usize = 10000;
 
 /// The entry of a row with this number, behind those of the rows above it.
-fn next_entry<E: Entry>(
+fn next_entry<E: Entry, R: RowReader<E>>(
     alloc: Global,
     before: &[E],
     row: &ByteRecord,
     number: u32,
-    samples: u32,
+    reader: &R,
 ) -> Result<E, PlanFault>
-    ensures entry { IfOk result (E.spells samples (fields_of row.now)) }
+    ensures entry { IfOk result (R.spells reader.now (fields_of row.now)) }
     ensures free { IfOk result (λ e. AreFree (E.written e)) }
     ensures ascends { IfOk result (λ e. (front : Items E) (last : E)
         → before.now ≡ front ++ last ∷ [] → E.not_after last e) }
     ensures fault { IfErr result (λ f. f ≢ PlanFault.Memory
-        → RowFails (E.spells samples) E.written E.not_after before.now number (fields_of row.now) f) }
+        → RowFails (R.spells reader.now) E.written E.not_after before.now number (fields_of row.now) f) }
 {
-    let entry = match E::read(alloc, row, samples) {
+    let entry = match reader.read(alloc, row) {
         Ok(Some(entry)) => entry,
         Ok(None) => return Err(PlanFault::BadRow(number)),
         Err(_) => return Err(PlanFault::Memory),
@@ -46,23 +46,23 @@ fn next_entry<E: Entry>(
 }
 
 /// The entries of rows, up to the first row that fails.
-fn entries_in<E: Entry>(
+fn entries_in<E: Entry, R: RowReader<E>>(
     alloc: Global,
     rows: &[ByteRecord],
-    samples: u32,
+    reader: &R,
 ) -> Result<Vec<E>, PlanFault>
-    ensures entries { IfOk result (λ v. SpellAll (E.spells samples) (map fields_of rows.now) v.items) }
+    ensures entries { IfOk result (λ v. SpellAll (R.spells reader.now) (map fields_of rows.now) v.items) }
     ensures few { IfOk result (λ v. length rows.now < 10001) }
     ensures order { IfOk result (λ v. AreInOrder E.written E.not_after v.items) }
     ensures fault { IfErr result (λ f. f ≢ PlanFault.Memory
-        → FirstFault (E.spells samples) E.written E.not_after (map fields_of rows.now) f) }
+        → FirstFault (R.spells reader.now) E.written E.not_after (map fields_of rows.now) f) }
 {
     let mut entries = Vec::new(alloc);
     for (at, row) in rows.iter().enumerate() {
         if at == MOST_ROWS {
             return Err(PlanFault::TooMany);
         }
-        let entry = match next_entry(alloc, &entries, row, at as u32 + 1, samples) {
+        let entry = match next_entry(alloc, &entries, row, at as u32 + 1, reader) {
             Ok(entry) => entry,
             Err(fault) => return Err(fault),
         };
@@ -78,20 +78,20 @@ fn entries_in<E: Entry>(
 /// with two numbers and up to eight pairs of an address and a value, both hexadecimal. What `csv` does
 /// by default holds: empty lines are no rows, fields may be quoted, and a byte order mark at the start
 /// is skipped.
-pub(crate) fn entries_of<E: Entry>(
+pub(crate) fn entries_of<E: Entry, R: RowReader<E>>(
     alloc: Global,
     text: &[u8],
-    samples: u32,
+    reader: &R,
 ) -> Result<List<E>, PlanFault>
-    ensures entries { IfOk result (SpellsText (E.spells samples) (AreInOrder E.written E.not_after) text.now) }
+    ensures entries { IfOk result (SpellsText (R.spells reader.now) (AreInOrder E.written E.not_after) text.now) }
     ensures fault { IfErr result (λ f. f ≢ PlanFault.Memory
-        → HasFirstFault (E.spells samples) E.written E.not_after text.now f) }
+        → HasFirstFault (R.spells reader.now) E.written E.not_after text.now f) }
 {
     let rows = match first_rows(alloc, text) {
         Ok(rows) => rows,
         Err(_) => return Err(PlanFault::Memory),
     };
-    match entries_in(alloc, &rows, samples) {
+    match entries_in(alloc, &rows, reader) {
         Ok(entries) => Ok(List::new(entries)),
         Err(fault) => Err(fault),
     }
@@ -103,7 +103,7 @@ pub fn read_plan(alloc: Global, text: &[u8]) -> Result<Plan, PlanFault>
     ensures plan { IfOk result (Spells text.now) }
     ensures fault { IfErr result (λ f. f ≢ PlanFault.Memory → HasFault text.now f) }
 {
-    entries_of(alloc, text, 0)
+    entries_of(alloc, text, &RequestReader)
 }
 
 /// The posts that a text spells over so many samples: a row per post, with its moment, its sample and
@@ -113,5 +113,5 @@ pub fn read_posts(alloc: Global, text: &[u8], samples: u32) -> Result<Posts, Pla
     ensures posts { IfOk result (SpellsPosts samples text.now) }
     ensures fault { IfErr result (λ f. f ≢ PlanFault.Memory → PostsHaveFault samples text.now f) }
 {
-    entries_of(alloc, text, samples)
+    entries_of(alloc, text, &PostReader { samples })
 }
