@@ -130,6 +130,3 @@ impl<R: Files + Drop> Shelf for FileShelf<R> {
         Ok(())
     }
 }
-
-#[cfg(test)]
-mod tests;

@@ -67,6 +67,3 @@ impl<W: Write + Drop> Sink for StdSink<W> {
         }
     }
 }
-
-#[cfg(test)]
-mod tests;

@@ -1,5 +1,5 @@
 //! Tests of the program: what the commands that run firmware print, what those that make or judge one file print and
-//! write, and what is refused, with files that lie, and with reads, writes and puts that fail.
+//! write, what is refused, with files that lie, reads, writes and puts that fail, and real files.
 #![tactic(auto)]
 
 #[cfg(test)]
@@ -34,6 +34,10 @@ mod malicious;
 mod mrun;
 #[cfg(test)]
 mod reads;
+#[cfg(test)]
+mod real_files;
+#[cfg(test)]
+mod real_sinks;
 #[cfg(test)]
 mod refused;
 #[cfg(test)]
