@@ -1,5 +1,6 @@
 //! Tight Bounds of boxes over one input, and Bounds of their cells.
-ghost use Rattle.std.specs.Prelude.{IfOk};
+ghost use Rattle.std.specs.Prelude.{◌≡◌, IfOk, length};
+ghost use Rattle.error_bound.specs.Reaches.{IsBlockTable};
 ghost use Rattle.fuzzy_meaning.specs.Blocks.{IsValid};
 
 use super::blocks::block_of;
@@ -8,6 +9,7 @@ use cell_bounds::{CellAbove, cells_bounds, sure_cells_bounds};
 use error_bound::{BlockTable, BoxTable};
 use fuzzy_meaning::Block;
 use std::alloc::Global;
+use std::process::Abort;
 use std::test::Fail;
 use test_texts::{BACK, BLOCK, FRONT, HALF_WEIGHT, LATCH, MIDDLE};
 
@@ -65,6 +67,26 @@ fn joined(alloc: Global, parts: &[&str]) -> Result<Block, Fail>
     block_of(alloc, text.as_bytes())
 }
 
+/// Fails where a walk over the cells has another answer.
+fn is_walked(rt: &impl Abort, block: &Block, table: &BlockTable, walk: &Walked) -> Result<(), Fail>
+    requires block { IsValid block.now }
+    requires table { IsBlockTable block.now table.now }
+    requires input { length block.now.inputs ≡ 1 }
+{
+    let (from, to, parts, limit, wanted) = *walk;
+    assert!(rt; from <= to && 1 <= parts && parts <= 256 && limit <= 1_000_000);
+    let bytes = box_of(block, from, to);
+    match (cells_bounds(block, table, &bytes, parts, limit), wanted) {
+        (Ok(bounds), Ok(greatest)) => assert!(rt; bounds[0] == greatest),
+        (Err(CellAbove { bytes, out, bound }), Err((byte, count))) => {
+            assert!(rt; bytes.as_slice() == [byte].as_slice());
+            assert!(rt; out == 1 && bound == count);
+        }
+        _ => return Err(Fail::new("another answer")),
+    }
+    Ok(())
+}
+
 #[test]
 fn cells_have_bounds(rt: HostRuntime) -> Result<(), Fail> {
     for row in ROWS.iter() {
@@ -72,17 +94,8 @@ fn cells_have_bounds(rt: HostRuntime) -> Result<(), Fail> {
         assert!(rt; block.inputs.len() == 1);
         assert!(rt; block.outputs.len() == 1);
         let table = BlockTable::new(rt.alloc(), &block)?;
-        for (from, to, parts, limit, wanted) in row.walks {
-            assert!(rt; *from <= *to && 1 <= *parts && *parts <= 256 && *limit <= 1_000_000);
-            let bytes = box_of(&block, *from, *to);
-            match (cells_bounds(&block, &table, &bytes, *parts, *limit), wanted) {
-                (Ok(bounds), Ok(greatest)) => assert!(rt; bounds[0] == *greatest),
-                (Err(CellAbove { bytes, out, bound }), Err((byte, count))) => {
-                    assert!(rt; bytes.as_slice() == [*byte].as_slice());
-                    assert!(rt; out == 1 && bound == *count);
-                }
-                _ => return Err(Fail::new("another answer")),
-            }
+        for walk in row.walks {
+            is_walked(&rt, &block, &table, walk)?;
         }
     }
     Ok(())

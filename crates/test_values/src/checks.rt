@@ -36,6 +36,12 @@ fn sixteen_bits_have_a_smaller_error(rt: HostRuntime) -> Result<(), Fail> {
     let cert = read(rt.alloc(), HEATER)?;
     let errors = check16(rt.alloc(), &block, &cert)?;
     assert!(rt; errors.as_slice() == [15702].as_slice());
+    Ok(())
+}
+
+#[test]
+fn a_text_of_16_bits_tells_the_smaller_error(rt: HostRuntime) -> Result<(), Fail> {
+    let block = heater(rt.alloc())?;
     let text = b"FZC 2\nclaim 15702\nsplit 1 128\nleaf 1 127\nleaf 2 127\n";
     let errors = check_text16(rt.alloc(), &block, text)?;
     assert!(rt; errors.as_slice() == [15702].as_slice());
@@ -78,14 +84,20 @@ static REFUSED: [(&[u8], CheckFault); 8] = [
     ),
 ];
 
+/// Why the heater's certificate in a text is refused, once it is read.
+fn refusal(alloc: Global, text: &[u8]) -> Result<Option<CheckFault>, Fail>
+    requires { length text.now ≤ 1048576 }
+{
+    let cert = read(alloc, text)?;
+    Ok(check(alloc, &heater(alloc)?, &cert).err())
+}
+
 #[test]
 fn the_first_fault_of_a_certificate_is_told(rt: HostRuntime) -> Result<(), Fail> {
     for (text, fault) in REFUSED.iter() {
         assert!(rt; text.len() <= 1_048_576);
         assert!(rt; answer(rt.alloc(), text)? == Err(TextFault::Check(*fault)));
-        let cert = read(rt.alloc(), text)?;
-        let block = heater(rt.alloc())?;
-        assert!(rt; check(rt.alloc(), &block, &cert).err() == Some(*fault));
+        assert!(rt; refusal(rt.alloc(), text)? == Some(*fault));
     }
     Ok(())
 }

@@ -9,21 +9,31 @@ use test_texts::TWO_OUTPUTS;
 #[test]
 fn a_heater_is_halved_once(rt: HostRuntime) -> Result<(), Fail> {
     let alloc = rt.alloc();
-    let block = heater(alloc)?;
-    let cert = certify(alloc, &block, 20_000)?;
+    let cert = certify(alloc, &heater(alloc)?, 20_000)?;
     let text = b"FZC 1\nclaim 19609\nsplit 1 128\nleaf 1 127\nleaf 2 127\n";
     assert!(rt; write(alloc, &cert)?.as_slice() == text.as_slice());
-    let cert = certify16(alloc, &block, 16_000)?;
+    Ok(())
+}
+
+#[test]
+fn a_heater_of_16_bits_is_halved_once(rt: HostRuntime) -> Result<(), Fail> {
+    let alloc = rt.alloc();
+    let cert = certify16(alloc, &heater(alloc)?, 16_000)?;
     let text = b"FZC 2\nclaim 15702\nsplit 1 128\nleaf 1 127\nleaf 2 127\n";
     assert!(rt; write16(alloc, &cert)?.as_slice() == text.as_slice());
     Ok(())
 }
 
 #[test]
-fn a_target_is_not_reached(rt: HostRuntime) -> Result<(), Fail> {
+fn a_target_wants_too_many_leaves(rt: HostRuntime) -> Result<(), Fail> {
     let block = block_of(rt.alloc(), TWO_OUTPUTS.as_bytes())?;
     let stop = certify(rt.alloc(), &block, 13_757).err();
     assert!(rt; stop == Some(NotReached::LeafLimit));
+    Ok(())
+}
+
+#[test]
+fn a_cell_is_above_a_target(rt: HostRuntime) -> Result<(), Fail> {
     let block = heater(rt.alloc())?;
     match certify(rt.alloc(), &block, 5_000) {
         Err(NotReached::Cell(bytes, output, bound)) => {
