@@ -4,8 +4,8 @@ use Rattle.std.proofs.Common.{mul-le-mul_right, le_of_mul-le-mul_right, mul-pos}
 use native.Mathlib.Nat.{mul-sub}
 use Rattle.std.proofs.lemmas.Bool.{cases_lt}
 use Rattle.std.proofs.lemmas.Bool.Decides.{nat_tests}
-use Rattle.fz_num.specs.Fractions.{Fraction, IsProper, AtMost, lesser, greater, one_minus, one, up_div, IsNear, gap}
-use Rattle.fz_num.specs.Fractions.{Quotient, IsClose}
+use Rattle.fz_num.specs.Fractions.{Fraction, IsProper, AtMost, lesser, greater, one_minus, one, up_div, IsNear}
+use Rattle.fz_num.specs.Fractions.{rise, fall, Quotient, IsClose}
 
 pub AtMost-refl : (f : Fraction) → AtMost f f
 AtMost-refl f = record { cross = omega arith }
@@ -86,35 +86,37 @@ up_div-le a b e h le = ⊎_elim
     absurd (omega arith))
     (cases_lt (up_div a b) (e + 1))
 
-pub gap-near : (t g : ℕ) (f : Fraction) → 0 < f.den → IsNear t g f (gap t g f)
-gap-near t g f h =
+pub sides-near : (t g : ℕ) (f : Fraction) → 0 < f.den → IsNear t g f (rise t g f) (fall t g f)
+sides-near t g f h =
     let x = f.num * 255 in
     let y = g * f.den in
-    let p = le-up_div ((x - y + (y - x)) * t) (255 * f.den) (mul-pos (omega arith) h) in
-    let u : x * t ≤ (y + (x - y + (y - x))) * t = mul-le-mul_right t (omega arith) in
-    let d : y * t ≤ (x + (x - y + (y - x))) * t = mul-le-mul_right t (omega arith) in
+    let whole : 0 < 255 * f.den = mul-pos (omega arith) h in
+    let u = le-up_div ((x - y) * t) (255 * f.den) whole in
+    let d = le-up_div ((y - x) * t) (255 * f.den) whole in
+    let a : x * t ≤ (y + (x - y)) * t = mul-le-mul_right t (omega arith) in
+    let b : y * t ≤ (x + (y - x)) * t = mul-le-mul_right t (omega arith) in
     record { up = omega arith; down = omega arith }
 
-pub gap-least : (t g : ℕ) (f : Fraction) (e : ℕ) → 0 < f.den → IsNear t g f e → gap t g f ≤ e
-gap-least t g f e h near =
+pub rise-least : (t g : ℕ) (f : Fraction) (r d : ℕ) → 0 < f.den → IsNear t g f r d → rise t g f ≤ r
+rise-least t g f r d h near =
     let x = f.num * 255 in
     let y = g * f.den in
-    up_div-le ((x - y + (y - x)) * t) (255 * f.den) e (mul-pos (omega arith) h)
-    (omega (arith, mul-sub t x y, mul-sub t y x))
+    up_div-le ((x - y) * t) (255 * f.den) r (mul-pos (omega arith) h)
+    (let u = near.up in omega (arith, mul-sub t x y))
 
--- a gap is at most 1
-pub gap-small : (t g : ℕ) (f : Fraction) → 0 < f.den → f.num ≤ f.den → g ≤ 255 → gap t g f ≤ t
-gap-small t g f h le small =
-    let up : f.num * (255 * t) ≤ f.den * (255 * t) = mul-le-mul_right (255 * t) le in
-    let down : g * (f.den * t) ≤ 255 * (f.den * t) = mul-le-mul_right (f.den * t) small in
-    gap-least t g f t h (record { up = omega arith; down = omega arith })
+pub fall-least : (t g : ℕ) (f : Fraction) (r d : ℕ) → 0 < f.den → IsNear t g f r d → fall t g f ≤ d
+fall-least t g f r d h near =
+    let x = f.num * 255 in
+    let y = g * f.den in
+    up_div-le ((y - x) * t) (255 * f.den) d (mul-pos (omega arith) h)
+    (let u = near.down in omega (arith, mul-sub t y x))
 
 -- the two halves
-pub record Under (t g : ℕ) (f : Fraction) (e : ℕ) : Type 0 where
-  pub up : f.num * 255 * t ≤ g * f.den * t + e * 255 * f.den
+record Under (t g : ℕ) (f : Fraction) (r : ℕ) : Type 0 where
+  pub up : f.num * 255 * t ≤ g * f.den * t + r * 255 * f.den
 
-pub record Over (t g : ℕ) (f : Fraction) (e : ℕ) : Type 0 where
-  pub down : g * f.den * t ≤ f.num * 255 * t + e * 255 * f.den
+record Over (t g : ℕ) (f : Fraction) (d : ℕ) : Type 0 where
+  pub down : g * f.den * t ≤ f.num * 255 * t + d * 255 * f.den
 
 under_of : (t g e : ℕ) (f h : Fraction) → IsProper h → AtMost f h → Under t g h e → Under t g f e
 under_of t g e f h ph b nh =
@@ -143,56 +145,70 @@ over_more t g g' e e' f a b n =
     let q : e * (255 * f.den) ≤ e' * (255 * f.den) = mul-le-mul_right (255 * f.den) b in
     record { down = let h = n.down in omega arith }
 
-under : (t g : ℕ) (f : Fraction) (e : ℕ) → IsNear t g f e → Under t g f e
-under t g f e n = record { up = n.up }
+under : (t g : ℕ) (f : Fraction) (r d : ℕ) → IsNear t g f r d → Under t g f r
+under t g f r d n = record { up = n.up }
 
-above : (t g : ℕ) (f : Fraction) (e : ℕ) → IsNear t g f e → Over t g f e
-above t g f e n = record { down = n.down }
+above : (t g : ℕ) (f : Fraction) (r d : ℕ) → IsNear t g f r d → Over t g f d
+above t g f r d n = record { down = n.down }
 
-both : (t g : ℕ) (f : Fraction) (e : ℕ) → Under t g f e → Over t g f e → IsNear t g f e
-both t g f e a b = record { up = a.up; down = b.down }
+both : (t g : ℕ) (f : Fraction) (r d : ℕ) → Under t g f r → Over t g f d → IsNear t g f r d
+both t g f r d a b = record { up = a.up; down = b.down }
 
-pub IsNear-lesser : (t g1 g2 e1 e2 : ℕ) (f1 f2 : Fraction) → IsProper f1 → IsProper f2 → IsNear t g1 f1 e1
-    → IsNear t g2 f2 e2 → IsNear t (min g1 g2) (lesser f1 f2) (max e1 e2)
-IsNear-lesser t g1 g2 e1 e2 f1 f2 p1 p2 n1 n2 =
-    by_lesser (λ f. IsNear t (min g1 g2) f (max e1 e2)) f1 f2 (λ l. one_of g1 g2 e1 e2 f1 f2 p2 n1 n2 l)
-    (λ l. swapped (one_of g2 g1 e2 e1 f2 f1 p1 n2 n1 l))
+near_same : {t g g' r r' d d' : ℕ} {f : Fraction} → g ≡ g' → r ≡ r' → d ≡ d' → IsNear t g f r d → IsNear t g' f r' d'
+near_same {t} {g = g} {r = r} {r' = r'} {d = d} {d' = d'} {f = f} a b c n =
+    subst (λ m. IsNear t m f r' d') a (subst (λ m. IsNear t g f m d') b (subst (λ m. IsNear t g f r m) c n))
+
+pub IsNear-more : (t g r r' d d' : ℕ) (f : Fraction) → r ≤ r' → d ≤ d' → IsNear t g f r d → IsNear t g f r' d'
+IsNear-more t g r r' d d' f a b n =
+    both t g f r' d' (under_more t g g r r' f (omega arith) a (under t g f r d n))
+    (over_more t g g d d' f (omega arith) b (above t g f r d n))
+
+-- between two fractions the rise of the upper one and the fall of the lower one serve
+pub IsNear-between : (t g r d r' d' : ℕ) (l f h : Fraction) → IsProper l → IsProper h → AtMost l f → AtMost f h
+    → IsNear t g l r' d → IsNear t g h r d' → IsNear t g f r d
+IsNear-between t g r d r' d' l f h pl ph a b nl nh =
+    both t g f r d (under_of t g r f h ph b (under t g h r d' nh)) (over_of t g d f l pl a (above t g l r' d nl))
+
+pub IsNear-lesser : (t g1 g2 r1 r2 d1 d2 : ℕ) (f1 f2 : Fraction) → IsProper f1 → IsProper f2 → IsNear t g1 f1 r1 d1
+    → IsNear t g2 f2 r2 d2 → IsNear t (min g1 g2) (lesser f1 f2) (max r1 r2) (max d1 d2)
+IsNear-lesser t g1 g2 r1 r2 d1 d2 f1 f2 p1 p2 n1 n2 =
+    by_lesser (λ f. IsNear t (min g1 g2) f (max r1 r2) (max d1 d2)) f1 f2
+    (λ l. one_of g1 g2 r1 r2 d1 d2 f1 f2 p2 n1 n2 l) (λ l. swapped (one_of g2 g1 r2 r1 d2 d1 f2 f1 p1 n2 n1 l))
   where
-    one_of : (g1 g2 e1 e2 : ℕ) (f1 f2 : Fraction) → IsProper f2 → IsNear t g1 f1 e1 → IsNear t g2 f2 e2 → AtMost f1 f2
-        → IsNear t (min g1 g2) f1 (max e1 e2)
-    one_of g1 g2 e1 e2 f1 f2 p2 n1 n2 l = both t (min g1 g2) f1 (max e1 e2)
-        (⊎_elim (λ (h : g2 < g1). under_more t g2 (min g1 g2) e2 (max e1 e2) f1 (omega arith) (omega arith)
-        (under_of t g2 e2 f1 f2 p2 l (under t g2 f2 e2 n2)))
-        (λ (h : g1 ≤ g2). under_more t g1 (min g1 g2) e1 (max e1 e2) f1 (omega arith) (omega arith)
-        (under t g1 f1 e1 n1)) (cases_lt g2 g1))
-        (over_more t g1 (min g1 g2) e1 (max e1 e2) f1 (omega arith) (omega arith) (above t g1 f1 e1 n1))
+    one_of : (g1 g2 r1 r2 d1 d2 : ℕ) (f1 f2 : Fraction) → IsProper f2 → IsNear t g1 f1 r1 d1 → IsNear t g2 f2 r2 d2
+        → AtMost f1 f2 → IsNear t (min g1 g2) f1 (max r1 r2) (max d1 d2)
+    one_of g1 g2 r1 r2 d1 d2 f1 f2 p2 n1 n2 l = both t (min g1 g2) f1 (max r1 r2) (max d1 d2)
+        (⊎_elim (λ (h : g2 < g1). under_more t g2 (min g1 g2) r2 (max r1 r2) f1 (omega arith) (omega arith)
+        (under_of t g2 r2 f1 f2 p2 l (under t g2 f2 r2 d2 n2)))
+        (λ (h : g1 ≤ g2). under_more t g1 (min g1 g2) r1 (max r1 r2) f1 (omega arith) (omega arith)
+        (under t g1 f1 r1 d1 n1)) (cases_lt g2 g1))
+        (over_more t g1 (min g1 g2) d1 (max d1 d2) f1 (omega arith) (omega arith) (above t g1 f1 r1 d1 n1))
 
-    swapped : IsNear t (min g2 g1) f2 (max e2 e1) → IsNear t (min g1 g2) f2 (max e1 e2)
-    swapped n = let a : min g2 g1 ≡ min g1 g2 = omega arith in let b : max e2 e1 ≡ max e1 e2 = omega arith in
-        subst (λ g. IsNear t g f2 (max e1 e2)) a (subst (λ e. IsNear t (min g2 g1) f2 e) b n)
+    swapped : IsNear t (min g2 g1) f2 (max r2 r1) (max d2 d1) → IsNear t (min g1 g2) f2 (max r1 r2) (max d1 d2)
+    swapped n = near_same (omega arith) (omega arith) (omega arith) n
 
-pub IsNear-greater : (t g1 g2 e1 e2 : ℕ) (f1 f2 : Fraction) → IsProper f1 → IsProper f2 → IsNear t g1 f1 e1
-    → IsNear t g2 f2 e2 → IsNear t (max g1 g2) (greater f1 f2) (max e1 e2)
-IsNear-greater t g1 g2 e1 e2 f1 f2 p1 p2 n1 n2 =
-    by_greater (λ f. IsNear t (max g1 g2) f (max e1 e2)) f1 f2 (λ l. one_of g1 g2 e1 e2 f1 f2 p2 n1 n2 l)
-    (λ l. swapped (one_of g2 g1 e2 e1 f2 f1 p1 n2 n1 l))
+pub IsNear-greater : (t g1 g2 r1 r2 d1 d2 : ℕ) (f1 f2 : Fraction) → IsProper f1 → IsProper f2 → IsNear t g1 f1 r1 d1
+    → IsNear t g2 f2 r2 d2 → IsNear t (max g1 g2) (greater f1 f2) (max r1 r2) (max d1 d2)
+IsNear-greater t g1 g2 r1 r2 d1 d2 f1 f2 p1 p2 n1 n2 =
+    by_greater (λ f. IsNear t (max g1 g2) f (max r1 r2) (max d1 d2)) f1 f2
+    (λ l. one_of g1 g2 r1 r2 d1 d2 f1 f2 p2 n1 n2 l) (λ l. swapped (one_of g2 g1 r2 r1 d2 d1 f2 f1 p1 n2 n1 l))
   where
-    one_of : (g1 g2 e1 e2 : ℕ) (f1 f2 : Fraction) → IsProper f2 → IsNear t g1 f1 e1 → IsNear t g2 f2 e2 → AtMost f2 f1
-        → IsNear t (max g1 g2) f1 (max e1 e2)
-    one_of g1 g2 e1 e2 f1 f2 p2 n1 n2 l = both t (max g1 g2) f1 (max e1 e2)
-        (under_more t g1 (max g1 g2) e1 (max e1 e2) f1 (omega arith) (omega arith) (under t g1 f1 e1 n1))
-        (⊎_elim (λ (h : g1 < g2). over_more t g2 (max g1 g2) e2 (max e1 e2) f1 (omega arith) (omega arith)
-        (over_of t g2 e2 f1 f2 p2 l (above t g2 f2 e2 n2)))
-        (λ (h : g2 ≤ g1). over_more t g1 (max g1 g2) e1 (max e1 e2) f1 (omega arith) (omega arith)
-        (above t g1 f1 e1 n1)) (cases_lt g1 g2))
+    one_of : (g1 g2 r1 r2 d1 d2 : ℕ) (f1 f2 : Fraction) → IsProper f2 → IsNear t g1 f1 r1 d1 → IsNear t g2 f2 r2 d2
+        → AtMost f2 f1 → IsNear t (max g1 g2) f1 (max r1 r2) (max d1 d2)
+    one_of g1 g2 r1 r2 d1 d2 f1 f2 p2 n1 n2 l = both t (max g1 g2) f1 (max r1 r2) (max d1 d2)
+        (under_more t g1 (max g1 g2) r1 (max r1 r2) f1 (omega arith) (omega arith) (under t g1 f1 r1 d1 n1))
+        (⊎_elim (λ (h : g1 < g2). over_more t g2 (max g1 g2) d2 (max d1 d2) f1 (omega arith) (omega arith)
+        (over_of t g2 d2 f1 f2 p2 l (above t g2 f2 r2 d2 n2)))
+        (λ (h : g2 ≤ g1). over_more t g1 (max g1 g2) d1 (max d1 d2) f1 (omega arith) (omega arith)
+        (above t g1 f1 r1 d1 n1)) (cases_lt g1 g2))
 
-    swapped : IsNear t (max g2 g1) f2 (max e2 e1) → IsNear t (max g1 g2) f2 (max e1 e2)
-    swapped n = let a : max g2 g1 ≡ max g1 g2 = omega arith in let b : max e2 e1 ≡ max e1 e2 = omega arith in
-        subst (λ g. IsNear t g f2 (max e1 e2)) a (subst (λ e. IsNear t (max g2 g1) f2 e) b n)
+    swapped : IsNear t (max g2 g1) f2 (max r2 r1) (max d2 d1) → IsNear t (max g1 g2) f2 (max r1 r2) (max d1 d2)
+    swapped n = near_same (omega arith) (omega arith) (omega arith) n
 
-pub IsNear-one_minus : (t g e : ℕ) (f : Fraction) → g ≤ 255 → AtMost f one → IsNear t g f e
-    → IsNear t (255 - g) (one_minus f) e
-IsNear-one_minus t g e f hg hf n = record {
+-- 1 minus changes rise and fall
+pub IsNear-one_minus : (t g r d : ℕ) (f : Fraction) → g ≤ 255 → AtMost f one → IsNear t g f r d
+    → IsNear t (255 - g) (one_minus f) d r
+IsNear-one_minus t g r d f hg hf n = record {
   up = let h = n.down in omega (arith, mul-sub (255 * t) f.den f.num, mul-sub (f.den * t) 255 g, lift);
   down = let h = n.up in omega (arith, mul-sub (255 * t) f.den f.num, mul-sub (f.den * t) 255 g, lift);
 }

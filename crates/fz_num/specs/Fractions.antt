@@ -53,14 +53,18 @@ times f w = over (f.num * w) (f.den * 10000)
 abbrev pub up_div : ℕ → ℕ → ℕ
 up_div a b = (a + (b - 1)) / b
 
--- |g/255 - f| is at most e parts of t
-pub record IsNear (t g : ℕ) (f : Fraction) (e : ℕ) : Type 0 where
-  pub up : f.num * 255 * t ≤ g * f.den * t + e * 255 * f.den
-  pub down : g * f.den * t ≤ f.num * 255 * t + e * 255 * f.den
+-- f is at most `rise` parts of t above g/255, and at most `fall` below
+pub record IsNear (t g : ℕ) (f : Fraction) (rise fall : ℕ) : Type 0 where
+  pub up : f.num * 255 * t ≤ g * f.den * t + rise * 255 * f.den
+  pub down : g * f.den * t ≤ f.num * 255 * t + fall * 255 * f.den
 
--- |g/255 - f| in parts of t, rounded up
-abbrev pub gap : ℕ → ℕ → Fraction → ℕ
-gap t g f = up_div ((f.num * 255 - g * f.den + (g * f.den - f.num * 255)) * t) (255 * f.den)
+-- how far f is above g/255 in parts of t, rounded up
+abbrev pub rise : ℕ → ℕ → Fraction → ℕ
+rise t g f = up_div ((f.num * 255 - g * f.den) * t) (255 * f.den)
+
+-- and below
+abbrev pub fall : ℕ → ℕ → Fraction → ℕ
+fall t g f = up_div ((g * f.den - f.num * 255) * t) (255 * f.den)
 
 -- of a fraction that is not negative
 abbrev pub fraction_of : Frac → Fraction

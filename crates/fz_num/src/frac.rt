@@ -1,6 +1,6 @@
 //! Fractions from 0 to 1, and lengths.
 ghost use Rattle.std.specs.Prelude.{◌≡◌, ℕ, ◌*◌, ◌/◌, ◌⊎◌, ◌<◌, ◌≤◌, ◌≤ℤ◌, pos, unsigned_abs};
-ghost use Rattle.fz_num.specs.Fractions.{over, order, lesser, greater, one_minus, times, gap, IsNear};
+ghost use Rattle.fz_num.specs.Fractions.{over, order, lesser, greater, one_minus, times, up_div, rise, fall, IsNear};
 
 use crate::dec::Dec;
 use std::cmp::Ordering;
@@ -94,14 +94,28 @@ impl Frac {
         Frac::over(self.num as u64 * weight.0 as u64, self.den as u64 * 10_000)
     }
 
-    /// |g/255 - f|, rounded up.
-    pub fn gap(g: u8, f: Frac) -> Nano
-        requires { IsTruth 10000000000000000 f }
-        ensures value { result.0 ≡ gap 1000000000 g (fraction_of f) }
-        ensures near { IsNear 1000000000 g (fraction_of f) result.0 }
-        ensures least { (e : ℕ) → IsNear 1000000000 g (fraction_of f) e → result.0 ≤ e }
+    /// How far it is above g/255, rounded up.
+    pub fn rise(self, g: u8) -> Nano
+        requires { IsTruth 10000000000000000 self }
+        ensures value { result.0 ≡ rise 1000000000 g (fraction_of self) }
+        ensures near { IsNear 1000000000 g (fraction_of self) result.0 (fall 1000000000 g (fraction_of self)) }
+        ensures small { result.0 ≤ 1000000000 }
+        ensures least { (r f : ℕ) → IsNear 1000000000 g (fraction_of self) r f → result.0 ≤ r }
     {
-        Nano(f.parts_from(g) as u64)
+        let over = (self.num as u128 * 255).saturating_sub(u128::from(g) * self.den as u128);
+        Nano(self.parts_of(over))
+    }
+
+    /// How far it is below g/255, rounded up.
+    pub fn fall(self, g: u8) -> Nano
+        requires { IsTruth 10000000000000000 self }
+        ensures value { result.0 ≡ fall 1000000000 g (fraction_of self) }
+        ensures near { IsNear 1000000000 g (fraction_of self) (rise 1000000000 g (fraction_of self)) result.0 }
+        ensures small { result.0 ≤ 1000000000 }
+        ensures least { (r f : ℕ) → IsNear 1000000000 g (fraction_of self) r f → result.0 ≤ f }
+    {
+        let under = (u128::from(g) * self.den as u128).saturating_sub(self.num as u128 * 255);
+        Nano(self.parts_of(under))
     }
 
     /// The fraction in parts of 10^9, rounded down.
@@ -112,14 +126,15 @@ impl Frac {
         Nano((self.num as u128 * BILLION / self.den as u128) as u64)
     }
 
-    fn parts_from(self, g: u8) -> u128
-        requires { IsTruth 10000000000000000 self }
-        ensures { result ≡ gap 1000000000 g (fraction_of self) }
+    /// A numerator over 255 times the denominator, at most 1, in parts of 10^9, rounded up.
+    fn parts_of(self, num: u128) -> u64
+        requires truth { IsTruth 10000000000000000 self }
+        requires num { num ≤ 255 * unsigned_abs self.den }
+        ensures value { result ≡ up_div (num * 1000000000) (255 * unsigned_abs self.den) }
+        ensures small { result ≤ 1000000000 }
     {
-        let den = self.den as u128;
-        let apart = (self.num as u128 * 255).abs_diff(u128::from(g) * den);
-        let whole = 255 * den;
-        (apart * BILLION + (whole - 1)) / whole
+        let whole = 255 * self.den as u128;
+        ((num * BILLION + (whole - 1)) / whole) as u64
     }
 
     /// The numerator over the other's denominator and its own. The two have 64 bits, so it is one product.
