@@ -6,8 +6,8 @@ use Rattle.std.specs.Prelude.{if◌then◌else◌, nat_le, ◌==◌, All, IsTrue
 use Rattle.std.proofs.lemmas.Bool.{cases_lt, leb-true, leb-false, le-leb, eq-eqb}
 use Rattle.std.proofs.lemmas.Bool.Decides.{nat_tests}
 use Rattle.fz_num.specs.Fractions.{over}
-use Rattle.cell_error.specs.declared.{ranges.MassRange.MassRange, ranges.Answer.Answer, errors.Cut.Cut}
-use Rattle.cell_error.specs.declared.errors.Cut.TheVariants.{Nowhere, From, UpTo, AtLeast, AtMost}
+use Rattle.cell_error.specs.declared.{ranges.MassRange.MassRange, ranges.Answer.Answer, cuts.Cut.Cut}
+use Rattle.cell_error.specs.declared.cuts.Cut.TheVariants.{Nowhere, From, UpTo, AtLeast, AtMost}
 use Rattle.cell_error.specs.Errors.{AreBetween, total, weighted, answer_of, IsWithin, Covers, IsCellError, IsRange}
 use Rattle.cell_error.specs.Cuts.{is_high, chosen, masses, IsErrorAt}
 use Rattle.cell_error.proofs.Tilts.{tilt_up, tilt_down}
@@ -19,22 +19,22 @@ use Rattle.cell_error.proofs.Withins.{step, top, bottom, within_up, within_down,
 abbrev IsUp : ℕ → ℕ → List MassRange → List ℕ → Type 0
 IsUp x y ts ms = x * weighted ts ms ≤ y * total ms
 
-up_of_test : (x y : ℕ) (ts : List MassRange) → IsUp x y ts (masses Nowhere ts)
-    → Each (λ c. IsUp x y ts (masses (From c) ts)) ts → IsUp x y ts (chosen (λ u. nat_le y (x * u)) ts)
-up_of_test x y ts none each =
+pub up_of_test : (Q : List ℕ → Type 0) (x y : ℕ) (ts : List MassRange) → Q (masses Nowhere ts)
+    → Each (λ c. Q (masses (From c) ts)) ts → Q (chosen (λ u. nat_le y (x * u)) ts)
+up_of_test Q x y ts none each =
     let p : ℕ → Bool = λ u. nat_le y (x * u) in
-    let P : ℕ → Type 0 = λ c. IsUp x y ts (masses (From c) ts) in
+    let P : ℕ → Type 0 = λ c. Q (masses (From c) ts) in
     let R : ℕ → ℕ → Type 0 = λ a b. a ≤ b in
     ⊎_elim
     (λ (n : Each (λ u. p u ≡ false) ts).
-    subst (IsUp x y ts) (sym (chosen_same p (is_high Nowhere) ts n)) none)
+    subst Q (sym (chosen_same p (is_high Nowhere) ts n)) none)
     (λ (f : First R P p ts).
     let c = f.at in
     let le : y ≤ x * c = leb-true y (x * c) f.holds in
     let a : Each (λ u. p u ≡ is_high (From c) u) ts =
     agree R (λ a. omega arith) (λ a b c k l. omega arith) (λ a b. up_or a b) P p (is_high (From c)) c
     (λ u l. (le-leb y (x * u) (on u c l le), le-leb c u l)) (λ u e. leb-true c u e) ts f.none_before in
-    subst (IsUp x y ts) (sym (chosen_same p (is_high (From c)) ts a)) f.good)
+    subst Q (sym (chosen_same p (is_high (From c)) ts a)) f.good)
     (first R (λ a. omega arith) (λ a b c k l. omega arith) (λ a b. up_or a b) P p ts each)
   where
     up_or : (a b : ℕ) → (a ≤ b) ⊎ (b ≤ a)
@@ -49,7 +49,7 @@ up_of x y ts none each d ms b =
     let p : ℕ → Bool = λ u. nat_le y (x * u) in
     let t = tilt_up x y d p (λ u e. leb-true y (x * u) e)
     (λ u e. let l = leb-false y (x * u) e in omega arith) ts ms b in
-    let s : x * weighted ts (chosen p ts) ≤ y * total (chosen p ts) = up_of_test x y ts none each in
+    let s : x * weighted ts (chosen p ts) ≤ y * total (chosen p ts) = up_of_test (IsUp x y ts) x y ts none each in
     let k : x * weighted ts (chosen p ts) * d ≤ y * total (chosen p ts) * d = mul-le-mul_right d s in
     omega arith
 
@@ -58,22 +58,22 @@ up_of x y ts none each d ms b =
 abbrev IsDown : ℕ → ℕ → List MassRange → List ℕ → Type 0
 IsDown x y ts ms = y * total ms ≤ x * weighted ts ms
 
-down_of_test : (x y : ℕ) (ts : List MassRange) → IsDown x y ts (masses Nowhere ts)
-    → Each (λ c. IsDown x y ts (masses (UpTo c) ts)) ts → IsDown x y ts (chosen (λ u. nat_le (x * u) y) ts)
-down_of_test x y ts none each =
+pub down_of_test : (Q : List ℕ → Type 0) (x y : ℕ) (ts : List MassRange) → Q (masses Nowhere ts)
+    → Each (λ c. Q (masses (UpTo c) ts)) ts → Q (chosen (λ u. nat_le (x * u) y) ts)
+down_of_test Q x y ts none each =
     let p : ℕ → Bool = λ u. nat_le (x * u) y in
-    let P : ℕ → Type 0 = λ c. IsDown x y ts (masses (UpTo c) ts) in
+    let P : ℕ → Type 0 = λ c. Q (masses (UpTo c) ts) in
     let R : ℕ → ℕ → Type 0 = λ a b. b ≤ a in
     ⊎_elim
     (λ (n : Each (λ u. p u ≡ false) ts).
-    subst (IsDown x y ts) (sym (chosen_same p (is_high Nowhere) ts n)) none)
+    subst Q (sym (chosen_same p (is_high Nowhere) ts n)) none)
     (λ (f : First R P p ts).
     let c = f.at in
     let le : x * c ≤ y = leb-true (x * c) y f.holds in
     let a : Each (λ u. p u ≡ is_high (UpTo c) u) ts =
     agree R (λ a. omega arith) (λ a b c k l. omega arith) (λ a b. down_or a b) P p (is_high (UpTo c)) c
     (λ u l. (le-leb (x * u) y (on u c l le), le-leb u c l)) (λ u e. leb-true u c e) ts f.none_before in
-    subst (IsDown x y ts) (sym (chosen_same p (is_high (UpTo c)) ts a)) f.good)
+    subst Q (sym (chosen_same p (is_high (UpTo c)) ts a)) f.good)
     (first R (λ a. omega arith) (λ a b c k l. omega arith) (λ a b. down_or a b) P p ts each)
   where
     down_or : (a b : ℕ) → (b ≤ a) ⊎ (a ≤ b)
@@ -89,7 +89,7 @@ down_of x y ts none each d ms b =
     let p : ℕ → Bool = λ u. nat_le (x * u) y in
     let t = tilt_down x y d p (λ u e. leb-true (x * u) y e)
     (λ u e. let l = leb-false (x * u) y e in omega arith) ts ms b in
-    let s : y * total (chosen p ts) ≤ x * weighted ts (chosen p ts) = down_of_test x y ts none each in
+    let s : y * total (chosen p ts) ≤ x * weighted ts (chosen p ts) = down_of_test (IsDown x y ts) x y ts none each in
     let k : y * total (chosen p ts) * d ≤ x * weighted ts (chosen p ts) * d = mul-le-mul_right d s in
     omega arith
 
@@ -241,6 +241,12 @@ cuts_next a ts rest i e x y t l h s ex ey =
           omega arith;
     }
 
+pub take_all : (i : ℕ) (ts : List MassRange) → length ts ≤ i → take i ts ≡ ts
+take_all zero [] l = refl
+take_all zero (t ∷ ts) l = absurd (omega arith)
+take_all (suc i) [] l = refl
+take_all (suc i) (t ∷ ts) l = ap (λ xs. t ∷ xs) (take_all i ts (omega arith))
+
 pub cuts_all : (a : Answer) (ts : List MassRange) (rest i e : ℕ) → length ts ≤ i → All (IsRange a.width) ts
     → IsCutsError a ts rest i e → IsCellError a ts rest e
 cuts_all a ts rest i e l h s =
@@ -252,12 +258,6 @@ cuts_all a ts rest i e l h s =
           (subst (Each U) whole s.up_to);
       least = s.least;
     }
-  where
-    take_all : (i : ℕ) (ts : List MassRange) → length ts ≤ i → take i ts ≡ ts
-    take_all zero [] l = refl
-    take_all zero (t ∷ ts) l = absurd (omega arith)
-    take_all (suc i) [] l = refl
-    take_all (suc i) (t ∷ ts) l = ap (λ xs. t ∷ xs) (take_all i ts (omega arith))
 
 -- ---- whether an error serves
 

@@ -3,7 +3,7 @@ use Rattle.std.proofs.Common.{◌≡◌, ◌⊎◌, inl, inr, ⊎_elim, ℕ, zer
 use Rattle.std.specs.Prelude.{All}
 use Rattle.std.proofs.lemmas.Bool.{cases_lt}
 use Rattle.cell_error.specs.{declared.ranges.MassRange.MassRange, declared.ranges.Answer.Answer, Cuts.masses}
-use Rattle.cell_error.specs.declared.errors.Cut.TheVariants.{Nowhere, AtLeast, AtMost}
+use Rattle.cell_error.specs.declared.cuts.Cut.TheVariants.{Nowhere, AtLeast, AtMost}
 use Rattle.cell_error.specs.Errors.{IsRange, total, weighted, answer_of, Covers, CoveredMassesHaveErrors}
 use Rattle.cell_error.proofs.Covering.{covers_of_serves, serves_of_covers, cases_zero}
 use Rattle.cell_error.proofs.Withins.{step, top, bottom, within_more}

@@ -2,8 +2,8 @@
 -- Beside the promise.
 use Rattle.std.specs.Prelude.{ℕ, ◌≤◌, ◌*◌, if◌then◌else◌, nat_le, Bool, false, List, [], ◌∷◌}
 use Rattle.fz_num.specs.Fractions.{Fraction}
-use Rattle.cell_error.specs.declared.{ranges.MassRange.MassRange, ranges.Answer.Answer, errors.Cut.Cut}
-use Rattle.cell_error.specs.declared.errors.Cut.TheVariants.{Nowhere, From, UpTo, AtLeast, AtMost}
+use Rattle.cell_error.specs.declared.{ranges.MassRange.MassRange, ranges.Answer.Answer, cuts.Cut.Cut}
+use Rattle.cell_error.specs.declared.cuts.Cut.TheVariants.{Nowhere, From, UpTo, AtLeast, AtMost}
 use Rattle.cell_error.specs.Errors.{IsWithin}
 
 -- whether the mass of a singleton is high

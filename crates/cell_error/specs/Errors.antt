@@ -21,6 +21,11 @@ weighted [] ms = 0
 weighted (t ∷ ts) [] = 0
 weighted (t ∷ ts) (m ∷ ms) = t.at * m + weighted ts ms
 
+-- the sum of the lows
+abbrev pub sure_mass : List MassRange → ℕ
+sure_mass [] = 0
+sure_mass (t ∷ ts) = t.low + sure_mass ts
+
 -- the answer to masses, above the low end, or what stands in for it where there is none
 abbrev pub answer_of : List MassRange → ℕ → List ℕ → Fraction
 answer_of ts rest ms = if total ms == 0 then over rest 1 else over (weighted ts ms) (total ms)

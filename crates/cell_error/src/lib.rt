@@ -1,10 +1,14 @@
 //! The error of one cell: how far one answer may be from the answers of all masses that lie between
-//! given numbers.
+//! given numbers. And the error of means: how far those by any masses of bytes between given numbers may be from the
+//! exact ones, where each mass may be too low or too high by so much.
 #![tactic(auto)]
 
+mod cuts;
 mod errors;
 pub mod laws;
+mod means;
 mod ranges;
 
 pub use errors::{least_error, serves};
-pub use ranges::{Answer, MassRange};
+pub use means::{Scale, mean_error};
+pub use ranges::{Answer, Deviation, MassRange};

@@ -16,3 +16,10 @@ pub struct Answer {
     pub parts: u64,
     pub width: u64,
 }
+
+/// How far a term's mass may be above that over bytes, and how far below, in parts of 10^9.
+#[derive(Clone, Copy)]
+pub struct Deviation {
+    pub rise: u64,
+    pub fall: u64,
+}

@@ -1,6 +1,6 @@
 use Rattle.std.proofs.Common.{◌≡◌, ◌≤◌, ◌*◌, ◌-◌, drop, length}
 use Rattle.cell_error.specs.{Errors.weighted, Errors.total, Cuts.masses}
-use Rattle.cell_error.proofs.errors.sums.Given as goal
+use Rattle.cell_error.proofs.cuts.sums.Given as goal
 
 abbrev pub invariant-loop-k : goal.invariant-loop-k
 invariant-loop-k l = record {
