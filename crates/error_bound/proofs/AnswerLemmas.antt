@@ -14,8 +14,10 @@ use Rattle.fuzzy_meaning.specs.declared.block.Block.{Block}
 use Rattle.byte_scaling.specs.Cells.{nearest_byte, NearestIsByte, value_in}
 use Rattle.point_slope.specs.Bytes.{byte_shares, total_mass as byte_total, weighted_sum as byte_weighted}
 use Rattle.point_slope.specs.Bytes.{centre as byte_centre, resting_answer}
-use Rattle.error_bound.specs.Tight.{IsSure, sure_bound, IsTightBound, silent as tight_silent, sure, low_of, high_of}
-use Rattle.error_bound.specs.MassRanges.{ranges_at, ranges, sure_mass, answer_at, rest_of, AreOverBox}
+use Rattle.error_bound.specs.Tight.{IsSure, IsSureBound, IsTightBound, silent as tight_silent, sure, low_of, high_of}
+use Rattle.error_bound.specs.{Tight.ranges_at, Spans.Span}
+use Rattle.cell_error.specs.Means.{MeansHaveErrors}
+use Rattle.error_bound.specs.MassRanges.{ranges, answer_at, rest_of, AreOverBox}
 use Rattle.error_bound.specs.Bounds.{in_millionths, offset, silent_bound, strong_bound, errors_from, IsBound}
 use Rattle.error_bound.specs.TightLaws.{IsAnsweredWithin, kept, near, TightAnswersAreNear}
 use Rattle.error_bound.specs.{Leaves.Holds, Leaves.strong, Leaves.silent, Leaves.IsStill, declared.boxes.Leaf.Leaf}
@@ -23,14 +25,14 @@ use Rattle.error_bound.specs.{MassRanges.AnswersToMassesAreNear, declared.boxes.
 use Rattle.error_bound.specs.{Answers.Follows, Answers.AnswersAreNear, Errors.AreTermErrors, Errors.billion}
 use Rattle.error_bound.specs.{Boxes.LieIn, Boxes.LieInCells, CellErrors.term_errors, Best.silent_leaf}
 use Rattle.error_bound.proofs.Rows.{close_default, close_value, Row, dens, mass_sum, weighted as weighted_rows}
-use Rattle.error_bound.proofs.TightLemmas.{strong_sure, strong_least, IsMassBetween, mass_between}
+use Rattle.error_bound.proofs.TightLemmas.{strong_sure, strong_least, sure_has, IsMassBetween, mass_between}
 use Rattle.error_bound.proofs.Shares.{weights, firing, rows_from, all_ok, same_sum, centre_some}
 use Rattle.error_bound.proofs.Literals.{literals, term_errors-from, term_errors-are}
 use Rattle.error_bound.proofs.{RuleLemmas.centre_none, RuleLemmas.still_sums, Nested.bound_strong, Nested.bound_silent}
-use Rattle.error_bound.proofs.Rows.{total_g, dot_u, dens_pos}
+use Rattle.error_bound.proofs.Rows.{dens_pos}
 use Rattle.fz_list.proofs.Algebra.{All-slice_get, some_at}
 use Rattle.fz_num.proofs.Algebra.{IsClose-more}
-use Rattle.cell_error.specs.Errors.{AreBetween, total, weighted, answer_of, IsWithin, Covers}
+use Rattle.cell_error.specs.Errors.{sure_mass, AreBetween, total, weighted, answer_of, IsWithin, Covers}
 use Rattle.cell_error.specs.declared.ranges.MassRange.{MassRange}
 
 -- what the answer in h parts to a byte is, by the sums
@@ -83,11 +85,11 @@ module _ (of_numbers : NumbersHaveTheirDegrees) (is_byte : NearestIsByte) (b : B
   after = centre (shares b xs o x) (option_map_or quotient_of x.default before)
 
   -- on a sure box
-  sure_close : (e : ℕ → ℕ → ℕ) → AreTermErrors b box e → IsSure b box o x
-      → IsClose (distance x.lo x.hi) (sure_bound b box e o x h) (value_in h x q') after
-  sure_close e es s =
+  sure_close : (e : ℕ → ℕ → Span ℕ) (n : ℕ) → AreTermErrors b box e → IsSure b box o x → IsSureBound b box e o x h n
+      → IsClose (distance x.lo x.hi) n (value_in h x q') after
+  sure_close e n es s is =
       let ls = literals of_numbers b box bytes xs e valid cells on es in
-      let f = firing b box bytes xs e valid ls is_byte o x h ex hh s in
+      let f = firing b box bytes xs e valid ls is_byte o x h n ex hh s is in
       let p = a.moving f.byte_pos in
       f.close q' (option_map_or quotient_of x.default before) p.0 p.1
 
@@ -123,25 +125,26 @@ module _ (of_numbers : NumbersHaveTheirDegrees) (is_byte : NearestIsByte) (b : B
       by_default (Some d) e =
           near (subst (λ m. IsClose (distance x.lo x.hi) m (value_in h x q') after) (sym is)
           (still_close (quiet_rules b box o quiet) (λ z. (let y : ⊥ = cc in y))))
-  tight_answered n (sure e es s is) =
-      near (subst (λ m. IsClose (distance x.lo x.hi) m (value_in h x q') after) (sym is) (sure_close e es s))
+  tight_answered n (sure e es s is) = near (sure_close e n es s is)
 
   -- a leaf's Bound is no smaller
-  leaf_follows : (leaf : Leaf) (n : ℕ) → Holds b box o leaf → IsBound b box o x h leaf n
+  leaf_follows : MeansHaveErrors → (leaf : Leaf) (n : ℕ) → Holds b box o leaf → IsBound b box o x h leaf n
       → Follows x leaf n q q' (value_in h x q') before after
-  leaf_follows leaf n (strong r from k_from k_to er s) bd =
+  leaf_follows have leaf n (strong r from k_from k_to er s) bd =
       let e = bd.errors in
       let sum = errors_from b e o 1 x.singletons in
       let tight = strong_sure b box e o x valid ex (leaf.rule - 1) r leaf.k er k_from s in
-      let least = strong_least b box e o x valid ex (leaf.rule - 1) r leaf.k er k_from s h hh in
-      let c = IsClose-more (distance x.lo x.hi) (sure_bound b box e o x h) (strong_bound x h sum leaf.k)
-      (value_in h x q') after least (sure_close e bd.are_errors tight) in
+      let vx = All-slice_get IsValidOutput b.outputs (o - 1) x valid.outputs ex in
+      let m = sure_has have b box e o x vx.range h hh tight in
+      let least = strong_least b box e o x valid ex (leaf.rule - 1) r leaf.k er k_from s h m.0 hh m.1 in
+      let c = IsClose-more (distance x.lo x.hi) m.0 (strong_bound x h sum leaf.k) (value_in h x q') after least
+      (sure_close e m.0 bd.are_errors tight m.1) in
       let eb : n ≡ strong_bound x h sum leaf.k = bd.is ∙ bound_strong x h leaf.k sum k_from in
       record {
         kept = λ z d. absurd (omega arith);
         near = λ _. subst (λ m. IsClose (distance x.lo x.hi) m (value_in h x q') after) (sym eb) c;
       }
-  leaf_follows leaf n (silent z k every) bd =
+  leaf_follows have leaf n (silent z k every) bd =
       let eb : n ≡ silent_bound x = bd.is ∙ bound_silent x h leaf.k (errors_from b bd.errors o 1 x.singletons) k in
       record {
         kept = λ _ d. still_kept every d;
@@ -188,11 +191,11 @@ tight_answers_near of_numbers is_byte b box o x h n bytes xs before q on =
     rw ex (tight_answered of_numbers is_byte b box o x h bytes xs on.valid ex on.parts on.cells on.box_is before q
     (byte_centre h (byte_shares b bytes o x) (resting_answer h x q)) (answer_is h b bytes o x q) n on.bound_is)
 
-pub answers_near : NumbersHaveTheirDegrees → NearestIsByte → AnswersAreNear
-answers_near of_numbers is_byte b box o x h leaf n bytes xs before q on =
+pub answers_near : NumbersHaveTheirDegrees → NearestIsByte → MeansHaveErrors → AnswersAreNear
+answers_near of_numbers is_byte have b box o x h leaf n bytes xs before q on =
     let ex = on.output_is in
     rw ex (leaf_follows of_numbers is_byte b box o x h bytes xs on.valid ex on.parts on.cells on.box_is before q
-    (byte_centre h (byte_shares b bytes o x) (resting_answer h x q)) (answer_is h b bytes o x q) leaf n on.holds
+    (byte_centre h (byte_shares b bytes o x) (resting_answer h x q)) (answer_is h b bytes o x q) have leaf n on.holds
     on.bound_is)
 
 -- ---- what is within of the answers to all masses is so of the exact answer
@@ -233,7 +236,7 @@ total_of c (r ∷ rs) =
     let k : r.f.den * total (masses_of c rs) ≡ r.f.den * (c * mass_sum rs) = ap (λ n. r.f.den * n) (total_of c rs) in
     omega arith
 
-module _ (b : Block) (box : List Interval) (bytes : List ℕ) (xs : List Dec) (e : ℕ → ℕ → ℕ) (o : ℕ) (x : Output)
+module _ (b : Block) (box : List Interval) (bytes : List ℕ) (xs : List Dec) (e : ℕ → ℕ → Span ℕ) (o : ℕ) (x : Output)
     (lower upper : ℕ → ℕ) where
   weighted_of : (c k : ℕ) (us : List Dec)
       → weighted (ranges_at lower upper x.lo k us) (masses_of c (rows_from b box bytes xs e o x (k + 1) us))
@@ -327,7 +330,7 @@ within_answer of_numbers is_byte b box o x h bytes xs n q before on some covers 
     let ss = shares b xs o x in
     let w = distance x.lo x.hi in
     let ok = all_ok b box bytes xs e ls hw o x is_byte vx.range vx.singletons in
-    let dp : 0 < dens rs = dens_pos billion w (live_offset b box o x) (total_g rs) (dot_u rs) rs ok in
+    let dp : 0 < dens rs = dens_pos billion w (live_offset b box o x) rs ok in
     let sm = same_sum b box bytes xs e o x 1 x.singletons vx.singletons in
     let lower : ℕ → ℕ = λ k. low_of b box o (k + 1) in
     let upper : ℕ → ℕ = λ k. high_of b box o (k + 1) in

@@ -287,7 +287,8 @@ reaches_kept b c = record {
   spans = λ box. flat_same (spans_de_morgan truths_de_morgan) (spans_grouping truths_grouping) (literal_good b box) c;
   byte_spans = λ box. spans_are (flat_same (spans_de_morgan levels_de_morgan) (spans_grouping levels_grouping)
       (literal_to_255 b box) c);
-  errors = λ e. flat_same errors_de_morgan errors_grouping (λ i t. tt) c;
+  errors = λ e. spans_are (flat_same (spans_de_morgan errors_de_morgan) (spans_grouping errors_grouping)
+      (λ i t. record { low = tt; high = tt }) c);
 }
 
 -- ---- the ends of the reaches of the parts of an AND or OR, from the last on
@@ -314,7 +315,7 @@ module _ {A : Type 0} (minus : A → A) (j : Joins A) (s : ℕ → ℕ → Span 
 -- ---- of conditions
 
 -- the conditions from a place on: that of the place, and those behind
-from_place : (parts : List Condition) (k : ℕ) (part : Condition) → 1 ≤ k → k ≤ length parts
+pub from_place : (parts : List Condition) (k : ℕ) (part : Condition) → 1 ≤ k → k ≤ length parts
     → part ≡ get_or parts (k - 1) part → conditions (drop (k - 1) parts) ≡ also part (conditions (drop k parts))
 from_place parts k part from to here_is =
     let within : k - 1 < length parts = omega arith in

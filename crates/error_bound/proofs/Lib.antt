@@ -10,6 +10,10 @@ pub mod TightLemmas
 pub mod AnswerLemmas
 pub mod TableLemmas
 pub mod FlatteningLemmas
+pub mod ConditionErrors
+pub mod RangeLemmas
 pub mod LeafLemmas
 pub mod TightLawLemmas
+pub mod Alike
+pub mod MattersLemmas
 pub mod ListLemmas

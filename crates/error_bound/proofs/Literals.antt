@@ -7,6 +7,7 @@ use Rattle.fz_num.specs.Fractions.{Fraction, IsProper, AtMost, lesser, greater, 
 use Rattle.fz_num.specs.{declared.dec.Dec.Dec, Decimals.distance}
 use Rattle.fz_num.proofs.Algebra.{AtMost-refl, AtMost-trans, IsProper-lesser, IsProper-greater, AtMost-lesser_left}
 use Rattle.fz_num.proofs.Algebra.{AtMost-greater, IsNear-lesser, IsNear-greater, IsNear-one_minus}
+use Rattle.fz_num.proofs.Algebra.{IsNear-more}
 use Rattle.fuzzy_meaning.specs.Conditions.{Condition, is, negation, all, any, Conditions, end, also, levels, level}
 use Rattle.fuzzy_meaning.specs.Places.{Points, points_of, rise_at, fall_at, degree_at, NumbersHaveTheirDegrees}
 use Rattle.fuzzy_meaning.specs.Blocks.{IsValid, IsValidInput, IsValidTerm, input_at}
@@ -14,28 +15,28 @@ use Rattle.fuzzy_meaning.specs.{Meaning.truths, Meaning.truth, Meaning.literal_d
 use Rattle.fuzzy_meaning.specs.{declared.block.Trapezoid.Trapezoid, declared.block.Input.Input, Degrees.degree}
 use Rattle.fuzzy_meaning.specs.Conditions.{evaluate_parts}
 use Rattle.error_bound.specs.Boxes.{LieIn, LieInCells, degrees_over, grades_over, least_from, greatest_from}
-use Rattle.error_bound.specs.Spans.{Span, only, span, byte_span, greatest_literal}
-use Rattle.error_bound.specs.Errors.{billion, IsTermError, AreTermErrors}
+use Rattle.error_bound.specs.Spans.{Span, only, span, byte_span, sides, spans, reversed, greatest}
+use Rattle.error_bound.specs.Errors.{billion, eps, AreTermSides, IsTermError, AreTermErrors}
 use Rattle.error_bound.specs.{Boxes.literal_span, Boxes.literal_byte_span, Laws.CellsHaveBounds, Laws.TermErrorsAre}
-use Rattle.error_bound.specs.{CellErrors.term_error, CellErrors.term_errors, declared.boxes.Interval.Interval}
+use Rattle.error_bound.specs.{CellErrors.term_sides, CellErrors.term_errors, declared.boxes.Interval.Interval}
 use Rattle.error_bound.proofs.Sides.{none_least, low_bounds, high_bounds, side_rise_proper, degree_proper, rise_all}
 use Rattle.error_bound.proofs.SpanLemmas.{IsBetween, between, AreOrdered, ordered-refl, truths_monotone}
-use Rattle.error_bound.proofs.CellErrors.{low_proper, high_proper, cells_bounds, cells_least}
+use Rattle.error_bound.proofs.CellErrors.{low_proper, high_proper, cells_bounds, cells_least, le_greatest}
 use Rattle.error_bound.proofs.{Sides.low_greatest, Sides.high_least, Sides.IsPeaked-points, SpanLemmas.levels_monotone}
 use Rattle.std.specs.Prelude.{◌==◌, slice_get, slice_index, if◌then◌else◌}
 use Rattle.fz_list.proofs.Algebra.{All-slice_get, some_at}
 use Rattle.byte_scaling.specs.Cells.{IsFromTo, inside, at_end, IsInCell, cell_start, cell_end}
 use Rattle.point_slope.specs.{Tables.row_of, Tables.grade_of, Bytes.literal_grade}
 
--- a truth from 0 to 1 and a byte within e parts of t of it
-pub record IsHeld (t g : ℕ) (f : Fraction) (e : ℕ) : Type 0 where
+-- a truth from 0 to 1 that is at most so many parts of t above a byte, and below
+pub record IsHeld (t g : ℕ) (f : Fraction) (e : Span ℕ) : Type 0 where
   pub proper : IsProper f
   pub to_one : AtMost f one
   pub to_255 : g ≤ 255
-  pub near : IsNear t g f e
+  pub near : IsNear t g f e.high e.low
 
 -- and within spans
-pub record IsWithinSpans (t : ℕ) (f : Fraction) (g e : ℕ) (s : Span Fraction) (r : Span ℕ) : Type 0 where
+pub record IsWithinSpans (t : ℕ) (f : Fraction) (g : ℕ) (e : Span ℕ) (s : Span Fraction) (r : Span ℕ) : Type 0 where
   pub held : IsHeld t g f e
   pub between : IsBetween AreOrdered s f
   pub ordered : IsBetween (λ m n. m ≤ n) r g
@@ -43,43 +44,37 @@ pub record IsWithinSpans (t : ℕ) (f : Fraction) (g e : ℕ) (s : Span Fraction
 minus_one : (f : Fraction) → AtMost (one_minus f) one
 minus_one f = record { cross = omega arith }
 
-held_minus : (t g e : ℕ) (f : Fraction) → IsHeld t g f e → IsHeld t (255 - g) (one_minus f) e
+held_minus : (t g : ℕ) (e : Span ℕ) (f : Fraction) → IsHeld t g f e
+    → IsHeld t (255 - g) (one_minus f) (reversed (λ n. n) e)
 held_minus t g e f h =
     record {
       proper = record { pos = h.proper.pos };
       to_one = minus_one f;
       to_255 = omega arith;
-      near =
-          IsNear-one_minus t g e f h.to_255 h.to_one h.near;
+      near = IsNear-one_minus t g e.high e.low f h.to_255 h.to_one h.near;
     }
 
-held_lesser : (t g1 g2 e1 e2 : ℕ) (f1 f2 : Fraction) → IsHeld t g1 f1 e1 → IsHeld t g2 f2 e2
-    → IsHeld t (min g1 g2) (lesser f1 f2) (max e1 e2)
-held_lesser t g1 g2 e1 e2 f1 f2 h1 h2 =
-    record {
-      proper = IsProper-lesser f1 f2 h1.proper h2.proper;
-      to_one =
-          AtMost-trans (lesser f1 f2) f1 one h1.proper (AtMost-lesser_left f1 f2) h1.to_one;
-      to_255 =
-          (let a = h1.to_255 in omega arith);
-      near = IsNear-lesser t g1 g2 e1 e2 f1 f2 h1.proper h2.proper h1.near h2.near;
-    }
-
-pub held_greater : (t g1 g2 e1 e2 : ℕ) (f1 f2 : Fraction) → IsHeld t g1 f1 e1 → IsHeld t g2 f2 e2
-    → IsHeld t (max g1 g2) (greater f1 f2) (max e1 e2)
-held_greater t g1 g2 e1 e2 f1 f2 h1 h2 =
+-- an OR, or an AND
+pub held_joined : (t : ℕ) (or : Bool) (g1 g2 : ℕ) (e1 e2 : Span ℕ) (f1 f2 : Fraction) → IsHeld t g1 f1 e1
+    → IsHeld t g2 f2 e2
+    → IsHeld t ((levels 255).join or g1 g2) (truths.join or f1 f2) ((spans greatest).join or e1 e2)
+held_joined t true g1 g2 e1 e2 f1 f2 h1 h2 =
     record {
       proper = IsProper-greater f1 f2 h1.proper h2.proper;
-      to_one =
-          AtMost-greater f1 f2 one h1.to_one h2.to_one;
-      to_255 =
-          (let a = h1.to_255 in let b = h2.to_255 in omega arith);
-      near =
-          IsNear-greater t g1 g2 e1 e2 f1 f2 h1.proper h2.proper h1.near h2.near;
+      to_one = AtMost-greater f1 f2 one h1.to_one h2.to_one;
+      to_255 = (let a = h1.to_255 in let b = h2.to_255 in omega arith);
+      near = IsNear-greater t g1 g2 e1.high e2.high e1.low e2.low f1 f2 h1.proper h2.proper h1.near h2.near;
+    }
+held_joined t false g1 g2 e1 e2 f1 f2 h1 h2 =
+    record {
+      proper = IsProper-lesser f1 f2 h1.proper h2.proper;
+      to_one = AtMost-trans (lesser f1 f2) f1 one h1.proper (AtMost-lesser_left f1 f2) h1.to_one;
+      to_255 = (let a = h1.to_255 in omega arith);
+      near = IsNear-lesser t g1 g2 e1.high e2.high e1.low e2.low f1 f2 h1.proper h2.proper h1.near h2.near;
     }
 
 -- of no parts
-none_held : (t e : ℕ) → IsHeld t 0 none e
+none_held : (t : ℕ) (e : Span ℕ) → IsHeld t 0 none e
 none_held t e = record {
   proper = record { pos = omega arith };
   to_one = none_least one;
@@ -87,8 +82,8 @@ none_held t e = record {
   near = record { up = omega arith; down = omega arith };
 }
 
-no_parts_held : (t : ℕ) (or : Bool) → IsHeld t ((levels 255).none or) (truths.none or) 0
-no_parts_held t true = none_held t 0
+no_parts_held : (t : ℕ) (or : Bool) → IsHeld t ((levels 255).none or) (truths.none or) (only 0)
+no_parts_held t true = none_held t (only 0)
 no_parts_held t false = record {
   proper = record { pos = omega arith };
   to_one = AtMost-refl one;
@@ -96,12 +91,7 @@ no_parts_held t false = record {
   near = record { up = omega arith; down = omega arith };
 }
 
-held_joined : (t : ℕ) (or : Bool) (g1 g2 e1 e2 : ℕ) (f1 f2 : Fraction) → IsHeld t g1 f1 e1 → IsHeld t g2 f2 e2
-    → IsHeld t ((levels 255).join or g1 g2) (truths.join or f1 f2) (max e1 e2)
-held_joined t true = held_greater t
-held_joined t false = held_lesser t
-
-pub within_none : (t e : ℕ) → IsWithinSpans t none 0 e (only none) (only 0)
+pub within_none : (t : ℕ) (e : Span ℕ) → IsWithinSpans t none 0 e (only none) (only 0)
 within_none t e =
     let h = none_held t e in
     let same = ordered-refl none h.proper in
@@ -111,9 +101,10 @@ within_none t e =
       ordered = record { low = omega arith; high = omega arith };
     }
 
-module _ (t : ℕ) (d : ℕ → ℕ → Fraction) (g e : ℕ → ℕ → ℕ) (l : (i k : ℕ) → IsHeld t (g i k) (d i k) (e i k)) where
+module _ (t : ℕ) (d : ℕ → ℕ → Fraction) (g : ℕ → ℕ → ℕ) (e : ℕ → ℕ → Span ℕ)
+    (l : (i k : ℕ) → IsHeld t (g i k) (d i k) (e i k)) where
   mutual
-    held : (c : Condition) → IsHeld t (level 255 g c) (truth d c) (greatest_literal e c)
+    held : (c : Condition) → IsHeld t (level 255 g c) (truth d c) (sides e c)
     held (is i k) = l i k
     held (negation c) = held_minus t _ _ _ (held c)
     held (all cs) = parts_held false cs
@@ -121,13 +112,13 @@ module _ (t : ℕ) (d : ℕ → ℕ → Fraction) (g e : ℕ → ℕ → ℕ) (l
 
     parts_held : (or : Bool) (cs : Conditions)
         → IsHeld t (evaluate_parts (λ n. 255 - n) (levels 255) g or cs) (evaluate_parts one_minus truths d or cs)
-        (evaluate_parts (λ n. n) (record { none = λ any. 0; join = λ any. max }) e or cs)
+        (evaluate_parts (reversed (λ n. n)) (spans greatest) e or cs)
     parts_held or end = no_parts_held t or
     parts_held or (also c cs) = held_joined t or _ _ _ _ _ _ (held c) (parts_held or cs)
 
-pub within_spans : (t : ℕ) (d : ℕ → ℕ → Fraction) (g e : ℕ → ℕ → ℕ) (s : ℕ → ℕ → Span Fraction) (r : ℕ → ℕ → Span ℕ)
-    → ((i k : ℕ) → IsWithinSpans t (d i k) (g i k) (e i k) (s i k) (r i k)) → (c : Condition)
-    → IsWithinSpans t (truth d c) (level 255 g c) (greatest_literal e c) (span s c) (byte_span r c)
+pub within_spans : (t : ℕ) (d : ℕ → ℕ → Fraction) (g : ℕ → ℕ → ℕ) (e : ℕ → ℕ → Span ℕ) (s : ℕ → ℕ → Span Fraction)
+    (r : ℕ → ℕ → Span ℕ) → ((i k : ℕ) → IsWithinSpans t (d i k) (g i k) (e i k) (s i k) (r i k)) → (c : Condition)
+    → IsWithinSpans t (truth d c) (level 255 g c) (sides e c) (span s c) (byte_span r c)
 within_spans t d g e s r l c = record {
   held = held t d g e (λ i k. (l i k).held) c;
   between = between truths_monotone (λ i k. (l i k).between) c;
@@ -171,14 +162,6 @@ least_le g p (suc n) v h1 h2 = ⊎_elim
     subst (λ m. min (least_from g p n) (g (p + suc n)) ≤ g m) e (omega arith))
     (cases_lt v (p + suc n))
 
-pub le_greatest : (g : ℕ → ℕ) (p n v : ℕ) → p ≤ v → v ≤ p + n → g v ≤ greatest_from g p n
-le_greatest g p zero v h1 h2 = let e : p ≡ v = omega arith in subst (λ m. g m ≤ g p) e (omega arith)
-le_greatest g p (suc n) v h1 h2 = ⊎_elim
-    (λ (l : v < p + suc n). let r = le_greatest g p n v h1 (omega arith) in omega arith)
-    (λ (l : p + suc n ≤ v). let e : p + suc n ≡ v = omega arith in
-    subst (λ m. g m ≤ max (greatest_from g p n) (g (p + suc n))) e (omega arith))
-    (cases_lt v (p + suc n))
-
 degree_one : (t : Points) (x : Fraction) → IsProper x → AtMost (degree_at t x) one
 degree_one t x px = AtMost-trans (degree_at t x) (rise_at t.a t.b x) one (side_rise_proper t.a t.b x px)
     (AtMost-lesser_left (rise_at t.a t.b x) (fall_at t.c t.d x)) (rise_all t.a t.b x)
@@ -194,7 +177,7 @@ pub grade-le : (row : List ℕ) (v : ℕ) → grade_of row v ≤ 255
 grade-le row v = either_small _ _ (capped _)
 
 -- a term at a byte of the interval and a place of its cell
-pub at_place : (i : Input) (t : Trapezoid) (v : Interval) (n e : ℕ) (x : Fraction) → IsTermError i t v e
+pub at_place : (i : Input) (t : Trapezoid) (v : Interval) (n : ℕ) (e : Span ℕ) (x : Fraction) → AreTermSides i t v e
     → 0 < distance i.lo i.hi → v.from ≤ n → n ≤ v.to → IsInCell (distance i.lo i.hi) n x
     → IsWithinSpans billion (degree_at (points_of i t) x) (grade_of (row_of i t) n) e (degrees_over i t v)
     (grades_over i t v)
@@ -242,7 +225,7 @@ index_at : (xs : List ℕ) (k : ℕ) → k < length xs → slice_get xs k ≡ So
 index_at xs k h = slice_get-get_or xs k 0 h
 
 module _ (of_numbers : NumbersHaveTheirDegrees) (b : Block) (box : List Interval) (bytes : List ℕ) (xs : List Dec)
-    (e : ℕ → ℕ → ℕ) (valid : IsValid b) (cells : LieInCells b bytes xs) (inside_box : LieIn box bytes)
+    (e : ℕ → ℕ → Span ℕ) (valid : IsValid b) (cells : LieInCells b bytes xs) (inside_box : LieIn box bytes)
     (errors : AreTermErrors b box e) where
   found : (i t : ℕ) (x : Input) (term : Trapezoid) (v : Interval) (n : ℕ) (y : Dec) → input_at b i ≡ Some x
       → slice_get x.terms (t - 1) ≡ Some term → slice_get box (i - 1) ≡ Some v → slice_get bytes (i - 1) ≡ Some n
@@ -309,17 +292,27 @@ cells_bounded i t v vi vt h =
           (IsPeaked-points i t vt) g;
     }
 
-pub term_error-is : (i : Input) (t : Trapezoid) (v : Interval) → IsValidInput i → IsValidTerm i.lo i.hi t
-    → v.from ≤ v.to → IsTermError i t v (term_error i t v)
-term_error-is i t v vi vt h =
+pub term_sides-are : (i : Input) (t : Trapezoid) (v : Interval) → IsValidInput i → IsValidTerm i.lo i.hi t
+    → v.from ≤ v.to → AreTermSides i t v (term_sides i t v)
+term_sides-are i t v vi vt h =
     let w = distance i.lo i.hi in
+    let k = points_of i t in
     let g = grade_of (row_of i t) in
     let m = v.to - v.from in
     record {
-      covers = λ n h1 h2 x c. cells_bounds billion w (points_of i t) g v.from m n h1 (omega arith) x c;
-      least = λ f c. cells_least billion w (points_of i t) g v.from m f (IsPeaked-points i t vt) (width_pos i vi)
-          (omega arith) (λ n h1 h2 x inn. c n h1 (omega arith) x inn);
+      covers = λ n h1 h2 x c. cells_bounds billion w k g v.from m n h1 (omega arith) x c;
+      least = λ f c. cells_least billion w k g v.from m f (IsPeaked-points i t vt) (width_pos i vi) (omega arith)
+          (λ n h1 h2 x inn. c n h1 (omega arith) x inn);
     }
+
+-- on both sides the greater of the two
+pub term_error-is : (i : Input) (t : Trapezoid) (v : Interval) (e : Span ℕ) → AreTermSides i t v e
+    → IsTermError i t v (eps e)
+term_error-is i t v e s = record {
+  covers = λ n h1 h2 x c. IsNear-more billion (grade_of (row_of i t) n) e.high (eps e) e.low (eps e)
+      (degree_at (points_of i t) x) (omega arith) (omega arith) (s.covers n h1 h2 x c);
+  least = λ f c. let p = s.least (only f) c in let l = p.0 in let r = p.1 in omega arith;
+}
 
 -- where each interval has a byte
 pub term_errors-from : (b : Block) (box : List Interval) → IsValid b
@@ -328,7 +321,7 @@ term_errors-from b box valid some = record {
   error = λ i t x term v ex et ev.
       let vx : IsValidInput x = All-slice_get IsValidInput b.inputs (i - 1) x valid.inputs ex in
       let vt : IsValidTerm x.lo x.hi term = All-slice_get (IsValidTerm x.lo x.hi) x.terms (t - 1) term vx.terms et in
-      rw (ex, et, ev) (term_error-is x term v vx vt (some (i - 1) v ev));
+      rw (ex, et, ev) (term_sides-are x term v vx vt (some (i - 1) v ev));
 }
 
 pub term_errors-are : TermErrorsAre

@@ -15,16 +15,18 @@ use Rattle.fuzzy_meaning.specs.Conditions.{Condition}
 use Rattle.error_bound.specs.Bounds.{plus, in_millionths, ratio_bound, strong_bound, silent_bound, greatest_offset}
 use Rattle.error_bound.specs.Laws.{BoundsFallWithParts, IsInside, LeavesHoldInside, BoundsFallInside}
 use Rattle.error_bound.specs.Boxes.{degrees_over, grades_over, least_from, greatest_from, literal_span}
-use Rattle.error_bound.specs.Errors.{billion, AreTermErrors, rule_error, weight_error, floor_error, output_error_among}
+use Rattle.error_bound.specs.Errors.{billion, eps, AreTermErrors, rule_error, rule_rise, rule_fall, weight_error}
+use Rattle.error_bound.specs.Errors.{floor_error, output_error_among}
 use Rattle.error_bound.specs.Boxes.{literal_byte_span, rule_span, rule_byte_span, IsBox}
 use Rattle.error_bound.specs.{Bounds.bound, Bounds.errors_from, Bounds.IsBound, declared.boxes.Interval.Interval}
-use Rattle.error_bound.specs.{Spans.Span, Spans.only, Spans.greatest_literal, Laws.BoundsAreDetermined}
+use Rattle.error_bound.specs.{Spans.Span, Spans.only, Spans.sides, Laws.BoundsAreDetermined}
 use Rattle.error_bound.specs.{Leaves.Holds, Leaves.strong, Leaves.silent, declared.boxes.Leaf.Leaf}
 use Rattle.fz_list.proofs.Algebra.{All-slice_get, some_at, IsSomeAnd-some, IsSomeAnd-within}
 use Rattle.byte_scaling.specs.{Cells.cell_start, Cells.cell_end, Weights.weight_byte_of}
 use Rattle.point_slope.specs.Tables.{row_of, grade_of}
 use Rattle.error_bound.proofs.SpanLemmas.{IsNarrower, narrower, AreOrdered, ordered-refl, truths_monotone}
-use Rattle.error_bound.proofs.Literals.{cells_bounded, wider, width_pos, least_le, le_greatest}
+use Rattle.error_bound.proofs.{Literals.cells_bounded, Literals.wider, Literals.width_pos, Literals.least_le}
+use Rattle.error_bound.proofs.CellErrors.{le_greatest}
 use Rattle.error_bound.proofs.RuleLemmas.{times_ordered, scaled-mono, none_below}
 use Rattle.error_bound.proofs.{CellErrors.low_proper, CellErrors.high_proper, SpanLemmas.levels_monotone}
 use Rattle.fuzzy_meaning.proofs.Algebra.{evaluate-related}
@@ -114,7 +116,7 @@ strong-least x h s k range hh hk =
     (omega arith)
 
 -- no Bound rises
-wide_bound-le : (b : Block) (e : ℕ → ℕ → ℕ) (o : ℕ) (x : Output) (h : ℕ) (leaf : Leaf) → x.lo.0 <ℤ x.hi.0 → 1 ≤ h
+wide_bound-le : (b : Block) (e : ℕ → ℕ → Span ℕ) (o : ℕ) (x : Output) (h : ℕ) (leaf : Leaf) → x.lo.0 <ℤ x.hi.0 → 1 ≤ h
     → bound b e o x h leaf ≤ bound b e o x 1 leaf
 wide_bound-le b e o x h leaf range hh = by_k leaf.k
   where
@@ -222,7 +224,7 @@ module _ (b : Block) (small box : List Interval) (valid : IsValid b) (count : le
       let ev : slice_get box (i - 1) ≡ Some v.0 = v.1 in
       rw (ex, et, eu, ev) (found i t x term u.0 v.0 ex et eu ev)
 
-  by_input : (i t : ℕ) (o : Option Input) → input_at b i ≡ o
+  pub by_input : (i t : ℕ) (o : Option Input) → input_at b i ≡ o
       → IsNarrow (literal_span b small i t) (literal_span b box i t) (literal_byte_span b small i t)
       (literal_byte_span b box i t)
   by_input i t None ex = rw ex only_none
@@ -277,12 +279,16 @@ leaves_hold_inside b small box o leaf valid count ins some h = holds_inside b sm
 
 -- ---- on a smaller box no eps rises, and no Bound
 
+-- neither side is greater
+abbrev IsLess : Span ℕ → Span ℕ → Type 0
+IsLess s r = (s.low ≤ r.low) × (s.high ≤ r.high)
+
 max-mono : (a b c d : ℕ) → a ≤ c → b ≤ d → max a b ≤ max c d
 max-mono a b c d h k = omega arith
 
-module _ (b : Block) (small box : List Interval) (e f : ℕ → ℕ → ℕ) (count : length box ≡ length b.inputs)
+module _ (b : Block) (small box : List Interval) (e f : ℕ → ℕ → Span ℕ) (count : length box ≡ length b.inputs)
     (ins : IsInside small box) (es : AreTermErrors b small e) (fs : AreTermErrors b box f) where
-  less_literal : (i t : ℕ) → HasTerm b i t → e i t ≤ f i t
+  less_literal : (i t : ℕ) → HasTerm b i t → IsLess (e i t) (f i t)
   less_literal i t has =
       let in_block : i - 1 < length b.inputs =
       IsSomeAnd-within (λ x. t ≤ length x.terms) b.inputs (i - 1) has.term_to in
@@ -301,16 +307,28 @@ module _ (b : Block) (small box : List Interval) (e f : ℕ → ℕ → ℕ) (co
       let q = fs.error i t x.0 term.0 v.0 x.1 term.1 v.1 in
       p.least (f i t) (λ m l h y inn. q.covers m (omega arith) (omega arith) y inn)
 
-  less_greatest : (c : Condition) → IsValidCondition b c → greatest_literal e c ≤ greatest_literal f c
-  less_greatest = evaluate-related (λ m n. m ≤ n)
-      (record { none = λ or. omega arith; join = λ or k m l n h i. max-mono k m l n h i })
-      (λ m n h. h) less_literal
+  less_sides : (c : Condition) → IsValidCondition b c → IsLess (sides e c) (sides f c)
+  less_sides = evaluate-related IsLess
+      (record {
+        none = λ or. (omega arith, omega arith);
+        join = λ or k m l n h i. (
+          max-mono k.low m.low l.low n.low h.0 i.0,
+          max-mono k.high m.high l.high n.high h.1 i.1,
+        );
+      })
+      (λ m n h. (h.1, h.0)) less_literal
+
+  pub less_rise : (r : Rule) → IsValidRule b r → rule_rise e r ≤ rule_rise f r
+  less_rise r h = let s = less_sides r.cond h.condition in let l = s.1 in omega arith
+
+  pub less_fall : (r : Rule) → IsValidRule b r → rule_fall e r ≤ rule_fall f r
+  less_fall r h = let s = less_sides r.cond h.condition in let l = s.0 in omega arith
 
   pub less_rule : (r : Rule) → IsValidRule b r → rule_error e r ≤ rule_error f r
-  less_rule r h = more (weight_error r) (floor_error r) (less_greatest r.cond h.condition)
+  less_rule r h = more (weight_error r) (floor_error r) (less_sides r.cond h.condition)
     where
-      more : {p q : ℕ} (w z : ℕ) → p ≤ q → p + w + z ≤ q + w + z
-      more w z h = omega arith
+      more : {p q : Span ℕ} (w z : ℕ) → IsLess p q → eps p + w + z ≤ eps q + w + z
+      more w z h = let l = h.0 in let r = h.1 in omega arith
 
   less_output : (o t : ℕ) (rs : List Rule) → All (IsValidRule b) rs
       → output_error_among e o t rs ≤ output_error_among f o t rs

@@ -16,96 +16,87 @@ pub record Apart (m g d : ℕ) : Type 0 where
   pub up : m ≤ g + d
   pub down : g ≤ m + d
 
--- one term: where u and A/G are at most w apart, (G u - A) (m - g) is at most G w d
-pub term_le : (gg aa u w m g d : ℕ) → Apart (gg * u) aa (gg * w) → m ≤ g + d → g ≤ m + d
-    → gg * u * m + aa * g ≤ aa * m + gg * u * g + gg * w * d
-term_le gg aa u w m g d near h1 h2 = ⊎_elim less more (cases_lt m g)
+-- one term: (p - q) (m - g), where m is at most r above g, and at most f below
+pub term_le : (p q m g r f : ℕ) → m ≤ g + r → g ≤ m + f
+    → p * m + q * g ≤ q * m + p * g + (p - q) * r + (q - p) * f
+term_le p q m g r f h1 h2 = ⊎_elim less more (cases_lt p q)
   where
-    less : m < g → gg * u * m + aa * g ≤ aa * m + gg * u * g + gg * w * d
-    less l = let x = g - m in
-        let e : g ≡ m + x = omega arith in
-        let p : aa * x ≤ (gg * u + gg * w) * x = mul-le aa x (gg * u + gg * w) x near.down (omega arith) in
-        let q : gg * w * x ≤ gg * w * d = mul-le (gg * w) x (gg * w) d (omega arith) (omega arith) in
-        subst (λ n. gg * u * m + aa * n ≤ aa * m + gg * u * n + gg * w * d) (sym e) (omega arith)
+    less : p < q → p * m + q * g ≤ q * m + p * g + (p - q) * r + (q - p) * f
+    less l = let k = q - p in
+        let e : q ≡ p + k = omega arith in
+        let z : 0 ≡ p - q = omega arith in
+        let a : g * k ≤ (m + f) * k = mul-le-mul_right k h2 in
+        subst (λ n. p * m + n * g ≤ n * m + p * g + (p - q) * r + k * f) (sym e)
+        (subst (λ n. p * m + (p + k) * g ≤ (p + k) * m + p * g + n * r + k * f) z (omega arith))
 
-    more : g ≤ m → gg * u * m + aa * g ≤ aa * m + gg * u * g + gg * w * d
-    more l = let x = m - g in
-        let e : m ≡ g + x = omega arith in
-        let p : gg * u * x ≤ (aa + gg * w) * x = mul-le (gg * u) x (aa + gg * w) x near.up (omega arith) in
-        let q : gg * w * x ≤ gg * w * d = mul-le (gg * w) x (gg * w) d (omega arith) (omega arith) in
-        subst (λ n. gg * u * n + aa * g ≤ aa * n + gg * u * g + gg * w * d) (sym e) (omega arith)
+    more : q ≤ p → p * m + q * g ≤ q * m + p * g + (p - q) * r + (q - p) * f
+    more l = let k = p - q in
+        let e : p ≡ q + k = omega arith in
+        let z : 0 ≡ q - p = omega arith in
+        let a : m * k ≤ (g + r) * k = mul-le-mul_right k h1 in
+        subst (λ n. n * m + q * g ≤ q * m + n * g + k * r + (q - p) * f) (sym e)
+        (subst (λ n. (q + k) * m + q * g ≤ q * m + (q + k) * g + k * r + n * f) z (omega arith))
 
--- ---- the error of a quotient of sums, from the errors of the parts, by cross products
+-- ---- the error of a quotient of sums, from the pulls of the parts, by cross products
 
 -- what a box knows, in numbers alone:
--- pp/mm is the exact answer above lo, aa/gg the same from the machine's degrees, a/gg with the singletons' bytes, and
--- the first two are at most w num/den apart
-pub record Parts (w h num den dl q a aa gg pp mm d : ℕ) : Type 0 where
-  pub den_pos : 0 < den
+-- pp/mm is the exact answer above lo, aa/gg the same from the machine's masses, a/gg with the singletons' bytes; the
+-- first is at most u k/(gg mm) above the second, and d k/(gg mm) below
+pub record Parts (w h l dl q a aa gg pp mm k u d : ℕ) : Type 0 where
+  pub l_pos : 0 < l
   pub g_pos : 0 < gg
-  pub sums : Apart (gg * pp) (aa * mm) (gg * d)
-  pub gaps : d * den ≤ mm * (w * num)
+  pub above : gg * pp ≤ aa * mm + u * k
+  pub below : aa * mm ≤ gg * pp + d * k
+  pub mass : k * l ≤ 255 * mm
   pub singles : Apart (a * w) (aa * 255) (dl * gg)
   pub floor_low : q * gg ≤ h * a
   pub floor_high : h * a ≤ (q + 1) * gg
 
-up_scaled : (w h num den dl q a aa gg pp mm d : ℕ) → Parts w h num den dl q a aa gg pp mm d
-    → q * w * mm * den ≤ 255 * h * pp * den + mm * (num * 255 * w * h + dl * den * h)
-up_scaled w h num den dl q a aa gg pp mm d p =
-    let s1 : (q * gg) * w ≤ (h * a) * w = mul-le-mul_right w p.floor_low in
-    let s2 : (a * w) * h ≤ (aa * 255 + dl * gg) * h = mul-le-mul_right h p.singles.up in
-    let s3 : (q * gg * w) * (mm * den) ≤ ((aa * 255 + dl * gg) * h) * (mm * den) =
-    mul-le-mul_right (mm * den) (omega arith) in
-    let s4 : (aa * mm) * (255 * h * den) ≤ (gg * pp + gg * d) * (255 * h * den) =
-    mul-le-mul_right (255 * h * den) p.sums.down in
-    let s5 : (d * den) * (gg * 255 * h) ≤ (mm * (w * num)) * (gg * 255 * h) =
-    mul-le-mul_right (gg * 255 * h) p.gaps in
-    let s6 : (q * w * mm * den) * gg ≤ (255 * h * pp * den + mm * (num * 255 * w * h + dl * den * h)) * gg =
-    omega arith in
-    le_of_mul-le-mul_right s6 p.g_pos
+module _ (w h l dl q a aa gg pp mm k u d : ℕ) (p : Parts w h l dl q a aa gg pp mm k u d) (t b : ℕ) where
+  -- with a bound b in parts of t
+  pub within_low : t * (65025 * h * d + dl * h * (l * gg)) ≤ b * (255 * h * w * (l * gg))
+      → q * w * mm * t ≤ 255 * h * pp * t + b * w * 255 * h * mm
+  within_low hb =
+      let s1 : (q * gg) * w ≤ (h * a) * w = mul-le-mul_right w p.floor_low in
+      let s2 : (a * w) * h ≤ (aa * 255 + dl * gg) * h = mul-le-mul_right h p.singles.up in
+      let s3 : (q * gg * w) * (mm * l * t) ≤ ((aa * 255 + dl * gg) * h) * (mm * l * t) =
+      mul-le-mul_right (mm * l * t) (omega arith) in
+      let s4 : (aa * mm) * (255 * h * l * t) ≤ (gg * pp + d * k) * (255 * h * l * t) =
+      mul-le-mul_right (255 * h * l * t) p.below in
+      let s5 : (k * l) * (d * 255 * h * t) ≤ (255 * mm) * (d * 255 * h * t) =
+      mul-le-mul_right (d * 255 * h * t) p.mass in
+      let s6 : (t * (65025 * h * d + dl * h * (l * gg))) * mm ≤ (b * (255 * h * w * (l * gg))) * mm =
+      mul-le-mul_right mm hb in
+      let s7 : (q * w * mm * t) * (l * gg) ≤ (255 * h * pp * t + b * w * 255 * h * mm) * (l * gg) = omega arith in
+      le_of_mul-le-mul_right s7 (mul-pos p.l_pos p.g_pos)
 
-down_scaled : (w h num den dl q a aa gg pp mm d : ℕ) → Parts w h num den dl q a aa gg pp mm d
-    → 255 * h * pp * den ≤ q * w * mm * den + mm * (num * 255 * w * h + dl * den * h + w * den)
-down_scaled w h num den dl q a aa gg pp mm d p =
-    let s1 : (h * a) * w ≤ ((q + 1) * gg) * w = mul-le-mul_right w p.floor_high in
-    let s2 : (aa * 255) * h ≤ (a * w + dl * gg) * h = mul-le-mul_right h p.singles.down in
-    let s3 : ((aa * 255) * h) * (mm * den) ≤ ((q + 1) * gg * w + dl * gg * h) * (mm * den) =
-    mul-le-mul_right (mm * den) (omega arith) in
-    let s4 : (gg * pp) * (255 * h * den) ≤ (aa * mm + gg * d) * (255 * h * den) =
-    mul-le-mul_right (255 * h * den) p.sums.up in
-    let s5 : (d * den) * (gg * 255 * h) ≤ (mm * (w * num)) * (gg * 255 * h) =
-    mul-le-mul_right (gg * 255 * h) p.gaps in
-    let s6 : (255 * h * pp * den) * gg
-    ≤ (q * w * mm * den + mm * (num * 255 * w * h + dl * den * h + w * den)) * gg = omega arith in
-    le_of_mul-le-mul_right s6 p.g_pos
-
--- with a bound b in parts of t
-pub within : (t b w h num den dl q a aa gg pp mm d : ℕ) → Parts w h num den dl q a aa gg pp mm d
-    → t * (num * 255 * w * h + dl * den * h + w * den) ≤ b * (den * 255 * w * h)
-    → Apart (q * w * mm * t) (255 * h * pp * t) (b * w * 255 * h * mm)
-within t b w h num den dl q a aa gg pp mm d p hb =
-    let u1 : (q * w * mm * den) * t ≤ (255 * h * pp * den + mm * (num * 255 * w * h + dl * den * h)) * t =
-    mul-le-mul_right t (up_scaled w h num den dl q a aa gg pp mm d p) in
-    let d1 : (255 * h * pp * den) * t
-    ≤ (q * w * mm * den + mm * (num * 255 * w * h + dl * den * h + w * den)) * t =
-    mul-le-mul_right t (down_scaled w h num den dl q a aa gg pp mm d p) in
-    let bm : (t * (num * 255 * w * h + dl * den * h + w * den)) * mm ≤ (b * (den * 255 * w * h)) * mm =
-    mul-le-mul_right mm hb in
-    let u2 : (q * w * mm * t) * den ≤ (255 * h * pp * t + b * w * 255 * h * mm) * den = omega arith in
-    let d2 : (255 * h * pp * t) * den ≤ (q * w * mm * t + b * w * 255 * h * mm) * den = omega arith in
-    record { up = le_of_mul-le-mul_right u2 p.den_pos; down = le_of_mul-le-mul_right d2 p.den_pos }
+  pub within_high : t * (65025 * h * u + (dl * h + w) * (l * gg)) ≤ b * (255 * h * w * (l * gg))
+      → 255 * h * pp * t ≤ q * w * mm * t + b * w * 255 * h * mm
+  within_high hb =
+      let s1 : (h * a) * w ≤ ((q + 1) * gg) * w = mul-le-mul_right w p.floor_high in
+      let s2 : (aa * 255) * h ≤ (a * w + dl * gg) * h = mul-le-mul_right h p.singles.down in
+      let s3 : ((aa * 255) * h) * (mm * l * t) ≤ ((q + 1) * gg * w + dl * gg * h) * (mm * l * t) =
+      mul-le-mul_right (mm * l * t) (omega arith) in
+      let s4 : (gg * pp) * (255 * h * l * t) ≤ (aa * mm + u * k) * (255 * h * l * t) =
+      mul-le-mul_right (255 * h * l * t) p.above in
+      let s5 : (k * l) * (u * 255 * h * t) ≤ (255 * mm) * (u * 255 * h * t) =
+      mul-le-mul_right (u * 255 * h * t) p.mass in
+      let s6 : (t * (65025 * h * u + (dl * h + w) * (l * gg))) * mm ≤ (b * (255 * h * w * (l * gg))) * mm =
+      mul-le-mul_right mm hb in
+      let s7 : (255 * h * pp * t) * (l * gg) ≤ (q * w * mm * t + b * w * 255 * h * mm) * (l * gg) = omega arith in
+      le_of_mul-le-mul_right s7 (mul-pos p.l_pos p.g_pos)
 
 -- ---- a box's Bound, over the rows of an output's terms
 
--- one term of an output: how far its singleton stands above lo, the singleton's byte, its mass, the bytes' mass, its
--- error in parts of t, how far it may be from the answer, and a number of parts of 255 t that its mass has at least
+-- one term of an output: how far its singleton stands above lo, the singleton's byte, its mass, the bytes' mass, how far
+-- the former may be above the latter and below, in parts of t, and a number of parts of 255 t that its mass has at least
 pub record Row : Type 0 where
   pub u : ℕ
   pub s : ℕ
   pub f : Fraction
   pub g : ℕ
-  pub e : ℕ
-  pub w : ℕ
+  pub rise : ℕ
+  pub fall : ℕ
   pub l : ℕ
 
 -- the masses' common denominator
@@ -135,11 +126,20 @@ abbrev pub dot_s : List Row → ℕ
 dot_s [] = 0
 dot_s (r ∷ rs) = r.s * r.g + dot_s rs
 
--- the errors by how far the terms may be from the answer, and what the masses have at least
-abbrev pub gaps : List Row → ℕ
-gaps [] = 0
-gaps (r ∷ rs) = r.w * r.e + gaps rs
+-- what they pull by at the mean aa/gg
+abbrev pub pull_rows : (Row → ℕ) → (Row → ℕ) → ℕ → ℕ → List Row → ℕ
+pull_rows over under gg aa [] = 0
+pull_rows over under gg aa (r ∷ rs) =
+    over r * (r.u * gg - aa) + under r * (aa - r.u * gg) + pull_rows over under gg aa rs
 
+-- at that of the bytes
+abbrev pub rise_pull : List Row → ℕ
+rise_pull rs = pull_rows (λ r. r.rise) (λ r. r.fall) (total_g rs) (dot_u rs) rs
+
+abbrev pub fall_pull : List Row → ℕ
+fall_pull rs = pull_rows (λ r. r.fall) (λ r. r.rise) (total_g rs) (dot_u rs) rs
+
+-- and what the masses have at least
 abbrev pub lows : List Row → ℕ
 lows [] = 0
 lows (r ∷ rs) = r.l + lows rs
@@ -148,55 +148,78 @@ lows (r ∷ rs) = r.l + lows rs
 abbrev pub off : ℕ → Row → ℕ
 off w r = apart (r.s * w) (r.u * 255)
 
--- in parts of t, for a range of width w, where aa/gg is the answer from the machine's degrees
-pub record RowOk (t w d gg aa : ℕ) (r : Row) : Type 0 where
+-- in parts of t, for a range of width w
+pub record RowOk (t w d : ℕ) (r : Row) : Type 0 where
   pub u_in : r.u ≤ w
   pub s_in : r.s ≤ 255
   pub proper : IsProper r.f
-  pub near : IsNear t r.g r.f r.e
+  pub near : IsNear t r.g r.f r.rise r.fall
   pub low : AtMost (over r.l (255 * t)) r.f
   pub offset : 0 < r.g → off w r ≤ d
-  pub reach : Apart (gg * r.u) aa (gg * r.w)
 
-abbrev pub AllOk : (t w d gg aa : ℕ) → List Row → Type 0
-AllOk t w d gg aa [] = Unit {0}
-AllOk t w d gg aa (r ∷ rs) = RowOk t w d gg aa r × AllOk t w d gg aa rs
+abbrev pub AllOk : (t w d : ℕ) → List Row → Type 0
+AllOk t w d [] = Unit {0}
+AllOk t w d (r ∷ rs) = RowOk t w d r × AllOk t w d rs
 
-module _ (t w d gg aa : ℕ) where
-  rows_up : (rs : List Row) → AllOk t w d gg aa rs
+module _ (t w d : ℕ) where
+  rows_up : (gg aa : ℕ) (rs : List Row) → AllOk t w d rs
       → gg * (weighted rs * 255 * t) + aa * (dens rs * total_g rs * t)
-      ≤ aa * (mass_sum rs * 255 * t) + gg * (dens rs * dot_u rs * t) + gg * (gaps rs * 255 * dens rs)
-  rows_up [] h = omega arith
-  rows_up (r ∷ rs) h =
-      let tail = mul-le-mul_right r.f.den (rows_up rs h.1) in
-      let one = term_le gg aa r.u r.w (r.f.num * 255 * t) (r.g * r.f.den * t) (r.e * 255 * r.f.den) h.0.reach
-      h.0.near.up h.0.near.down in
+      ≤ aa * (mass_sum rs * 255 * t) + gg * (dens rs * dot_u rs * t)
+      + pull_rows (λ r. r.rise) (λ r. r.fall) gg aa rs * (255 * dens rs)
+  rows_up gg aa [] h = omega arith
+  rows_up gg aa (r ∷ rs) h =
+      let tail = mul-le-mul_right r.f.den (rows_up gg aa rs h.1) in
+      let one = term_le (r.u * gg) aa (r.f.num * 255 * t) (r.g * r.f.den * t) (r.rise * 255 * r.f.den)
+      (r.fall * 255 * r.f.den) h.0.near.up h.0.near.down in
       let head = mul-le-mul_right (dens rs) one in
-      omega arith
+      add gg aa r.u r.g r.f.num r.f.den (r.u * gg - aa) (aa - r.u * gg) r.rise r.fall (dens rs) (weighted rs) (total_g rs)
+      (mass_sum rs) (dot_u rs) (pull_rows (λ r. r.rise) (λ r. r.fall) gg aa rs) tail head
+    where
+      add : (gg aa u g n m p q x y ds ws ts ms us ps : ℕ)
+          → (gg * (ws * 255 * t) + aa * (ds * ts * t)) * m
+          ≤ (aa * (ms * 255 * t) + gg * (ds * us * t) + ps * (255 * ds)) * m
+          → (u * gg * (n * 255 * t) + aa * (g * m * t)) * ds
+          ≤ (aa * (n * 255 * t) + u * gg * (g * m * t) + p * (x * 255 * m) + q * (y * 255 * m)) * ds
+          → gg * ((u * n * ds + m * ws) * 255 * t) + aa * (m * ds * (g + ts) * t)
+          ≤ aa * ((n * ds + m * ms) * 255 * t) + gg * (m * ds * (u * g + us) * t)
+          + (x * p + y * q + ps) * (255 * (m * ds))
+      add gg aa u g n m p q x y ds ws ts ms us ps h k = omega arith
 
-  rows_down : (rs : List Row) → AllOk t w d gg aa rs
+  rows_down : (gg aa : ℕ) (rs : List Row) → AllOk t w d rs
       → gg * (dens rs * dot_u rs * t) + aa * (mass_sum rs * 255 * t)
-      ≤ aa * (dens rs * total_g rs * t) + gg * (weighted rs * 255 * t) + gg * (gaps rs * 255 * dens rs)
-  rows_down [] h = omega arith
-  rows_down (r ∷ rs) h =
-      let tail = mul-le-mul_right r.f.den (rows_down rs h.1) in
-      let one = term_le gg aa r.u r.w (r.g * r.f.den * t) (r.f.num * 255 * t) (r.e * 255 * r.f.den) h.0.reach
-      h.0.near.down h.0.near.up in
+      ≤ aa * (dens rs * total_g rs * t) + gg * (weighted rs * 255 * t)
+      + pull_rows (λ r. r.fall) (λ r. r.rise) gg aa rs * (255 * dens rs)
+  rows_down gg aa [] h = omega arith
+  rows_down gg aa (r ∷ rs) h =
+      let tail = mul-le-mul_right r.f.den (rows_down gg aa rs h.1) in
+      let one = term_le (r.u * gg) aa (r.g * r.f.den * t) (r.f.num * 255 * t) (r.fall * 255 * r.f.den)
+      (r.rise * 255 * r.f.den) h.0.near.down h.0.near.up in
       let head = mul-le-mul_right (dens rs) one in
-      omega arith
+      add gg aa r.u r.g r.f.num r.f.den (r.u * gg - aa) (aa - r.u * gg) r.fall r.rise (dens rs) (weighted rs) (total_g rs)
+      (mass_sum rs) (dot_u rs) (pull_rows (λ r. r.fall) (λ r. r.rise) gg aa rs) tail head
+    where
+      add : (gg aa u g n m p q x y ds ws ts ms us ps : ℕ)
+          → (gg * (ds * us * t) + aa * (ms * 255 * t)) * m
+          ≤ (aa * (ds * ts * t) + gg * (ws * 255 * t) + ps * (255 * ds)) * m
+          → (u * gg * (g * m * t) + aa * (n * 255 * t)) * ds
+          ≤ (aa * (g * m * t) + u * gg * (n * 255 * t) + p * (x * 255 * m) + q * (y * 255 * m)) * ds
+          → gg * (m * ds * (u * g + us) * t) + aa * ((n * ds + m * ms) * 255 * t)
+          ≤ aa * (m * ds * (g + ts) * t) + gg * ((u * n * ds + m * ws) * 255 * t)
+          + (x * p + y * q + ps) * (255 * (m * ds))
+      add gg aa u g n m p q x y ds ws ts ms us ps h k = omega arith
 
-  pub dens_pos : (rs : List Row) → AllOk t w d gg aa rs → 0 < dens rs
+  pub dens_pos : (rs : List Row) → AllOk t w d rs → 0 < dens rs
   dens_pos [] h = omega arith
   dens_pos (r ∷ rs) h = mul-pos h.0.proper.pos (dens_pos rs h.1)
 
-  lows_sum : (rs : List Row) → AllOk t w d gg aa rs → lows rs * dens rs ≤ mass_sum rs * (255 * t)
+  lows_sum : (rs : List Row) → AllOk t w d rs → lows rs * dens rs ≤ mass_sum rs * (255 * t)
   lows_sum [] h = omega arith
   lows_sum (r ∷ rs) h =
       let head = mul-le-mul_right (dens rs) h.0.low.cross in
       let tail = mul-le-mul_right r.f.den (lows_sum rs h.1) in
       omega arith
 
-  pub mass_pos : (rs : List Row) → AllOk t w d gg aa rs → 0 < lows rs → 0 < mass_sum rs
+  pub mass_pos : (rs : List Row) → AllOk t w d rs → 0 < lows rs → 0 < mass_sum rs
   mass_pos rs h some = positive (mass_sum rs) (255 * t) (lows rs * dens rs) (mul-pos some (dens_pos rs h))
       (lows_sum rs h)
     where
@@ -220,7 +243,7 @@ module _ (t w d gg aa : ℕ) where
       (record { up = omega arith; down = omega arith })))
       (cases_lt 0 r.g)
 
-  offs : (rs : List Row) → AllOk t w d gg aa rs → Apart (dot_s rs * w) (dot_u rs * 255) (d * total_g rs)
+  offs : (rs : List Row) → AllOk t w d rs → Apart (dot_s rs * w) (dot_u rs * 255) (d * total_g rs)
   offs [] h = record { up = omega arith; down = omega arith }
   offs (r ∷ rs) h =
       let a = offs rs h.1 in
@@ -228,90 +251,75 @@ module _ (t w d gg aa : ℕ) where
       record { up = omega (arith, a.up, b.up); down = omega (arith, a.down, b.down) }
 
   -- the exact answer stands within the range, and so does the bytes'
-  weighted_le : (rs : List Row) → AllOk t w d gg aa rs → weighted rs ≤ w * mass_sum rs
+  weighted_le : (rs : List Row) → AllOk t w d rs → weighted rs ≤ w * mass_sum rs
   weighted_le [] h = omega arith
   weighted_le (r ∷ rs) h =
       let a = mul-le-mul_right r.f.den (weighted_le rs h.1) in
       let b : r.u * (r.f.num * dens rs) ≤ w * (r.f.num * dens rs) = mul-le-mul_right (r.f.num * dens rs) h.0.u_in in
       omega arith
 
-  dot_s_le : (rs : List Row) → AllOk t w d gg aa rs → dot_s rs ≤ 255 * total_g rs
+  dot_s_le : (rs : List Row) → AllOk t w d rs → dot_s rs ≤ 255 * total_g rs
   dot_s_le [] h = omega arith
   dot_s_le (r ∷ rs) h = let a = dot_s_le rs h.1 in let p = mul-le-mul_right r.g h.0.s_in in omega arith
 
-module _ (t w d : ℕ) (rs : List Row) (tp : 0 < t) (wp : 0 < w) (ok : AllOk t w d (total_g rs) (dot_u rs) rs)
-    (some : 0 < lows rs) (gp : 0 < total_g rs) (h q : ℕ) (hp : 0 < h) (f1 : q * total_g rs ≤ h * dot_s rs)
+module _ (t w d : ℕ) (rs : List Row) (tp : 0 < t) (wp : 0 < w) (ok : AllOk t w d rs) (some : 0 < lows rs)
+    (gp : 0 < total_g rs) (h q : ℕ) (hp : 0 < h) (f1 : q * total_g rs ≤ h * dot_s rs)
     (f2 : h * dot_s rs ≤ (q + 1) * total_g rs) where
-  parts : Parts w h (255 * gaps rs) (w * lows rs) d q (dot_s rs) (dot_u rs) (total_g rs) (weighted rs * 255 * t)
-      (mass_sum rs * 255 * t) (gaps rs * 255 * dens rs)
+  parts : Parts w h (lows rs) d q (dot_s rs) (dot_u rs) (total_g rs) (weighted rs * 255 * t) (mass_sum rs * 255 * t)
+      (255 * dens rs) (rise_pull rs) (fall_pull rs)
   parts =
       let up = rows_up t w d (total_g rs) (dot_u rs) rs ok in
       let down = rows_down t w d (total_g rs) (dot_u rs) rs ok in
-      let mass = mul-le-mul_right (w * (255 * gaps rs)) (lows_sum t w d (total_g rs) (dot_u rs) rs ok) in
+      let mass = mul-le-mul_right 255 (lows_sum t w d rs ok) in
       record {
-        den_pos = mul-pos wp some;
+        l_pos = some;
         g_pos = gp;
-        sums = record { up = omega (arith, up); down = omega (arith, down) };
-        gaps = omega (arith, mass);
-        singles = offs t w d (total_g rs) (dot_u rs) rs ok;
+        above = omega (arith, up);
+        below = omega (arith, down);
+        mass = omega (arith, mass);
+        singles = offs t w d rs ok;
         floor_low = f1;
         floor_high = f2;
       }
 
-  abbrev bound : ℕ
-  bound = ratio_bound w h (255 * gaps rs) (w * lows rs) d
-
-  abbrev x : ℕ
-  x = 255 * gaps rs * (255 * w * (255 * h)) + (d * (255 * h) + 1 * (255 * w)) * (w * lows rs)
-
-  abbrev y : ℕ
-  y = w * lows rs * (255 * w * (255 * h))
-
-  abbrev b : ℕ
-  b = up_div (1000000 * x) y
-
-  y_pos : 0 < y
-  y_pos = mul-pos (mul-pos wp some) (mul-pos (mul-pos (omega arith) wp) (mul-pos (omega arith) hp))
-
-  all : Apart (q * w * (mass_sum rs * 255 * t) * 1000000) (255 * h * (weighted rs * 255 * t) * 1000000)
-      (b * w * 255 * h * (mass_sum rs * 255 * t))
-  all = within 1000000 b w h (255 * gaps rs) (w * lows rs) d q (dot_s rs) (dot_u rs) (total_g rs)
-      (weighted rs * 255 * t) (mass_sum rs * 255 * t) (gaps rs * 255 * dens rs) parts
-      (let z = le-up_div (1000000 * x) y y_pos in omega arith)
-
   q_le : q ≤ 255 * h
   q_le = le_of_mul-le-mul_right {k = total_g rs}
-      (let a = dot_s_le t w d (total_g rs) (dot_u rs) rs ok in let p = mul-le-mul_right h a in omega arith) gp
+      (let a = dot_s_le t w d rs ok in let p = mul-le-mul_right h a in omega arith) gp
 
-  -- value (over 255 h, from lo) against the exact answer (weighted over mass_sum, from lo), in 10^6 parts of the range
-  pub rows_near : Apart (q * w * mass_sum rs * 1000000) (weighted rs * (255 * h) * 1000000)
-      (ratio_bound w h (255 * gaps rs) (w * lows rs) d * w * (255 * h) * mass_sum rs)
-  rows_near = ⊎_elim whole capped (cases_lt b 1000000)
+  -- value (over 255 h, from lo) against the exact answer (weighted over mass_sum, from lo), in 10^6 parts of the range,
+  -- where n covers the pulls
+  pub rows_near : (n : ℕ)
+      → (n < 1000000
+      → 1000000 * (65025 * h * rise_pull rs + (d * h + 1 * w) * (lows rs * total_g rs))
+      ≤ n * (255 * h * w * (lows rs * total_g rs)))
+      → (n < 1000000
+      → 1000000 * (65025 * h * fall_pull rs + (d * h + 0 * w) * (lows rs * total_g rs))
+      ≤ n * (255 * h * w * (lows rs * total_g rs)))
+      → Apart (q * w * mass_sum rs * 1000000) (weighted rs * (255 * h) * 1000000) (n * w * (255 * h) * mass_sum rs)
+  rows_near n hu hd = ⊎_elim whole capped (cases_lt n 1000000)
     where
-      whole : b < 1000000 → Apart (q * w * mass_sum rs * 1000000) (weighted rs * (255 * h) * 1000000)
-          (bound * w * (255 * h) * mass_sum rs)
+      whole : n < 1000000 → Apart (q * w * mass_sum rs * 1000000) (weighted rs * (255 * h) * 1000000)
+          (n * w * (255 * h) * mass_sum rs)
       whole l =
-          let e : bound ≡ b = omega arith in
+          let low = within_low w h (lows rs) d q (dot_s rs) (dot_u rs) (total_g rs) (weighted rs * 255 * t)
+          (mass_sum rs * 255 * t) (255 * dens rs) (rise_pull rs) (fall_pull rs) parts 1000000 n (let k = hd l in omega arith) in
+          let high = within_high w h (lows rs) d q (dot_s rs) (dot_u rs) (total_g rs) (weighted rs * 255 * t)
+          (mass_sum rs * 255 * t) (255 * dens rs) (rise_pull rs) (fall_pull rs) parts 1000000 n (let k = hu l in omega arith) in
           let u : (q * w * mass_sum rs * 1000000) * (255 * t)
-          ≤ (weighted rs * (255 * h) * 1000000 + b * w * (255 * h) * mass_sum rs) * (255 * t) =
-          (let a = all.up in omega arith) in
+          ≤ (weighted rs * (255 * h) * 1000000 + n * w * (255 * h) * mass_sum rs) * (255 * t) = omega (arith, low) in
           let v : (weighted rs * (255 * h) * 1000000) * (255 * t)
-          ≤ (q * w * mass_sum rs * 1000000 + b * w * (255 * h) * mass_sum rs) * (255 * t) =
-          (let a = all.down in omega arith) in
+          ≤ (q * w * mass_sum rs * 1000000 + n * w * (255 * h) * mass_sum rs) * (255 * t) = omega (arith, high) in
           let t5 : 0 < 255 * t = omega arith in
-          subst (λ n. Apart (q * w * mass_sum rs * 1000000) (weighted rs * (255 * h) * 1000000)
-          (n * w * (255 * h) * mass_sum rs)) (sym e)
-          (record { up = le_of_mul-le-mul_right u t5; down = le_of_mul-le-mul_right v t5 })
+          record { up = le_of_mul-le-mul_right u t5; down = le_of_mul-le-mul_right v t5 }
 
-      capped : 1000000 ≤ b → Apart (q * w * mass_sum rs * 1000000) (weighted rs * (255 * h) * 1000000)
-          (bound * w * (255 * h) * mass_sum rs)
+      capped : 1000000 ≤ n → Apart (q * w * mass_sum rs * 1000000) (weighted rs * (255 * h) * 1000000)
+          (n * w * (255 * h) * mass_sum rs)
       capped l =
-          let e : bound ≡ 1000000 = omega arith in
           let p : q * (w * mass_sum rs) ≤ (255 * h) * (w * mass_sum rs) = mul-le-mul_right (w * mass_sum rs) q_le in
-          let m : weighted rs * h ≤ (w * mass_sum rs) * h =
-          mul-le-mul_right h (weighted_le t w d (total_g rs) (dot_u rs) rs ok) in
-          subst (λ n. Apart (q * w * mass_sum rs * 1000000) (weighted rs * (255 * h) * 1000000)
-          (n * w * (255 * h) * mass_sum rs)) (sym e) (record { up = omega arith; down = omega arith })
+          let m : weighted rs * h ≤ (w * mass_sum rs) * h = mul-le-mul_right h (weighted_le t w d rs ok) in
+          let c : 1000000 * (w * (255 * h) * mass_sum rs) ≤ n * (w * (255 * h) * mass_sum rs) =
+          mul-le-mul_right (w * (255 * h) * mass_sum rs) l in
+          record { up = omega arith; down = omega arith }
 
 -- ---- from distances above the low end back to numbers
 

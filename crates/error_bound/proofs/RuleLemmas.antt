@@ -19,37 +19,41 @@ use Rattle.point_slope.specs.{Bytes.byte_shares_from, Bytes.total_mass as byte_t
 use Rattle.error_bound.specs.Boxes.{literal_span, literal_byte_span, rule_span, rule_byte_span, least_from}
 use Rattle.error_bound.specs.Faults.{parts_down, parts_up, IsStrongFault, weak, still, IsSilentFault, silent, loud}
 use Rattle.error_bound.specs.declared.boxes.LeafFault.TheVariants.{Weak, Silent, Loud}
-use Rattle.error_bound.specs.Spans.{span, byte_span, greatest_literal, only, Span}
-use Rattle.error_bound.specs.{Tight.greatest_of, Tight.low_part, Tight.is_still, Tight.moving_error, Leaves.IsStill}
-use Rattle.error_bound.specs.Errors.{billion, apart, weight_error, rule_error}
+use Rattle.error_bound.specs.Spans.{span, byte_span, sides, only, Span}
+use Rattle.error_bound.specs.{Tight.greatest_of, Tight.low_part, Tight.is_still, Tight.if_moving}
+use Rattle.error_bound.specs.Errors.{billion, apart, weight_error, rule_rise, rule_fall}
+use Rattle.error_bound.specs.Leaves.{IsStill}
 use Rattle.error_bound.specs.{declared.boxes.LeafFault.LeafFault, Boxes.greatest_from, Boxes.grades_over}
 use Rattle.error_bound.specs.{declared.boxes.Interval.Interval, declared.boxes.Leaf.Leaf, Flattening.IsSame}
-use Rattle.error_bound.proofs.Literals.{IsHeld, IsWithinSpans, within_spans, held_greater, within_none}
+use Rattle.error_bound.proofs.Literals.{IsHeld, IsWithinSpans, within_spans, held_joined, within_none}
 use Rattle.error_bound.proofs.SpanLemmas.{AreOrdered, between, levels_monotone}
 use Rattle.error_bound.proofs.FlatteningLemmas.{at_literal-holds, span_good}
 
--- q parts for g (v + 1)/256
-pub weighted_near : (t g e v w ew er q : ℕ) (f : Fraction) → v ≤ 256 → w ≤ 10000 → AtMost f one → IsNear t g f e
-    → v * 10000 * t ≤ w * 256 * t + ew * 2560000 → w * 256 * t ≤ v * 10000 * t + ew * 2560000
-    → v * g * t ≤ 256 * q * t + er * 256 * 255 → 256 * q ≤ v * g → IsNear t q (times f w) (e + ew + er)
-weighted_near t g e v w ew er q f hv hw h1 n w1 w2 q1 q2 =
+-- q parts for g (v + 1)/256; what rounding down may lose counts upwards alone
+pub weighted_near : (t g rise fall v w ew er q : ℕ) (f : Fraction) → v ≤ 256 → w ≤ 10000 → AtMost f one
+    → IsNear t g f rise fall → v * 10000 * t ≤ w * 256 * t + ew * 2560000 → w * 256 * t ≤ v * 10000 * t + ew * 2560000
+    → v * g * t ≤ 256 * q * t + er * 256 * 255 → 256 * q ≤ v * g
+    → IsNear t q (times f w) (rise + ew + er) (fall + ew)
+weighted_near t g rise fall v w ew er q f hv hw h1 n w1 w2 q1 q2 =
     let fd : f.num ≤ f.den = (let h = h1.cross in omega arith) in
     let a1 : (w * 256 * t) * (f.num * 255) ≤ (v * 10000 * t + ew * 2560000) * (f.num * 255) =
     mul-le-mul_right (f.num * 255) w2 in
     let a1' : f.num * (ew * 2560000 * 255) ≤ f.den * (ew * 2560000 * 255) = mul-le-mul_right (ew * 2560000 * 255) fd in
-    let a2 : (f.num * 255 * t) * (v * 10000) ≤ (g * f.den * t + e * 255 * f.den) * (v * 10000) =
+    let a2 : (f.num * 255 * t) * (v * 10000) ≤ (g * f.den * t + rise * 255 * f.den) * (v * 10000) =
     mul-le-mul_right (v * 10000) n.up in
-    let a2' : v * (10000 * e * 255 * f.den) ≤ 256 * (10000 * e * 255 * f.den) =
-    mul-le-mul_right (10000 * e * 255 * f.den) hv in
+    let a2' : v * (10000 * rise * 255 * f.den) ≤ 256 * (10000 * rise * 255 * f.den) =
+    mul-le-mul_right (10000 * rise * 255 * f.den) hv in
     let a3 : (v * g * t) * (10000 * f.den) ≤ (256 * q * t + er * 256 * 255) * (10000 * f.den) =
     mul-le-mul_right (10000 * f.den) q1 in
     let b1 : (v * 10000 * t) * (f.num * 255) ≤ (w * 256 * t + ew * 2560000) * (f.num * 255) =
     mul-le-mul_right (f.num * 255) w1 in
-    let b2 : (g * f.den * t) * (v * 10000) ≤ (f.num * 255 * t + e * 255 * f.den) * (v * 10000) =
+    let b2 : (g * f.den * t) * (v * 10000) ≤ (f.num * 255 * t + fall * 255 * f.den) * (v * 10000) =
     mul-le-mul_right (v * 10000) n.down in
+    let b2' : v * (10000 * fall * 255 * f.den) ≤ 256 * (10000 * fall * 255 * f.den) =
+    mul-le-mul_right (10000 * fall * 255 * f.den) hv in
     let b3 : (256 * q) * (t * 10000 * f.den) ≤ (v * g) * (t * 10000 * f.den) =
     mul-le-mul_right (t * 10000 * f.den) q2 in
-    record { up = omega arith; down = omega arith }
+    record { up = omega (arith, a1, a1', a2, a2', a3); down = omega (arith, a1', b1, b2, b2', b3) }
 
 times_one : (f : Fraction) (w : ℕ) → w ≤ 10000 → AtMost f one → AtMost (times f w) one
 times_one f w hw h = let p : f.num * w ≤ f.den * w = mul-le-mul_right w (let c = h.cross in omega arith) in
@@ -91,16 +95,18 @@ floor_part t g b hg =
     (λ _. byte_floor t g b hg)
 
 -- a truth times a weight, and a byte scaled by its byte
-scaled_held : (t g e v w ew : ℕ) (f : Fraction) → v ≤ 255 → w ≤ 10000 → (v + 1) * 10000 * t ≤ w * 256 * t + ew * 2560000
+scaled_held : (t g : ℕ) (e : Span ℕ) (v w ew : ℕ) (f : Fraction) → v ≤ 255 → w ≤ 10000
+    → (v + 1) * 10000 * t ≤ w * 256 * t + ew * 2560000
     → w * 256 * t ≤ (v + 1) * 10000 * t + ew * 2560000 → IsHeld t g f e
-    → IsHeld t (g * (v + 1) / 256) (times f w) (e + ew + (if v == 255 then 0 else up_div t 255))
+    → IsHeld t (g * (v + 1) / 256) (times f w)
+    (record { low = e.low + ew; high = e.high + ew + (if v == 255 then 0 else up_div t 255) })
 scaled_held t g e v w ew f hv hw w1 w2 h =
     let q = g * (v + 1) / 256 in
     record {
       proper = times_proper f w h.proper;
       to_one = times_one f w hw h.to_one;
       to_255 = (let p : g * (v + 1) ≤ 255 * (v + 1) = mul-le-mul_right (v + 1) h.to_255 in omega arith);
-      near = weighted_near t g e (v + 1) w ew (if v == 255 then 0 else up_div t 255) q f
+      near = weighted_near t g e.high e.low (v + 1) w ew (if v == 255 then 0 else up_div t 255) q f
           (omega arith) hw h.to_one h.near w1 w2 (floor_part t g v h.to_255) (omega arith);
     }
 
@@ -121,11 +127,16 @@ byte_in : (w : Option Dec) → IfSome w IsWeight → weight_byte_of w ≤ 255
 byte_in None h = omega arith
 byte_in (Some w) h = let l = weight_in (Some w) h in omega arith
 
-module _ (b : Block) (box : List Interval) (bytes : List ℕ) (xs : List Dec) (e : ℕ → ℕ → ℕ)
+-- from a rule's fall to its rise
+abbrev pub rule_sides : (ℕ → ℕ → Span ℕ) → Rule → Span ℕ
+rule_sides e r = record { low = rule_fall e r; high = rule_rise e r }
+
+module _ (b : Block) (box : List Interval) (bytes : List ℕ) (xs : List Dec) (e : ℕ → ℕ → Span ℕ)
     (l : (i t : ℕ) → IsWithinSpans billion (literal_degree b xs i t) (literal_grade b bytes i t) (e i t)
     (literal_span b box i t) (literal_byte_span b box i t)) where
+  -- a strength is at most that over bytes with the rule's rise, and at least that without its fall
   pub rule_within : (r : Rule) → IfSome r.weight IsWeight
-      → IsWithinSpans billion (strength b xs r) (byte_strength b bytes r) (rule_error e r) (rule_span b box r)
+      → IsWithinSpans billion (strength b xs r) (byte_strength b bytes r) (rule_sides e r) (rule_span b box r)
       (rule_byte_span b box r)
   rule_within r hw =
       let c = r.cond in
@@ -137,7 +148,7 @@ module _ (b : Block) (box : List Interval) (bytes : List ℕ) (xs : List Dec) (e
       let m = byte_span (literal_byte_span b box) c in
       let p = weight_parts billion ((v + 1) * 10000) (w * 256) in
       record {
-        held = scaled_held billion (byte_truth b bytes c) (greatest_literal e c) v w (weight_error r)
+        held = scaled_held billion (byte_truth b bytes c) (sides e c) v w (weight_error r)
             (truth (literal_degree b xs) c) (byte_in r.weight hw) (weight_in r.weight hw) p.0 p.1 h.held;
         between = record {
           low = times_ordered s.low (truth (literal_degree b xs) c) w h.between.low;
@@ -152,7 +163,7 @@ module _ (b : Block) (box : List Interval) (bytes : List ℕ) (xs : List Dec) (e
 
 -- ---- a rule's strengths over a box: the low's denominator is above 0, and over bytes the low is at most the high
 
-least_to_greatest : (g : ℕ → ℕ) (p n : ℕ) → least_from g p n ≤ greatest_from g p n
+pub least_to_greatest : (g : ℕ → ℕ) (p n : ℕ) → least_from g p n ≤ greatest_from g p n
 least_to_greatest g p zero = omega arith
 least_to_greatest g p (suc n) = let h = least_to_greatest g p n in omega arith
 
@@ -187,7 +198,7 @@ pub centre_none : (ss : List Share) (otherwise : Quotient) → total_mass ss ≡
 centre_none ss otherwise h = let e : (total_mass ss == 0) ≡ true = grind (arith, nat_tests) in
     ap (λ c. cond c otherwise (record { num = weighted_sum ss; den = total_mass ss * 10000 })) e
 
-module _ (b : Block) (box : List Interval) (bytes : List ℕ) (xs : List Dec) (e : ℕ → ℕ → ℕ)
+module _ (b : Block) (box : List Interval) (bytes : List ℕ) (xs : List Dec) (e : ℕ → ℕ → Span ℕ)
     (l : (i t : ℕ) → IsWithinSpans billion (literal_degree b xs i t) (literal_grade b bytes i t) (e i t)
     (literal_span b box i t) (literal_byte_span b box i t)) (o : ℕ) where
   pub still_rule : (r : Rule) → IfSome r.weight IsWeight → IsStill b box r
@@ -275,25 +286,38 @@ joined_least n a c f g pf pg h k = ⊎_elim
     (AtMost-trans (over a n) f (greater f g) pf h (AtMost-greater_left f g))))
     (cases_lt a c)
 
+-- from its fall to its rise, 0 where it is still
+abbrev pub moving_sides : Block → List Interval → (ℕ → ℕ → Span ℕ) → Rule → Span ℕ
+moving_sides b box e r =
+    record { low = if_moving b box r (rule_fall e r); high = if_moving b box r (rule_rise e r) }
+
+-- the greatest of the rules that conclude term t of output o
+abbrev pub sides_among : Block → List Interval → (ℕ → ℕ → Span ℕ) → ℕ → ℕ → List Rule → Span ℕ
+sides_among b box e o t rs = record {
+  low = greatest_of (λ r. if_moving b box r (rule_fall e r)) o t rs;
+  high = greatest_of (λ r. if_moving b box r (rule_rise e r)) o t rs;
+}
+
 max-mono : {a b c d : ℕ} → a ≤ c → b ≤ d → max a b ≤ max c d
 max-mono h k = omega arith
 
-module _ (b : Block) (box : List Interval) (bytes : List ℕ) (xs : List Dec) (e : ℕ → ℕ → ℕ)
+module _ (b : Block) (box : List Interval) (bytes : List ℕ) (xs : List Dec) (e : ℕ → ℕ → Span ℕ)
     (l : (i t : ℕ) → IsWithinSpans billion (literal_degree b xs i t) (literal_grade b bytes i t) (e i t)
     (literal_span b box i t) (literal_byte_span b box i t)) (o : ℕ) where
-  resting : (g : ℕ) (f : Fraction) → f.num ≡ 0 → g ≡ 0 → IsNear billion g f 0
+  resting : (g : ℕ) (f : Fraction) → f.num ≡ 0 → g ≡ 0 → IsNear billion g f 0 0
   resting g f n z = let p : g * f.den ≡ 0 = ap (λ m. m * f.den) z ∙ omega arith in
       record { up = omega arith; down = omega arith }
 
   moving_held : (r : Rule) → IfSome r.weight IsWeight
-      → IsHeld billion (byte_strength b bytes r) (strength b xs r) (moving_error b box e r)
+      → IsHeld billion (byte_strength b bytes r) (strength b xs r) (moving_sides b box e r)
   moving_held r hw = by_bool (is_still b box r) refl
     where
-      k : IsHeld billion (byte_strength b bytes r) (strength b xs r) (rule_error e r)
+      k : IsHeld billion (byte_strength b bytes r) (strength b xs r) (rule_sides e r)
       k = (rule_within b box bytes xs e l r hw).held
 
       by_bool : (c : Bool) → is_still b box r ≡ c
-          → IsHeld billion (byte_strength b bytes r) (strength b xs r) (if c then 0 else rule_error e r)
+          → IsHeld billion (byte_strength b bytes r) (strength b xs r)
+          (record { low = if c then 0 else rule_fall e r; high = if c then 0 else rule_rise e r })
       by_bool true h =
           let z = still_rule b box bytes xs e l o r hw (IsStill-test b box r h) in
           record {
@@ -306,21 +330,24 @@ module _ (b : Block) (box : List Interval) (bytes : List ℕ) (xs : List Dec) (e
 
   -- its bytes' mass is so near to it
   pub term_held : (t : ℕ) (rs : List Rule) → All (λ r. IfSome r.weight IsWeight) rs
-      → IsHeld billion (byte_mass_among b bytes o t rs) (mass_among b xs o t rs)
-      (greatest_of (moving_error b box e) o t rs)
-  term_held t [] hw = (within_none billion 0).held
+      → IsHeld billion (byte_mass_among b bytes o t rs) (mass_among b xs o t rs) (sides_among b box e o t rs)
+  term_held t [] hw = (within_none billion (only 0)).held
   term_held t (r ∷ rs) hw = by_bool (term_held t rs (λ k d i. hw (suc k) d (omega arith))) (concludes r o t)
     where
-      by_bool : IsHeld billion (byte_mass_among b bytes o t rs) (mass_among b xs o t rs)
-          (greatest_of (moving_error b box e) o t rs) → (c : Bool)
+      by_bool : IsHeld billion (byte_mass_among b bytes o t rs) (mass_among b xs o t rs) (sides_among b box e o t rs)
+          → (c : Bool)
           → IsHeld billion
           (if c then max (byte_strength b bytes r) (byte_mass_among b bytes o t rs) else byte_mass_among b bytes o t rs)
           (if c then greater (strength b xs r) (mass_among b xs o t rs) else mass_among b xs o t rs)
-          (if c then max (moving_error b box e r) (greatest_of (moving_error b box e) o t rs) else
-          greatest_of (moving_error b box e) o t rs)
-      by_bool rest true = held_greater billion (byte_strength b bytes r) (byte_mass_among b bytes o t rs)
-          (moving_error b box e r) (greatest_of (moving_error b box e) o t rs) (strength b xs r)
-          (mass_among b xs o t rs) (moving_held r (hw 0 r (omega arith))) rest
+          (record {
+            low = if c then max (moving_sides b box e r).low (sides_among b box e o t rs).low else
+                (sides_among b box e o t rs).low;
+            high = if c then max (moving_sides b box e r).high (sides_among b box e o t rs).high else
+                (sides_among b box e o t rs).high;
+          })
+      by_bool rest true = held_joined billion true (byte_strength b bytes r) (byte_mass_among b bytes o t rs)
+          (moving_sides b box e r) (sides_among b box e o t rs) (strength b xs r) (mass_among b xs o t rs)
+          (moving_held r (hw 0 r (omega arith))) rest
       by_bool rest false = rest
 
   -- and it is at least so much
@@ -329,7 +356,7 @@ module _ (b : Block) (box : List Interval) (bytes : List ℕ) (xs : List Dec) (e
   term_low t [] hw = record { cross = omega arith }
   term_low t (r ∷ rs) hw = by_bool (term_low t rs (λ k d i. hw (suc k) d (omega arith))) (concludes r o t)
     where
-      w : IsWithinSpans billion (strength b xs r) (byte_strength b bytes r) (rule_error e r) (rule_span b box r)
+      w : IsWithinSpans billion (strength b xs r) (byte_strength b bytes r) (rule_sides e r) (rule_span b box r)
           (rule_byte_span b box r)
       w = rule_within b box bytes xs e l r (hw 0 r (omega arith))
 
@@ -356,7 +383,7 @@ module _ (b : Block) (box : List Interval) (bytes : List ℕ) (xs : List Dec) (e
   term_bytes t [] hw = (omega arith, omega arith)
   term_bytes t (r ∷ rs) hw = by_bool (term_bytes t rs (λ k d i. hw (suc k) d (omega arith))) (concludes r o t)
     where
-      w : IsWithinSpans billion (strength b xs r) (byte_strength b bytes r) (rule_error e r) (rule_span b box r)
+      w : IsWithinSpans billion (strength b xs r) (byte_strength b bytes r) (rule_sides e r) (rule_span b box r)
           (rule_byte_span b box r)
       w = rule_within b box bytes xs e l r (hw 0 r (omega arith))
 

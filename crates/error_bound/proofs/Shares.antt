@@ -14,17 +14,22 @@ use Rattle.fuzzy_meaning.specs.Meaning.{shares, centre}
 use Rattle.byte_scaling.specs.Cells.{nearest_byte, NearestIsByte, value_in}
 use Rattle.point_slope.specs.Bytes.{ByteShare, literal_grade, byte_mass, byte_shares_from, total_mass as byte_total}
 use Rattle.point_slope.specs.Bytes.{weighted_sum as byte_weighted, byte_shares}
-use Rattle.error_bound.specs.Tight.{sum_over, greatest_over, low_of, byte_low_of, byte_high_of, error_of, if_live}
-use Rattle.error_bound.specs.Tight.{farthest, live_offset, IsSure, sure_bound}
-use Rattle.error_bound.specs.{Boxes.literal_span, Boxes.literal_byte_span, declared.boxes.Interval.Interval}
-use Rattle.error_bound.specs.{Bounds.offset, Bounds.ratio_bound, Errors.billion, Errors.apart}
-use Rattle.error_bound.proofs.Rows.{Apart, Row, dens, mass_sum, weighted, total_g, dot_u, dot_s, gaps, lows, AllOk}
+use Rattle.cell_error.specs.declared.{ranges.MassRange.MassRange, ranges.Deviation.Deviation}
+use Rattle.cell_error.specs.Errors.{AreBetween, total, weighted as weighted_by}
+use Rattle.cell_error.specs.Means.{pull, up as up_of, down as down_of}
+use Rattle.error_bound.specs.Tight.{sum_over, greatest_over, low_of, byte_low_of, byte_high_of, rise_of, fall_of}
+use Rattle.error_bound.specs.Tight.{if_live, live_offset, IsSure, IsSureBound, sure_sum, ranges_at, deviations_at}
+use Rattle.error_bound.specs.Tight.{byte_ranges, deviations}
+use Rattle.error_bound.specs.{Boxes.literal_span, Boxes.literal_byte_span, declared.boxes.Interval.Interval, Spans.Span}
+use Rattle.error_bound.specs.{Bounds.offset, Errors.billion}
+use Rattle.error_bound.proofs.Rows.{Row, dens, mass_sum, weighted, total_g, dot_u, dot_s, lows, AllOk, pull_rows}
+use Rattle.error_bound.proofs.Rows.{rise_pull, fall_pull}
 use Rattle.error_bound.proofs.RuleLemmas.{term_held, term_low, term_bytes}
 use Rattle.error_bound.proofs.{Rows.close_value, Rows.rows_near, Rows.mass_pos, Literals.IsWithinSpans}
 use Rattle.fz_list.proofs.Algebra.{All-slice_get}
 
 -- of the terms of output o from number t on
-abbrev pub rows_from : Block → List Interval → List ℕ → List Dec → (ℕ → ℕ → ℕ) → ℕ → Output → ℕ → List Dec → List Row
+abbrev pub rows_from : Block → List Interval → List ℕ → List Dec → (ℕ → ℕ → Span ℕ) → ℕ → Output → ℕ → List Dec → List Row
 rows_from b box bytes xs e o x t [] = []
 rows_from b box bytes xs e o x t (u ∷ us) =
     record {
@@ -32,8 +37,8 @@ rows_from b box bytes xs e o x t (u ∷ us) =
       s = nearest_byte x u;
       f = mass b xs o t;
       g = byte_mass b bytes o t;
-      e = error_of b box e o t;
-      w = farthest b box o x u;
+      rise = rise_of b box e o t;
+      fall = fall_of b box e o t;
       l = low_of b box o t;
     } ∷ rows_from b box bytes xs e o x (t + 1) us
 
@@ -56,7 +61,7 @@ pub record IsSameSum (lo : Dec) (ss : List Share) (rs : List Row) : Type 0 where
   pub masses_is : total_mass ss ≡ mass_sum rs
   pub sum_is : weighted_sum ss ≡ lo.0 *ℤ pos (mass_sum rs) +ℤ pos (weighted rs)
 
-module _ (b : Block) (box : List Interval) (bytes : List ℕ) (xs : List Dec) (e : ℕ → ℕ → ℕ) (o : ℕ) (x : Output) where
+module _ (b : Block) (box : List Interval) (bytes : List ℕ) (xs : List Dec) (e : ℕ → ℕ → Span ℕ) (o : ℕ) (x : Output) where
   pub same_sum : (t : ℕ) (us : List Dec) → All (IsWithin x.lo x.hi) us
       → IsSameSum x.lo (shares_from b xs o t us) (rows_from b box bytes xs e o x t us)
   same_sum t [] h = record { dens_is = refl; masses_is = refl; sum_is = omega (arith, ints) }
@@ -98,10 +103,41 @@ module _ (b : Block) (box : List Interval) (bytes : List ℕ) (xs : List Dec) (e
       → byte_weighted (byte_shares_from b bytes o x t us) ≡ dot_s (rows_from b box bytes xs e o x t us)
   byte_weighted_is = byte_sum_is (λ s. s.byte * s.mass) dot_s refl (λ _ _ _. refl)
 
-  pub gaps_is : (t : ℕ) (us : List Dec)
-      → sum_over (λ t u. farthest b box o x u * error_of b box e o t) t us ≡ gaps (rows_from b box bytes xs e o x t us)
-  gaps_is t [] = refl
-  gaps_is t (u ∷ us) = ap (λ a. farthest b box o x u * error_of b box e o t + a) (gaps_is (t + 1) us)
+  -- the masses over bytes, and the ends that they lie between with what they pull by
+  abbrev pub byte_masses : ℕ → List Dec → List ℕ
+  byte_masses t [] = []
+  byte_masses t (u ∷ us) = byte_mass b bytes o t ∷ byte_masses (t + 1) us
+
+  abbrev pub ranges_from : ℕ → List Dec → List MassRange
+  ranges_from k us = ranges_at (λ k. byte_low_of b box o (k + 1)) (λ k. byte_high_of b box o (k + 1)) x.lo k us
+
+  abbrev pub deviations_from : ℕ → List Dec → List Deviation
+  deviations_from k us = deviations_at (λ k. rise_of b box e o (k + 1)) (λ k. fall_of b box e o (k + 1)) k us
+
+  pub total_is : (t : ℕ) (us : List Dec) → total (byte_masses t us) ≡ total_g (rows_from b box bytes xs e o x t us)
+  total_is t [] = refl
+  total_is t (u ∷ us) = ap (λ a. byte_mass b bytes o t + a) (total_is (t + 1) us)
+
+  pub weighted_is : (k : ℕ) (us : List Dec) → weighted_by (ranges_from k us) (byte_masses (k + 1) us)
+      ≡ dot_u (rows_from b box bytes xs e o x (k + 1) us)
+  weighted_is k [] = refl
+  weighted_is k (u ∷ us) = ap (λ a. distance x.lo u * byte_mass b bytes o (k + 1) + a) (weighted_is (k + 1) us)
+
+  pub rises_are : (gg aa k : ℕ) (us : List Dec)
+      → pull (λ d. d.rise) (λ d. d.fall) (ranges_from k us) (deviations_from k us) gg aa
+      ≡ pull_rows (λ r. r.rise) (λ r. r.fall) gg aa (rows_from b box bytes xs e o x (k + 1) us)
+  rises_are gg aa k [] = refl
+  rises_are gg aa k (u ∷ us) =
+      ap (λ a. rise_of b box e o (k + 1) * (distance x.lo u * gg - aa)
+      + fall_of b box e o (k + 1) * (aa - distance x.lo u * gg) + a) (rises_are gg aa (k + 1) us)
+
+  pub falls_are : (gg aa k : ℕ) (us : List Dec)
+      → pull (λ d. d.fall) (λ d. d.rise) (ranges_from k us) (deviations_from k us) gg aa
+      ≡ pull_rows (λ r. r.fall) (λ r. r.rise) gg aa (rows_from b box bytes xs e o x (k + 1) us)
+  falls_are gg aa k [] = refl
+  falls_are gg aa k (u ∷ us) =
+      ap (λ a. fall_of b box e o (k + 1) * (distance x.lo u * gg - aa)
+      + rise_of b box e o (k + 1) * (aa - distance x.lo u * gg) + a) (falls_are gg aa (k + 1) us)
 
   pub lows_is : (t : ℕ) (us : List Dec)
       → sum_over (λ t u. low_of b box o t) t us ≡ lows (rows_from b box bytes xs e o x t us)
@@ -117,23 +153,7 @@ some_below h k = omega arith
 greatest_first : (a c d : ℕ) → max a c ≤ d → (a ≤ d) × (c ≤ d)
 greatest_first a c d h = (omega arith, omega arith)
 
-apart_is : (v u d : ℕ) → apart v u ≤ d → Apart v u d
-apart_is v u d h = record { up = omega arith; down = omega arith }
-
-one_reach : (v u g d : ℕ) → (0 < g → apart v u ≤ d) → Apart (v * g) (u * g) (d * g)
-one_reach v u g d h = ⊎_elim
-    (λ (p : 0 < g). (
-    let a = apart_is v u d (h p) in
-    let up : v * g ≤ (u + d) * g = mul-le-mul_right g a.up in
-    let down : u * g ≤ (v + d) * g = mul-le-mul_right g a.down in
-    let both : Apart (v * g) (u * g) (d * g) = record { up = omega arith; down = omega arith } in
-    both))
-    (λ (z : g ≤ 0). (
-    let e : 0 ≡ g = omega arith in
-    subst (λ k. Apart (v * k) (u * k) (d * k)) e (record { up = omega arith; down = omega arith })))
-    (cases_lt 0 g)
-
-module _ (b : Block) (box : List Interval) (bytes : List ℕ) (xs : List Dec) (e : ℕ → ℕ → ℕ)
+module _ (b : Block) (box : List Interval) (bytes : List ℕ) (xs : List Dec) (e : ℕ → ℕ → Span ℕ)
     (l : (i t : ℕ) → IsWithinSpans billion (literal_degree b xs i t) (literal_grade b bytes i t) (e i t)
     (literal_span b box i t) (literal_byte_span b box i t)) (hw : All (λ r. IfSome r.weight IsWeight) b.rules)
     (o : ℕ) (x : Output) where
@@ -148,6 +168,20 @@ module _ (b : Block) (box : List Interval) (bytes : List ℕ) (xs : List Dec) (e
       add : {p q r s : ℕ} → p ≤ q → r ≤ s → p + r ≤ q + s
       add h k = omega arith
 
+  pub bytes_between : (k : ℕ) (us : List Dec)
+      → AreBetween 1 (ranges_from b box bytes xs e o x k us) (byte_masses b box bytes xs e o x (k + 1) us)
+  bytes_between k [] = tt
+  bytes_between k (u ∷ us) =
+      let m = term_bytes b box bytes xs e l o (k + 1) b.rules hw in
+      let rest = bytes_between (k + 1) us in
+      (lower m.0, upper m.1, rest)
+    where
+      lower : {p q : ℕ} → p ≤ q → p * 1 ≤ q
+      lower h = omega arith
+
+      upper : {p q : ℕ} → p ≤ q → p ≤ q * 1
+      upper h = omega arith
+
   -- a term with a mass over bytes is live
   live : (t n d : ℕ) → 0 < byte_mass b bytes o t → if_live b box o t n ≤ d → n ≤ d
   live t n d some h =
@@ -159,32 +193,16 @@ module _ (b : Block) (box : List Interval) (bytes : List ℕ) (xs : List Dec) (e
       not_none : (m : ℕ) → 0 < m → (m == 0) ≡ false
       not_none m p = grind (arith, nat_tests)
 
-  reach : (v d t : ℕ) (us : List Dec)
-      → greatest_over (λ t s. if_live b box o t (apart v (distance x.lo s))) t us ≤ d
-      → Apart (v * total_g (rows_from b box bytes xs e o x t us)) (dot_u (rows_from b box bytes xs e o x t us))
-      (d * total_g (rows_from b box bytes xs e o x t us))
-  reach v d t [] h = record { up = omega arith; down = omega arith }
-  reach v d t (u ∷ us) h =
-      let p = greatest_first (if_live b box o t (apart v (distance x.lo u)))
-      (greatest_over (λ t s. if_live b box o t (apart v (distance x.lo s))) (t + 1) us) d h in
-      let rest = reach v d (t + 1) us p.1 in
-      let one = one_reach v (distance x.lo u) (byte_mass b bytes o t) d
-      (λ some. live t (apart v (distance x.lo u)) d some p.0) in
-      record { up = omega (arith, rest.up, one.up); down = omega (arith, rest.down, one.down) }
-
-  module _ (is_byte : NearestIsByte) (range : x.lo.0 <ℤ x.hi.0) (gg aa d : ℕ)
-      (whole : (v : ℕ) → Apart (v * gg) aa
-      (greatest_over (λ t s. if_live b box o t (apart v (distance x.lo s))) 1 x.singletons * gg)) where
+  module _ (is_byte : NearestIsByte) (range : x.lo.0 <ℤ x.hi.0) (d : ℕ) where
     pub rows_ok : (t : ℕ) (us : List Dec) → All (IsWithin x.lo x.hi) us
         → greatest_over (λ t s. if_live b box o t (offset x s)) t us ≤ d
-        → AllOk billion (distance x.lo x.hi) d gg aa (rows_from b box bytes xs e o x t us)
+        → AllOk billion (distance x.lo x.hi) d (rows_from b box bytes xs e o x t us)
     rows_ok t [] h k = tt
     rows_ok t (u ∷ us) h k =
         let m = term_held b box bytes xs e l o t b.rules hw in
         let hu = h 0 u (omega arith) in
         let p = greatest_first (if_live b box o t (offset x u))
-        (greatest_over (λ t s. if_live b box o t (offset x s)) (t + 1) us) d k in
-        let a = whole (distance x.lo u) in (
+        (greatest_over (λ t s. if_live b box o t (offset x s)) (t + 1) us) d k in (
           record {
             u_in = within_width x.lo x.hi u range hu;
             s_in = is_byte x u range hu;
@@ -192,24 +210,14 @@ module _ (b : Block) (box : List Interval) (bytes : List ℕ) (xs : List Dec) (e
             near = m.near;
             low = term_low b box bytes xs e l o t b.rules hw;
             offset = λ some. live t (offset x u) d some p.0;
-            reach = turned (distance x.lo u) (farthest b box o x u) gg aa a;
           },
           rows_ok (t + 1) us (λ i d k. h (suc i) d (omega arith)) p.1,
         )
-      where
-        turned : (v d gg aa : ℕ) → Apart (v * gg) aa (d * gg) → Apart (gg * v) aa (gg * d)
-        turned v d gg aa h = record { up = omega (arith, h.up); down = omega (arith, h.down) }
 
   -- of all terms
   pub all_ok : NearestIsByte → x.lo.0 <ℤ x.hi.0 → All (IsWithin x.lo x.hi) x.singletons
-      → AllOk billion (distance x.lo x.hi) (live_offset b box o x)
-      (total_g (rows_from b box bytes xs e o x 1 x.singletons)) (dot_u (rows_from b box bytes xs e o x 1 x.singletons))
-      (rows_from b box bytes xs e o x 1 x.singletons)
-  all_ok is_byte range h =
-      rows_ok is_byte range (total_g (rows_from b box bytes xs e o x 1 x.singletons))
-      (dot_u (rows_from b box bytes xs e o x 1 x.singletons)) (live_offset b box o x)
-      (λ v. reach v (greatest_over (λ t s. if_live b box o t (apart v (distance x.lo s))) 1 x.singletons) 1 x.singletons
-      (omega arith)) 1 x.singletons h (omega arith)
+      → AllOk billion (distance x.lo x.hi) (live_offset b box o x) (rows_from b box bytes xs e o x 1 x.singletons)
+  all_ok is_byte range h = rows_ok is_byte range (live_offset b box o x) 1 x.singletons h (omega arith)
 
 -- what a rule concludes is a term of the block
 both_true : (a c : Bool) → (a && c) ≡ true → (a ≡ true) × (c ≡ true)
@@ -253,16 +261,17 @@ pub record IsFiring (b : Block) (bytes : List ℕ) (xs : List Dec) (o : ℕ) (x 
       → h * byte_weighted (byte_shares b bytes o x) ≤ (q + 1) * byte_total (byte_shares b bytes o x)
       → IsClose (distance x.lo x.hi) n (value_in h x q) (centre (shares b xs o x) otherwise)
 
-module _ (b : Block) (box : List Interval) (bytes : List ℕ) (xs : List Dec) (e : ℕ → ℕ → ℕ) (valid : IsValid b)
+module _ (b : Block) (box : List Interval) (bytes : List ℕ) (xs : List Dec) (e : ℕ → ℕ → Span ℕ) (valid : IsValid b)
     (l : (i t : ℕ) → IsWithinSpans billion (literal_degree b xs i t) (literal_grade b bytes i t) (e i t)
     (literal_span b box i t) (literal_byte_span b box i t)) where
-  pub firing : NearestIsByte → (o : ℕ) (x : Output) (h : ℕ) → output_at b o ≡ Some x → 0 < h → IsSure b box o x
-      → IsFiring b bytes xs o x h (sure_bound b box e o x h)
-  firing is_byte o x h ex hh s =
+  pub firing : NearestIsByte → (o : ℕ) (x : Output) (h n : ℕ) → output_at b o ≡ Some x → 0 < h → IsSure b box o x
+      → IsSureBound b box e o x h n → IsFiring b bytes xs o x h n
+  firing is_byte o x h n ex hh s bound =
       let w = distance x.lo x.hi in
       let d = live_offset b box o x in
       let rs = rows_from b box bytes xs e o x 1 x.singletons in
       let ss = shares b xs o x in
+      let ms = byte_masses b box bytes xs e o x 1 x.singletons in
       let vx = All-slice_get IsValidOutput b.outputs (o - 1) x valid.outputs ex in
       let range = vx.range in
       let wp : 0 < w = omega (arith, ints) in
@@ -271,13 +280,22 @@ module _ (b : Block) (box : List Interval) (bytes : List ℕ) (xs : List Dec) (e
       let sm = same_sum b box bytes xs e o x 1 x.singletons vx.singletons in
       let gt = byte_total_is b box bytes xs e o x 1 x.singletons in
       let wt = byte_weighted_is b box bytes xs e o x 1 x.singletons in
-      let lp : 0 < lows rs = subst (λ m. 0 < m) (lows_is b box bytes xs e o x 1 x.singletons) s.sum in
+      let li = lows_is b box bytes xs e o x 1 x.singletons in
+      let lp : 0 < lows rs = subst (λ m. 0 < m) li s.sum in
       let gp : 0 < total_g rs = at_least s.bytes (bytes_least b box bytes xs e l hw o x 1 x.singletons) in
-      let mp : 0 < mass_sum rs = mass_pos billion w d (total_g rs) (dot_u rs) rs ok lp in
+      let mp : 0 < mass_sum rs = mass_pos billion w d rs ok lp in
       let tp : 0 < total_mass ss = subst (λ m. 0 < m) (sym sm.masses_is) mp in
-      let same : ratio_bound w h (255 * gaps rs) (w * lows rs) d ≡ sure_bound b box e o x h =
-      ap₂ (λ a c. ratio_bound w h (255 * a) (w * c) d) (sym (gaps_is b box bytes xs e o x 1 x.singletons))
-      (sym (lows_is b box bytes xs e o x 1 x.singletons)) in
+      let mg : total ms ≡ total_g rs = total_is b box bytes xs e o x 1 x.singletons in
+      let mw : weighted_by (byte_ranges b box o x) ms ≡ dot_u rs = weighted_is b box bytes xs e o x 0 x.singletons in
+      let between = bytes_between b box bytes xs e l hw o x 0 x.singletons in
+      let ts = byte_ranges b box o x in
+      let ds = deviations b box e o x in
+      let rises : up_of ts ds ms ≡ rise_pull rs =
+      ap₂ (λ g a. pull (λ d. d.rise) (λ d. d.fall) ts ds g a) mg mw
+      ∙ rises_are b box bytes xs e o x (total_g rs) (dot_u rs) 0 x.singletons in
+      let falls : down_of ts ds ms ≡ fall_pull rs =
+      ap₂ (λ g a. pull (λ d. d.fall) (λ d. d.rise) ts ds g a) mg mw
+      ∙ falls_are b box bytes xs e o x (total_g rs) (dot_u rs) 0 x.singletons in
       record {
         byte_pos = subst (λ m. 0 < m) (sym gt) gp;
         close = λ q otherwise f1 f2.
@@ -287,17 +305,23 @@ module _ (b : Block) (box : List Interval) (bytes : List ℕ) (xs : List Dec) (e
             let g2 : h * dot_s rs ≤ (q + 1) * total_g rs =
             subst (λ g. h * dot_s rs ≤ (q + 1) * g) gt
             (subst (λ a. h * a ≤ (q + 1) * byte_total (byte_shares b bytes o x)) wt f2) in
-            let n = ratio_bound w h (255 * gaps rs) (w * lows rs) d in
-            let st = rows_near billion w d rs (omega arith) wp ok lp gp h q hh g1 g2 in
+            let st = rows_near billion w d rs (omega arith) wp ok lp gp h q hh g1 g2 n
+            (λ k. at_rows w h d (sure_sum b box o x) (lows rs) 1 (up_of ts ds ms) (rise_pull rs) (total ms) (total_g rs) n
+            li rises mg (bound.covers k ms between).up)
+            (λ k. at_rows w h d (sure_sum b box o x) (lows rs) 0 (down_of ts ds ms) (fall_pull rs) (total ms)
+            (total_g rs) n li falls mg (bound.covers k ms between).down) in
             let c = close_value h x n q (weighted_sum ss) (mass_sum rs) (weighted rs) hh mp sm.sum_is st in
             let c1 : IsClose (distance x.lo x.hi) n (value_in h x q)
             (record { num = weighted_sum ss; den = total_mass ss * 10000 }) =
             subst (λ m. IsClose (distance x.lo x.hi) n (value_in h x q)
             (record { num = weighted_sum ss; den = m * 10000 })) (sym sm.masses_is) c in
-            subst (λ y. IsClose (distance x.lo x.hi) y (value_in h x q) (centre ss otherwise)) same
-            (subst (λ y. IsClose (distance x.lo x.hi) n (value_in h x q) y)
-            (sym (centre_some ss otherwise tp)) c1);
+            subst (λ y. IsClose (distance x.lo x.hi) n (value_in h x q) y) (sym (centre_some ss otherwise tp)) c1;
       }
     where
       at_least : {a c : ℕ} → 1 ≤ a → a ≤ c → 0 < c
       at_least h1 h2 = omega arith
+
+      at_rows : (w h d l l' floors u u' g g' n : ℕ) → l ≡ l' → u ≡ u' → g ≡ g'
+          → (65025 * h * u + (d * h + floors * w) * (l * g)) * 1000000 ≤ n * (255 * h * w * (l * g))
+          → 1000000 * (65025 * h * u' + (d * h + floors * w) * (l' * g')) ≤ n * (255 * h * w * (l' * g'))
+      at_rows w h d l l' floors u u' g g' n el eu eg k = rw (sym el, sym eu, sym eg) (omega arith)

@@ -8,7 +8,8 @@ use Rattle.fz_num.proofs.Algebra.{AtMost-greater_right}
 use Rattle.fuzzy_meaning.specs.Conditions.{Condition, Joins, levels, evaluate}
 use Rattle.fuzzy_meaning.specs.Meaning.{truths}
 use Rattle.fuzzy_meaning.proofs.Algebra.{evaluate-alike, IsDeMorgan}
-use Rattle.error_bound.specs.{Spans.Span, Spans.reversed, Spans.spans, Flattening.IsSame, Flattening.AreSame}
+use Rattle.error_bound.specs.{Spans.Span, Spans.reversed, Spans.spans, Spans.greatest}
+use Rattle.error_bound.specs.Flattening.{IsSame, AreSame}
 use Rattle.std.specs.Prelude.{not}
 use Rattle.error_bound.proofs.Sides.{none_least}
 
@@ -169,10 +170,10 @@ joined_degree false f g a b = record {
 minus_degree : (f : Fraction) → IsDegree f → IsDegree (one_minus f)
 minus_degree f a = record { proper = record { pos = a.proper.pos }; to_one = record { cross = omega arith } }
 
-same : (f : Fraction) → IsProper f → IsSame f f
+pub same : (f : Fraction) → IsProper f → IsSame f f
 same f p = record { left = p; right = p; below = AtMost-refl f; above = AtMost-refl f }
 
-same_trans : (f g h : Fraction) → IsSame f g → IsSame g h → IsSame f h
+pub same_trans : (f g h : Fraction) → IsSame f g → IsSame g h → IsSame f h
 same_trans f g h a b = record {
   left = a.left;
   right = b.right;
@@ -180,7 +181,7 @@ same_trans f g h a b = record {
   above = AtMost-trans h g f a.right b.above a.above;
 }
 
-truths_same : (or : Bool) (f g h k : Fraction) → IsSame f h → IsSame g k
+pub truths_same : (or : Bool) (f g h k : Fraction) → IsSame f h → IsSame g k
     → IsSame (truths.join or f g) (truths.join or h k)
 truths_same or f g h k a b =
     let there = truths_ordered or f g h k (fore a) (fore b) in
@@ -360,9 +361,6 @@ pub levels_grouping : IsGrouping (λ n. n ≤ 255) (λ m n. m ≡ n) (levels 255
 levels_grouping = record { join_none = level_nothing; none_join = nothing_level; join_join = levels_joined }
 
 -- ---- errors
-
-abbrev greatest : Joins ℕ
-greatest = record { none = λ any. 0; join = λ any. max }
 
 pub errors_de_morgan : IsDeMorgan (λ _. Unit {0}) (λ m n. m ≡ n) (λ n. n) greatest
 errors_de_morgan = record {

@@ -24,7 +24,7 @@ abbrev pub no_term : Trapezoid
 no_term = record { a = None; b = record { 0 = pos 0 }; c = record { 0 = pos 0 }; d = None }
 
 abbrev pub no_cells : TermCells
-no_cells = record { grades = []; errors = [] }
+no_cells = record { grades = []; rises = []; falls = [] }
 
 -- what the cells of an input have of a term
 pub term_cells_at : (x : Input) (v : Interval) (cells : InputCells) (t : ℕ) (term : Trapezoid) (otherwise : TermCells)
@@ -41,8 +41,7 @@ as_literal b box i t x term v r ex et ev h =
     record {
       value = rw (ex, et, ev) h.value;
       bytes = rw (ex, et, ev) h.bytes;
-      error =
-          rw (ex, et, ev) h.error;
+      sides = rw (ex, et, ev) h.sides;
       small = h.small;
     }
 

@@ -6,28 +6,33 @@ use Rattle.std.proofs.{lemmas.Bool.Decides.nat_tests, lemmas.Nat.mul-le, lemmas.
 use Rattle.std.proofs.lemmas.Int.{ints}
 use Rattle.std.specs.Prelude.{All, IsTrue, ◌==◌, ◌&&◌, ◌<ℤ◌, slice_index, IfSome, IfNone, if◌then◌else◌}
 use Rattle.std.specs.Option.{option_map_or}
-use Rattle.fz_list.proofs.Algebra.{All-slice_get}
+use Rattle.fz_list.proofs.Algebra.{All-slice_get, All-none, All-cons}
 use Rattle.fz_num.specs.Fractions.{Fraction, IsProper, AtMost, up_div, over}
 use Rattle.fz_num.specs.{declared.dec.Dec.Dec, Decimals.distance}
 use Rattle.fuzzy_meaning.specs.Blocks.{IsValid, IsValidOutput, IsWithin, output_at}
 use Rattle.fuzzy_meaning.specs.{declared.block.Output.Output, declared.block.Block.Block, declared.block.Rule.Rule}
 use Rattle.fuzzy_meaning.specs.Meaning.{concludes}
-use Rattle.error_bound.specs.Tight.{greatest_of, sum_over, low_part, is_still, moving_error, low_of, byte_low_of}
-use Rattle.error_bound.specs.Tight.{byte_high_of, error_of, if_live, farthest, live_offset, sure_sum, sure_bytes}
-use Rattle.error_bound.specs.Tight.{swing, sure_bound, IsSure, IsTightBound, silent as tight_silent, sure}
-use Rattle.error_bound.specs.TightLaws.{TightBoundsAreLeast, TightBoundsFallInside, TightBoundsAreOne}
-use Rattle.error_bound.specs.Masses.{AreGreatest, AreMasses, sum_at, if_some, farthest_at, offset_at, swing_at}
-use Rattle.error_bound.specs.Bounds.{ratio_bound, offset, silent_bound, errors_from, plus, in_millionths}
+use Rattle.cell_error.specs.declared.{ranges.MassRange.MassRange, ranges.Deviation.Deviation, means.Scale.Scale}
+use Rattle.cell_error.specs.Means.{pull, IsMeanError, MeansHaveErrors, IsByteRange, IsSmallDeviation}
+use Rattle.cell_error.specs.Errors.{AreBetween, total, weighted}
+use Rattle.error_bound.specs.Tight.{greatest_of, sum_over, low_part, is_still, if_moving, low_of, byte_low_of, rise_of}
+use Rattle.error_bound.specs.Tight.{byte_high_of, fall_of, if_live, live_offset, sure_sum, sure_bytes, ranges_at}
+use Rattle.error_bound.specs.Tight.{deviations_at, byte_ranges, deviations, scale, IsSureBound, IsSure, IsTightBound}
 use Rattle.error_bound.specs.Tight.{IsTightCount, of_bound, of_none, greatest_over, high_part}
+use Rattle.error_bound.specs.Tight.{silent as tight_silent, sure}
+use Rattle.error_bound.specs.TightLaws.{TightBoundsAreLeast, TightBoundsFallInside, TightBoundsAreOne}
+use Rattle.error_bound.specs.Masses.{AreGreatest, AreMasses, AreSmall, sum_at, if_some, offset_at, byte_ranges_at}
+use Rattle.error_bound.specs.Masses.{deviations_of, scale_at, IsBoundAt}
+use Rattle.error_bound.specs.Bounds.{offset, silent_bound, errors_from}
 use Rattle.error_bound.specs.{TightLaws.TightBoundsHoldInside, TightLaws.TightBoundsFallWithParts, Reaches.IsEndOfRule}
 use Rattle.error_bound.specs.{Leaves.Holds, Leaves.strong, Leaves.silent, Leaves.concludes_some, declared.ends.End.End}
 use Rattle.error_bound.specs.{Boxes.rule_span, Boxes.rule_byte_span, Boxes.IsBox, declared.boxes.Interval.Interval}
-use Rattle.error_bound.specs.{Errors.apart, Errors.billion, Errors.AreTermErrors, declared.tight.Masses.Masses}
-use Rattle.error_bound.specs.{CellErrors.term_errors, Flattening.IsSame, Best.silent_leaf, Masses.bound_at}
-use Rattle.error_bound.specs.{Ratios.value_of, Laws.IsInside}
-use Rattle.error_bound.proofs.Nested.{moved, bound_strong, bound_silent, ratio-mono, rule_narrow, IsNarrow}
-use Rattle.error_bound.proofs.TightLemmas.{greatest_of-mono, sum_over-mono, greatest_over-mono, strong_sure}
-use Rattle.error_bound.proofs.Nested.{leaves_hold_inside, less_rule, inside_itself, in_millionths-mono}
+use Rattle.error_bound.specs.Errors.{billion, AreTermErrors, rule_rise, rule_fall}
+use Rattle.error_bound.specs.{CellErrors.term_errors, Flattening.IsSame, Best.silent_leaf, declared.tight.Masses.Masses}
+use Rattle.error_bound.specs.{Ratios.value_of, Laws.IsInside, Spans.Span}
+use Rattle.error_bound.proofs.Nested.{moved, bound_strong, bound_silent, rule_narrow, IsNarrow, less_rise, less_fall}
+use Rattle.error_bound.proofs.Nested.{leaves_hold_inside, inside_itself}
+use Rattle.error_bound.proofs.TightLemmas.{bytes_ordered_at, greatest_of-mono, sum_over-mono, greatest_over-mono, strong_sure, sure_has}
 use Rattle.error_bound.proofs.RuleLemmas.{bytes_ordered, none_below, IsStill-test, none_same}
 use Rattle.error_bound.proofs.{TightLemmas.strong_least, AnswerLemmas.quiet_rules, Literals.term_errors-are}
 use Rattle.error_bound.proofs.{LeafLemmas.any-some, Shares.within_width}
@@ -38,16 +43,19 @@ width_pos x range = omega (arith, ints)
 
 -- ---- at most those of leaves
 
-pub tight_least : TightBoundsAreLeast
-tight_least b box o x h leaf m valid ex hh (strong r from k_from k_to er s) bd =
+pub tight_least : MeansHaveErrors → TightBoundsAreLeast
+tight_least have b box o x h leaf m valid ex hh (strong r from k_from k_to er s) bd =
     let e = bd.errors in
-    let sum = errors_from b e o 1 x.singletons in (
-      sure_bound b box e o x h,
-      sure e bd.are_errors (strong_sure b box e o x valid ex (leaf.rule - 1) r leaf.k er k_from s) refl,
+    let sum = errors_from b e o 1 x.singletons in
+    let vx : IsValidOutput x = All-slice_get IsValidOutput b.outputs (o - 1) x valid.outputs ex in
+    let is_sure = strong_sure b box e o x valid ex (leaf.rule - 1) r leaf.k er k_from s in
+    let n = sure_has have b box e o x vx.range h hh is_sure in (
+      n.0,
+      sure e bd.are_errors is_sure n.1,
       moved refl (bd.is ∙ bound_strong x h leaf.k sum k_from)
-          (strong_least b box e o x valid ex (leaf.rule - 1) r leaf.k er k_from s h hh),
+          (strong_least b box e o x valid ex (leaf.rule - 1) r leaf.k er k_from s h n.0 hh n.1),
     )
-tight_least b box o x h leaf m valid ex hh (silent z k every) bd = (
+tight_least have b box o x h leaf m valid ex hh (silent z k every) bd = (
   silent_bound x,
   tight_silent (silent refl refl every) refl,
   moved refl (bd.is ∙ bound_silent x h leaf.k (errors_from b bd.errors o 1 x.singletons) k) (omega arith),
@@ -82,6 +90,116 @@ not_both b box o x quiet s =
     below : {p q : ℕ} → p ≤ q → q ≡ 0 → p ≡ 0
     below h k = omega arith
 
+-- ---- with no more lists, no greater deviations and no less sure a mass no mean is further away
+
+between_more : (f g f' g' : ℕ → ℕ) (lo : Dec) → ((j : ℕ) → f' j ≤ f j) → ((j : ℕ) → g j ≤ g' j) → (k : ℕ)
+    (us : List Dec) (ms : List ℕ) → AreBetween 1 (ranges_at f g lo k us) ms → AreBetween 1 (ranges_at f' g' lo k us) ms
+between_more f g f' g' lo hf hg k [] [] b = tt
+between_more f g f' g' lo hf hg k [] (m ∷ ms) b = absurd b
+between_more f g f' g' lo hf hg k (u ∷ us) [] b = absurd b
+between_more f g f' g' lo hf hg k (u ∷ us) (m ∷ ms) b =
+    (lower (hf k) b.0, upper b.1 (hg k), between_more f g f' g' lo hf hg (k + 1) us ms b.2)
+  where
+    lower : {p q m : ℕ} → p ≤ q → q * 1 ≤ m → p * 1 ≤ m
+    lower h l = omega arith
+
+    upper : {p q m : ℕ} → m ≤ p * 1 → p ≤ q → m ≤ q * 1
+    upper l h = omega arith
+
+weighted_same : (f g f' g' : ℕ → ℕ) (lo : Dec) (k : ℕ) (us : List Dec) (ms : List ℕ)
+    → weighted (ranges_at f g lo k us) ms ≡ weighted (ranges_at f' g' lo k us) ms
+weighted_same f g f' g' lo k [] ms = refl
+weighted_same f g f' g' lo k (u ∷ us) [] = refl
+weighted_same f g f' g' lo k (u ∷ us) (m ∷ ms) =
+    ap (λ a. distance lo u * m + a) (weighted_same f g f' g' lo (k + 1) us ms)
+
+pull_less : (over under : Deviation → ℕ) (f g f' g' r l r' l' : ℕ → ℕ) (lo : Dec)
+    → ((j : ℕ) → (over (record { rise = r j; fall = l j }) ≤ over (record { rise = r' j; fall = l' j }))
+    × (under (record { rise = r j; fall = l j }) ≤ under (record { rise = r' j; fall = l' j }))) → (gg aa k : ℕ)
+    (us : List Dec) → pull over under (ranges_at f g lo k us) (deviations_at r l k us) gg aa
+    ≤ pull over under (ranges_at f' g' lo k us) (deviations_at r' l' k us) gg aa
+pull_less over under f g f' g' r l r' l' lo h gg aa k [] = omega arith
+pull_less over under f g f' g' r l r' l' lo h gg aa k (u ∷ us) =
+    let rest = pull_less over under f g f' g' r l r' l' lo h gg aa (k + 1) us in
+    let one = mul-le-mul_right (distance lo u * gg - aa) (h k).0 in
+    let two = mul-le-mul_right (aa - distance lo u * gg) (h k).1 in
+    both one two rest
+  where
+    both : {p p' q q' t t' : ℕ} → p ≤ p' → q ≤ q' → t ≤ t' → p + q + t ≤ p' + q' + t'
+    both h k l = omega arith
+
+served_less : (w h h' s s' d d' : ℕ) → 1 ≤ h' → 1 ≤ s' → h' ≤ h → s' ≤ s → d ≤ d' → (u u' g floors n : ℕ) → u ≤ u'
+    → (65025 * h' * u' + (d' * h' + floors * w) * (s' * g)) * 1000000 ≤ n * (255 * h' * w * (s' * g))
+    → (65025 * h * u + (d * h + floors * w) * (s * g)) * 1000000 ≤ n * (255 * h * w * (s * g))
+served_less w h h' s s' d d' hp sp hh hs hd u u' g floors n hu c =
+    let c1 : ((65025 * h' * u' + (d' * h' + floors * w) * (s' * g)) * 1000000) * (h * s)
+    ≤ (n * (255 * h' * w * (s' * g))) * (h * s) = mul-le-mul_right (h * s) c in
+    let a : u * s' ≤ u' * s = mul-le u s' u' s hu hs in
+    let a1 : (u * s') * (65025 * h * h' * 1000000) ≤ (u' * s) * (65025 * h * h' * 1000000) =
+    mul-le-mul_right (65025 * h * h' * 1000000) a in
+    let b1 : d * (h * s * g * h' * s' * 1000000) ≤ d' * (h * s * g * h' * s' * 1000000) =
+    mul-le-mul_right (h * s * g * h' * s' * 1000000) hd in
+    let e1 : h' * (floors * w * s * g * s' * 1000000) ≤ h * (floors * w * s * g * s' * 1000000) =
+    mul-le-mul_right (floors * w * s * g * s' * 1000000) hh in
+    let z : ((65025 * h * u + (d * h + floors * w) * (s * g)) * 1000000) * (h' * s')
+    ≤ (n * (255 * h * w * (s * g))) * (h' * s') = omega arith in
+    le_of_mul-le-mul_right z (mul-pos hp sp)
+
+served_same : (w h s d u u' g floors n : ℕ) → u ≤ u'
+    → (65025 * h * u' + (d * h + floors * w) * (s * g)) * 1000000 ≤ n * (255 * h * w * (s * g))
+    → (65025 * h * u + (d * h + floors * w) * (s * g)) * 1000000 ≤ n * (255 * h * w * (s * g))
+served_same w h s d u u' g floors n hu c =
+    let a : u * (65025 * h * 1000000) ≤ u' * (65025 * h * 1000000) = mul-le-mul_right (65025 * h * 1000000) hu in
+    omega arith
+
+-- what serves the pulls u' serves no greater ones
+abbrev ServesLess : ℕ → ℕ → ℕ → ℕ → ℕ → ℕ → ℕ → Type 0
+ServesLess w h h' s s' d d' = (u u' g floors n : ℕ) → u ≤ u'
+    → (65025 * h' * u' + (d' * h' + floors * w) * (s' * g)) * 1000000 ≤ n * (255 * h' * w * (s' * g))
+    → (65025 * h * u + (d * h + floors * w) * (s * g)) * 1000000 ≤ n * (255 * h * w * (s * g))
+
+module _ (x : Output) (f g f' g' r l r' l' : ℕ → ℕ) (s s' d d' h h' : ℕ)
+    (serves : ServesLess (distance x.lo x.hi) h h' s s' d d') (hf : (j : ℕ) → f' j ≤ f j) (hg : (j : ℕ) → g j ≤ g' j)
+    (hr : (j : ℕ) → r j ≤ r' j) (hl : (j : ℕ) → l j ≤ l' j) where
+  abbrev w : ℕ
+  w = distance x.lo x.hi
+
+  abbrev ts : List MassRange
+  ts = ranges_at f g x.lo 0 x.singletons
+
+  abbrev ts' : List MassRange
+  ts' = ranges_at f' g' x.lo 0 x.singletons
+
+  abbrev ds : List Deviation
+  ds = deviations_at r l 0 x.singletons
+
+  abbrev ds' : List Deviation
+  ds' = deviations_at r' l' 0 x.singletons
+
+  side_less : (over under : Deviation → ℕ) (floors n : ℕ) (ms : List ℕ)
+      → ((j : ℕ) → (over (record { rise = r j; fall = l j }) ≤ over (record { rise = r' j; fall = l' j }))
+      × (under (record { rise = r j; fall = l j }) ≤ under (record { rise = r' j; fall = l' j })))
+      → (65025 * h' * pull over under ts' ds' (total ms) (weighted ts' ms) + (d' * h' + floors * w) * (s' * total ms))
+      * 1000000 ≤ n * (255 * h' * w * (s' * total ms))
+      → (65025 * h * pull over under ts ds (total ms) (weighted ts ms) + (d * h + floors * w) * (s * total ms))
+      * 1000000 ≤ n * (255 * h * w * (s * total ms))
+  side_less over under floors n ms each c =
+      let same : weighted ts' ms ≡ weighted ts ms = weighted_same f' g' f g x.lo 0 x.singletons ms in
+      let p = pull_less over under f g f' g' r l r' l' x.lo each (total ms) (weighted ts ms) 0 x.singletons in
+      let k : pull over under ts ds (total ms) (weighted ts ms) ≤ pull over under ts' ds' (total ms) (weighted ts' ms) =
+      subst (λ a. pull over under ts ds (total ms) (weighted ts ms) ≤ pull over under ts' ds' (total ms) a) (sym same) p
+      in
+      serves (pull over under ts ds (total ms) (weighted ts ms)) (pull over under ts' ds' (total ms) (weighted ts' ms))
+      (total ms) floors n k c
+
+  mean_less : (n m : ℕ) → IsMeanError (record { width = w; sum = s; offset = d; parts = h }) ts ds n
+      → IsMeanError (record { width = w; sum = s'; offset = d'; parts = h' }) ts' ds' m → n ≤ m
+  mean_less n m p q = p.least m (λ small ms between.
+      let c = q.covers small ms (between_more f g f' g' x.lo hf hg 0 x.singletons ms between) in record {
+        up = side_less (λ d. d.rise) (λ d. d.fall) 1 m ms (λ j. (hr j, hl j)) c.up;
+        down = side_less (λ d. d.fall) (λ d. d.rise) 0 m ms (λ j. (hl j, hr j)) c.down;
+      })
+
 -- ---- on a smaller box
 
 pub part-mono : (f g : Fraction) → IsProper f → IsProper g → AtMost f g
@@ -98,7 +216,7 @@ part-mono f g pf pg l =
     floor : (n d : ℕ) → 255 * billion * n / d * d ≤ 255 * billion * n
     floor n d = omega arith
 
-both_tests : (n m : ℕ) → n ≡ 0 → m ≡ 0 → ((n == 0) && (m == 0)) ≡ true
+pub both_tests : (n m : ℕ) → n ≡ 0 → m ≡ 0 → ((n == 0) && (m == 0)) ≡ true
 both_tests n m e f = rw (e, f) refl
 
 less_if : {e f : ℕ} → (c d : Bool) → (d ≡ true → c ≡ true) → e ≤ f → (if c then 0 else e) ≤ (if d then 0 else f)
@@ -148,12 +266,6 @@ module _ (b : Block) (small box : List Interval) (valid : IsValid b) (count : le
   any_term : All (λ (u : Dec). Unit {0}) x.singletons
   any_term k d l = tt
 
-  farthest_falls : (u : Dec) → farthest b small o x u ≤ farthest b box o x u
-  farthest_falls u = greatest_over-mono {P = λ u. Unit {0}}
-      (λ t s. if_live b small o t (apart (distance x.lo u) (distance x.lo s)))
-      (λ t s. if_live b box o t (apart (distance x.lo u) (distance x.lo s)))
-      (λ t s _. live_falls t (apart (distance x.lo u) (distance x.lo s))) 1 x.singletons any_term
-
   offset_falls : live_offset b small o x ≤ live_offset b box o x
   offset_falls = greatest_over-mono {P = λ u. Unit {0}} (λ t s. if_live b small o t (offset x s))
       (λ t s. if_live b box o t (offset x s)) (λ t s _. live_falls t (offset x s)) 1 x.singletons any_term
@@ -172,37 +284,31 @@ module _ (b : Block) (small box : List Interval) (valid : IsValid b) (count : le
       rises : {p q : ℕ} → 1 ≤ p → p ≤ q → 1 ≤ q
       rises h k = omega arith
 
-  module _ (e f : ℕ → ℕ → ℕ) (es : AreTermErrors b small e) (fs : AreTermErrors b box f) where
-    error_falls : (t : ℕ) → error_of b small e o t ≤ error_of b box f o t
-    error_falls t = greatest_of-mono (moving_error b small e) (moving_error b box f) o t b.rules (λ k d l.
+  module _ (e f : ℕ → ℕ → Span ℕ) (es : AreTermErrors b small e) (fs : AreTermErrors b box f) where
+    rise_falls : (t : ℕ) → rise_of b small e o t ≤ rise_of b box f o t
+    rise_falls t = greatest_of-mono (λ r. if_moving b small r (rule_rise e r)) (λ r. if_moving b box r (rule_rise f r)) o t
+        b.rules (λ k d l.
         let r = get_or b.rules k d in
         less_if (is_still b small r) (is_still b box r) (still_inside r)
-        (less_rule b small box e f count ins es fs r (valid.rules k d l)))
+        (less_rise b small box e f count ins es fs r (valid.rules k d l)))
 
-    swing_falls : swing b small e o x ≤ swing b box f o x
-    swing_falls = sum_over-mono {P = λ u. Unit {0}} (λ t u. farthest b small o x u * error_of b small e o t)
-        (λ t u. farthest b box o x u * error_of b box f o t)
-        (λ t u _. mul-le (farthest b small o x u) (error_of b small e o t) (farthest b box o x u) (error_of b box f o t)
-        (farthest_falls u) (error_falls t)) 1 x.singletons any_term
+    fall_falls : (t : ℕ) → fall_of b small e o t ≤ fall_of b box f o t
+    fall_falls t = greatest_of-mono (λ r. if_moving b small r (rule_fall e r)) (λ r. if_moving b box r (rule_fall f r)) o t
+        b.rules (λ k d l.
+        let r = get_or b.rules k d in
+        less_if (is_still b small r) (is_still b box r) (still_inside r)
+        (less_fall b small box e f count ins es fs r (valid.rules k d l)))
 
-    sure_falls : (h : ℕ) → x.lo.0 <ℤ x.hi.0 → 1 ≤ h → IsSure b box o x
-        → sure_bound b small e o x h ≤ sure_bound b box f o x h
-    sure_falls h range hh s =
-        let w = distance x.lo x.hi in
-        let wp = width_pos x range in
-        let sp = (sure_inside s).sum in
-        ratio-mono w h h (255 * swing b small e o x) (w * sure_sum b small o x) (255 * swing b box f o x)
-        (w * sure_sum b box o x) (live_offset b small o x) (live_offset b box o x) wp hh (omega arith)
-        (mul-pos wp sp) (mul-pos wp s.sum)
-        (crossed (swing b small e o x) (swing b box f o x) w (sure_sum b box o x) (sure_sum b small o x) swing_falls
-        sum_rises) offset_falls
-      where
-        crossed : (a c w m n : ℕ) → a ≤ c → m ≤ n → 255 * a * (w * m) ≤ 255 * c * (w * n)
-        crossed a c w m n h k = let z : a * m ≤ c * n = mul-le a m c n h k in scaled (a * m) (c * n) z
-          where
-            scaled : (p q : ℕ) → p ≤ q → 255 * a * (w * m) ≤ 255 * c * (w * n)
-            scaled p q l = let z : (a * m) * (255 * w) ≤ (c * n) * (255 * w) =
-                mul-le-mul_right (255 * w) (mul-le a m c n h k) in omega arith
+    sure_falls : (h n m : ℕ) → 1 ≤ h → IsSure b box o x → IsSureBound b small e o x h n → IsSureBound b box f o x h m
+        → n ≤ m
+    sure_falls h n m hh s =
+        mean_less x (λ k. byte_low_of b small o (k + 1)) (λ k. byte_high_of b small o (k + 1))
+        (λ k. byte_low_of b box o (k + 1)) (λ k. byte_high_of b box o (k + 1)) (λ k. rise_of b small e o (k + 1))
+        (λ k. fall_of b small e o (k + 1)) (λ k. rise_of b box f o (k + 1)) (λ k. fall_of b box f o (k + 1))
+        (sure_sum b small o x) (sure_sum b box o x) (live_offset b small o x) (live_offset b box o x) h h
+        (served_less (distance x.lo x.hi) h h (sure_sum b small o x) (sure_sum b box o x) (live_offset b small o x)
+        (live_offset b box o x) hh s.sum (omega arith) sum_rises offset_falls) (λ j. byte_low_rises (j + 1)) (λ j. byte_high_falls (j + 1))
+        (λ j. rise_falls (j + 1)) (λ j. fall_falls (j + 1)) n m
 
 -- no Bound is above the whole range
 silent_small : (x : Output) → silent_bound x ≤ 1000000
@@ -216,29 +322,28 @@ silent_small x = by_default x.default
 pub small_bound : (b : Block) (box : List Interval) (o : ℕ) (x : Output) (h n : ℕ) → IsTightBound b box o x h n
     → n ≤ 1000000
 small_bound b box o x h n (tight_silent quiet is) = moved is refl (silent_small x)
-small_bound b box o x h n (sure e es s is) = moved is refl (omega arith)
+small_bound b box o x h n (sure e es s is) = is.least 1000000 (λ small. absurd (omega arith))
 
-pub tight_inside : TightBoundsHoldInside
-tight_inside b small box o x h m valid ex hh count ins some (tight_silent quiet is) = (
+pub tight_inside : MeansHaveErrors → TightBoundsHoldInside
+tight_inside have b small box o x h m valid ex hh count ins some (tight_silent quiet is) = (
   silent_bound x,
   tight_silent (leaves_hold_inside b small box o silent_leaf valid count ins some quiet) refl,
   moved refl is (omega arith),
 )
-tight_inside b small box o x h m valid ex hh count ins some (sure f fs s is) =
+tight_inside have b small box o x h m valid ex hh count ins some (sure f fs s is) =
     let vx : IsValidOutput x = All-slice_get IsValidOutput b.outputs (o - 1) x valid.outputs ex in
     let e = term_errors b small in
-    let es = term_errors-are b small valid some in (
-      sure_bound b small e o x h,
-      sure e es (sure_inside b small box valid count ins some o x s) refl,
-      moved refl is (sure_falls b small box valid count ins some o x e f es fs h vx.range hh s),
+    let es = term_errors-are b small valid some in
+    let t = sure_inside b small box valid count ins some o x s in
+    let n = sure_has have b small e o x vx.range h hh t in (
+      n.0,
+      sure e es t n.1,
+      sure_falls b small box valid count ins some o x e f es fs h n.0 m hh s n.1 is,
     )
 
 pub tight_falls : TightBoundsFallInside
 tight_falls b small box o x h n m valid ex hh count ins some p q = by_box p q
   where
-    vx : IsValidOutput x
-    vx = All-slice_get IsValidOutput b.outputs (o - 1) x valid.outputs ex
-
     to_inside : IsSure b box o x → IsSure b small o x
     to_inside = sure_inside b small box valid count ins some o x
 
@@ -250,7 +355,7 @@ tight_falls b small box o x h n m valid ex hh count ins some p q = by_box p q
     by_bounds (tight_silent quiet is) (sure f fs s are) = absurd (not_both b small o x quiet (to_inside s))
     by_bounds (sure e es s is) (tight_silent quiet are) = absurd (not_both b small o x (quiet_inside quiet) s)
     by_bounds (sure e es _ is) (sure f fs s are) =
-        moved is are (sure_falls b small box valid count ins some o x e f es fs h vx.range hh s)
+        sure_falls b small box valid count ins some o x e f es fs h n m hh s is are
 
     by_box : IsTightCount b small o x h n → IsTightCount b box o x h m → n ≤ m
     by_box (of_bound p) (of_bound q) = by_bounds p q
@@ -263,31 +368,41 @@ tight_falls b small box o x h n m valid ex hh count ins some p q = by_box p q
 
 module _ (b : Block) (box : List Interval) (valid : IsValid b) (count : length box ≡ length b.inputs) (o : ℕ)
     (x : Output) where
-  swing_below : (e f : ℕ → ℕ → ℕ) → AreTermErrors b box e → AreTermErrors b box f
-      → swing b box e o x ≤ swing b box f o x
-  swing_below e f es fs = sum_over-mono {P = λ u. Unit {0}} (λ t u. farthest b box o x u * error_of b box e o t)
-      (λ t u. farthest b box o x u * error_of b box f o t)
-      (λ t u _. mul-le (farthest b box o x u) (error_of b box e o t) (farthest b box o x u) (error_of b box f o t)
-      (omega arith) (greatest_of-mono (moving_error b box e) (moving_error b box f) o t b.rules (λ k d l.
+  rise_below : (e f : ℕ → ℕ → Span ℕ) → AreTermErrors b box e → AreTermErrors b box f → (t : ℕ)
+      → rise_of b box e o t ≤ rise_of b box f o t
+  rise_below e f es fs t = greatest_of-mono (λ r. if_moving b box r (rule_rise e r))
+      (λ r. if_moving b box r (rule_rise f r)) o t b.rules (λ k d l.
       let r = get_or b.rules k d in
       less_if (is_still b box r) (is_still b box r) (λ s. s)
-      (less_rule b box box e f count (inside_itself box) es fs r (valid.rules k d l))))) 1 x.singletons (λ k d l. tt)
+      (less_rise b box box e f count (inside_itself box) es fs r (valid.rules k d l)))
 
-  sure_one : (h : ℕ) (e f : ℕ → ℕ → ℕ) → AreTermErrors b box e → AreTermErrors b box f
-      → sure_bound b box e o x h ≡ sure_bound b box f o x h
-  sure_one h e f es fs =
-      let w = distance x.lo x.hi in
-      let same : swing b box e o x ≡ swing b box f o x = both_ways (swing_below e f es fs) (swing_below f e fs es) in
-      ap (λ n. ratio_bound w h (255 * n) (w * sure_sum b box o x) (live_offset b box o x)) same
-    where
-      both_ways : {m n : ℕ} → m ≤ n → n ≤ m → m ≡ n
-      both_ways l k = omega arith
+  fall_below : (e f : ℕ → ℕ → Span ℕ) → AreTermErrors b box e → AreTermErrors b box f → (t : ℕ)
+      → fall_of b box e o t ≤ fall_of b box f o t
+  fall_below e f es fs t = greatest_of-mono (λ r. if_moving b box r (rule_fall e r))
+      (λ r. if_moving b box r (rule_fall f r)) o t b.rules (λ k d l.
+      let r = get_or b.rules k d in
+      less_if (is_still b box r) (is_still b box r) (λ s. s)
+      (less_fall b box box e f count (inside_itself box) es fs r (valid.rules k d l)))
+
+  sure_below : (e f : ℕ → ℕ → Span ℕ) → AreTermErrors b box e → AreTermErrors b box f → (h n m : ℕ)
+      → IsSureBound b box e o x h n → IsSureBound b box f o x h m → n ≤ m
+  sure_below e f es fs h n m =
+      mean_less x (λ k. byte_low_of b box o (k + 1)) (λ k. byte_high_of b box o (k + 1))
+      (λ k. byte_low_of b box o (k + 1)) (λ k. byte_high_of b box o (k + 1)) (λ k. rise_of b box e o (k + 1))
+      (λ k. fall_of b box e o (k + 1)) (λ k. rise_of b box f o (k + 1)) (λ k. fall_of b box f o (k + 1))
+      (sure_sum b box o x) (sure_sum b box o x) (live_offset b box o x) (live_offset b box o x) h h
+      (served_same (distance x.lo x.hi) h (sure_sum b box o x) (live_offset b box o x)) (λ j. omega arith) (λ j. omega arith)
+      (λ j. rise_below e f es fs (j + 1)) (λ j. fall_below e f es fs (j + 1)) n m
 
   one_bound : (h n m : ℕ) → IsTightBound b box o x h n → IsTightBound b box o x h m → n ≡ m
   one_bound h n m (tight_silent quiet is) (tight_silent _ are) = is ∙ sym are
   one_bound h n m (tight_silent quiet is) (sure f fs s are) = absurd (not_both b box o x quiet s)
   one_bound h n m (sure e es s is) (tight_silent quiet are) = absurd (not_both b box o x quiet s)
-  one_bound h n m (sure e es _ is) (sure f fs s are) = is ∙ sure_one h e f es fs ∙ sym are
+  one_bound h n m (sure e es _ is) (sure f fs s are) =
+      both (sure_below e f es fs h n m is are) (sure_below f e fs es h m n are is)
+    where
+      both : {m n : ℕ} → m ≤ n → n ≤ m → m ≡ n
+      both l k = omega arith
 
 pub tight_one : TightBoundsAreOne
 tight_one b box o x h n m valid count (of_bound p) (of_bound q) = one_bound b box valid count o x h n m p q
@@ -301,19 +416,21 @@ tight_one b box o x h n m valid count (of_none _ _ is) (of_none _ _ are) = is �
 
 -- ---- in more parts to a byte
 
-pub tight_parts : TightBoundsFallWithParts
-tight_parts b box o x h n valid ex hh (tight_silent quiet is) =
+pub tight_parts : MeansHaveErrors → TightBoundsFallWithParts
+tight_parts have b box o x h n valid ex hh (tight_silent quiet is) =
     (silent_bound x, tight_silent quiet refl, moved refl is (omega arith))
-tight_parts b box o x h n valid ex hh (sure e es s is) =
+tight_parts have b box o x h n valid ex hh (sure e es s is) =
     let vx : IsValidOutput x = All-slice_get IsValidOutput b.outputs (o - 1) x valid.outputs ex in
-    let w = distance x.lo x.hi in
-    let wp = width_pos x vx.range in
-    let dp = mul-pos wp s.sum in
-    let d = live_offset b box o x in (
-      sure_bound b box e o x h,
-      sure e es s refl,
-      moved refl is (ratio-mono w h 1 (255 * swing b box e o x) (w * sure_sum b box o x) (255 * swing b box e o x)
-          (w * sure_sum b box o x) d d wp (omega arith) hh dp dp (omega arith) (omega arith)),
+    let m = sure_has have b box e o x vx.range h hh s in
+    let d = live_offset b box o x in
+    let l = sure_sum b box o x in (
+      m.0,
+      sure e es s m.1,
+      mean_less x (λ k. byte_low_of b box o (k + 1)) (λ k. byte_high_of b box o (k + 1))
+          (λ k. byte_low_of b box o (k + 1)) (λ k. byte_high_of b box o (k + 1)) (λ k. rise_of b box e o (k + 1))
+          (λ k. fall_of b box e o (k + 1)) (λ k. rise_of b box e o (k + 1)) (λ k. fall_of b box e o (k + 1)) l l d d h 1
+          (served_less (distance x.lo x.hi) h 1 l l d d (omega arith) s.sum hh (omega arith) (omega arith))
+          (λ j. omega arith) (λ j. omega arith) (λ j. omega arith) (λ j. omega arith) m.0 n m.1 is,
     )
 
 -- ---- the masses of an output's terms as the code finds them
@@ -404,11 +521,11 @@ AreGreatest-skipped f n o r rest rs values here none before = record {
 both_ways : {m n : ℕ} → m ≤ n → n ≤ m → m ≡ n
 both_ways l k = omega arith
 
-low_part-same : (f g : Fraction) → IsSame f g
+pub low_part-same : (f g : Fraction) → IsSame f g
     → 255 * billion * f.num / f.den ≡ 255 * billion * g.num / g.den
 low_part-same f g s = both_ways (part-mono f g s.left s.right s.below) (part-mono g f s.right s.left s.above)
 
-test-same : (n m : ℕ) → (n ≡ 0 → m ≡ 0) → (m ≡ 0 → n ≡ 0) → (n == 0) ≡ (m == 0)
+pub test-same : (n m : ℕ) → (n ≡ 0 → m ≡ 0) → (m ≡ 0 → n ≡ 0) → (n == 0) ≡ (m == 0)
 test-same n m h k = by_bool (n == 0) (m == 0) refl refl
   where
     by_bool : (c d : Bool) → (n == 0) ≡ c → (m == 0) ≡ d → c ≡ d
@@ -419,7 +536,7 @@ test-same n m h k = by_bool (n == 0) (m == 0) refl refl
     by_bool false true p q = absurd (let z : m ≡ 0 = grind (arith, nat_tests) in
         let y : n ≡ 0 = k z in let x : ⊥ = grind (arith, nat_tests) in x)
 
-back_same : (f g : Fraction) → IsSame f g → IsSame g f
+pub back_same : (f g : Fraction) → IsSame f g → IsSame g f
 back_same f g s = record { left = s.right; right = s.left; below = s.above; above = s.below }
 
 -- whether a rule is still, by its upper end
@@ -437,7 +554,7 @@ pub low_part-end : (b : Block) (box : List Interval) (r : Rule) (low : End) → 
     → 255000000000 * (value_of low.truth).num / (value_of low.truth).den ≡ low_part b box r
 low_part-end b box r low end = low_part-same (value_of low.truth) (rule_span b box r).low end.value
 
-up-mono : (c : ℕ) (f g : Fraction) → IsProper f → IsProper g → AtMost f g
+pub up-mono : (c : ℕ) (f g : Fraction) → IsProper f → IsProper g → AtMost f g
     → up_div (c * f.num) f.den ≤ up_div (c * g.num) g.den
 up-mono c f g pf pg l =
     let e = up_div (c * g.num) g.den in
@@ -455,27 +572,6 @@ high_part-end b box r high end =
     let s = end.value in
     both_ways (up-mono (255 * billion) f g s.left s.right s.below) (up-mono (255 * billion) g f s.right s.left s.above)
 
--- ---- the Bound
-
-in_millionths-same : (f g : Fraction) → IsProper f → IsProper g → f.num * g.den ≡ g.num * f.den
-    → in_millionths f ≡ in_millionths g
-in_millionths-same f g pf pg e =
-    both_ways (in_millionths-mono f g pf pg (record { cross = omega arith }))
-    (in_millionths-mono g f pg pf (record { cross = omega arith }))
-
--- over one denominator
-pub ratio_bound-is : (w h swing sum offset : ℕ) → 0 < w → 1 ≤ h → 1 ≤ sum
-    → in_millionths (over (swing * (65025 * h) + (offset * h + w) * sum) (w * (255 * h) * sum))
-    ≡ ratio_bound w h (255 * swing) (w * sum) offset
-ratio_bound-is w h swing sum offset wp hp sp =
-    let f = over (swing * (65025 * h) + (offset * h + w) * sum) (w * (255 * h) * sum) in
-    let g = plus (over (255 * swing) (w * sum)) (plus (over offset (255 * w)) (over 1 (255 * h))) in
-    let h5 : 0 < 255 * h = omega arith in
-    let w5 : 0 < 255 * w = omega arith in
-    let pf : 0 < w * (255 * h) * sum = mul-pos (mul-pos wp h5) sp in
-    let pg : 0 < w * sum * (255 * w * (255 * h)) = mul-pos (mul-pos wp sp) (mul-pos w5 h5) in
-    in_millionths-same f g (record { pos = pf }) (record { pos = pg }) (omega arith)
-
 -- ---- from the terms' numbers to the spec's
 
 sum_over-same : (f g : ℕ → Dec → ℕ) → ((t : ℕ) (u : Dec) → 1 ≤ t → t ≤ 15 → f t u ≡ g t u) → (t : ℕ) (us : List Dec)
@@ -489,6 +585,23 @@ greatest_over-same : (f g : ℕ → Dec → ℕ) → ((t : ℕ) (u : Dec) → 1 
 greatest_over-same f g h t [] from to = refl
 greatest_over-same f g h t (u ∷ us) from to =
     ap₂ (λ a c. max a c) (h t u from (omega arith)) (greatest_over-same f g h (t + 1) us (omega arith) (omega arith))
+
+ranges-same : (f f' g g' : ℕ → ℕ) (lo : Dec) → ((j : ℕ) → j < 15 → f j ≡ f' j) → ((j : ℕ) → j < 15 → g j ≡ g' j)
+    → (k : ℕ) (us : List Dec) → k + length us ≤ 15 → ranges_at f g lo k us ≡ ranges_at f' g' lo k us
+ranges-same f f' g g' lo hf hg k [] l = refl
+ranges-same f f' g g' lo hf hg k (u ∷ us) l =
+    ap₂ (λ (t : MassRange) (ts : List MassRange). t ∷ ts)
+    (ap₂ (λ (m n : ℕ). let t : MassRange = record { at = distance lo u; low = m; high = n } in t)
+    (hf k (omega arith)) (hg k (omega arith)))
+    (ranges-same f f' g g' lo hf hg (k + 1) us (omega arith))
+
+deviations-same : (f f' g g' : ℕ → ℕ) → ((j : ℕ) → j < 15 → f j ≡ f' j) → ((j : ℕ) → j < 15 → g j ≡ g' j)
+    → (k : ℕ) (us : List Dec) → k + length us ≤ 15 → deviations_at f g k us ≡ deviations_at f' g' k us
+deviations-same f f' g g' hf hg k [] l = refl
+deviations-same f f' g g' hf hg k (u ∷ us) l =
+    ap₂ (λ (t : Deviation) (ts : List Deviation). t ∷ ts)
+    (ap₂ (λ (m n : ℕ). let t : Deviation = record { rise = m; fall = n } in t) (hf k (omega arith)) (hg k (omega arith)))
+    (deviations-same f f' g g' hf hg (k + 1) us (omega arith))
 
 module _ (b : Block) (box : List Interval) (o : ℕ) (x : Output) (m : Masses) (ms : AreMasses b box o m)
     (few : length x.singletons ≤ 15) where
@@ -512,30 +625,29 @@ module _ (b : Block) (box : List Interval) (o : ℕ) (x : Output) (m : Masses) (
   live-same t n from to = ap (λ k. if k == 0 then 0 else n)
       (at_term (λ r. (rule_byte_span b box r).high) 255 m.byte_highs ms.byte_highs t from to)
 
-  farthest-same : (u : Dec) → farthest_at m.byte_highs x u ≡ farthest b box o x u
-  farthest-same u = greatest_over-same
-      (λ t s. if_some m.byte_highs t (apart (distance x.lo u) (distance x.lo s)))
-      (λ t s. if_live b box o t (apart (distance x.lo u) (distance x.lo s)))
-      (λ t s from to. live-same t (apart (distance x.lo u) (distance x.lo s)) from to) 1 x.singletons (omega arith)
-      (omega arith)
-
   offset-same : offset_at m.byte_highs x ≡ live_offset b box o x
   offset-same = greatest_over-same (λ t s. if_some m.byte_highs t (offset x s))
       (λ t s. if_live b box o t (offset x s)) (λ t s from to. live-same t (offset x s) from to) 1 x.singletons
       (omega arith) (omega arith)
 
-  swing-same : swing_at m.byte_highs m.errors x ≡ swing b box (term_errors b box) o x
-  swing-same = sum_over-same (λ t u. farthest_at m.byte_highs x u * slice_index m.errors (t - 1))
-      (λ t u. farthest b box o x u * error_of b box (term_errors b box) o t)
-      (λ t u from to. ap₂ (λ a c. a * c) (farthest-same u)
-      (at_term (moving_error b box (term_errors b box)) 3000000000 m.errors ms.errors t from to)) 1 x.singletons
-      (omega arith) (omega arith)
+  scale-same : (h : ℕ) → scale_at m x h ≡ scale b box o x h
+  scale-same h = ap₂ (λ (l d : ℕ). let s : Scale = record { width = distance x.lo x.hi; sum = l; offset = d; parts = h }
+      in s) sum-same offset-same
 
-  pub bound-same : (h : ℕ) → bound_at m x h ≡ sure_bound b box (term_errors b box) o x h
-  bound-same h =
-      let w = distance x.lo x.hi in
-      ap (λ n. ratio_bound w h (255 * n) (w * sum_at m.lows x.singletons) (offset_at m.byte_highs x)) swing-same
-      ∙ ap₂ (λ n d. ratio_bound w h (255 * swing b box (term_errors b box) o x) (w * n) d) sum-same offset-same
+  byte_ranges-same : byte_ranges_at m x ≡ byte_ranges b box o x
+  byte_ranges-same = ranges-same (slice_index m.byte_lows) (λ k. byte_low_of b box o (k + 1)) (slice_index m.byte_highs)
+      (λ k. byte_high_of b box o (k + 1)) x.lo ms.byte_lows.each ms.byte_highs.each 0 x.singletons (omega arith)
+
+  deviations_of-same : deviations_of m x ≡ deviations b box (term_errors b box) o x
+  deviations_of-same = deviations-same (slice_index m.rises) (λ k. rise_of b box (term_errors b box) o (k + 1))
+      (slice_index m.falls) (λ k. fall_of b box (term_errors b box) o (k + 1)) ms.rises.each ms.falls.each 0
+      x.singletons (omega arith)
+
+  pub bound-same : (h n : ℕ) → IsBoundAt m x h n → IsSureBound b box (term_errors b box) o x h n
+  bound-same h n is =
+      subst (λ d. IsMeanError (scale b box o x h) (byte_ranges b box o x) d n) deviations_of-same
+      (subst (λ t. IsMeanError (scale b box o x h) t (deviations_of m x) n) byte_ranges-same
+      (subst (λ s. IsMeanError s (byte_ranges_at m x) (deviations_of m x) n) (scale-same h) is))
 
 -- ---- how great they are
 
@@ -549,20 +661,33 @@ width_small x v =
 pub width_some : (x : Output) → IsValidOutput x → 0 < distance x.lo x.hi
 width_some x v = let r = v.range in omega (arith, ints)
 
-pub reach_small : (x : Output) (u s : Dec) → IsValidOutput x → IsWithin x.lo x.hi u → IsWithin x.lo x.hi s
-    → apart (distance x.lo u) (distance x.lo s) ≤ 2000010000
-reach_small x u s v hu hs =
-    through (distance x.lo u) (distance x.lo s) (distance x.lo x.hi) (within_width x.lo x.hi u v.range hu)
-    (within_width x.lo x.hi s v.range hs) (width_small x v)
-  where
-    through : (p q w : ℕ) → p ≤ w → q ≤ w → w ≤ 2000010000 → apart p q ≤ 2000010000
-    through p q w h k l = omega arith
+pub ranges_fit : (f g : ℕ → ℕ) (lo hi : Dec) → lo.0 <ℤ hi.0 → ((j : ℕ) → j < 15 → f j ≤ g j)
+    → ((j : ℕ) → j < 15 → g j ≤ 255) → (k : ℕ) (us : List Dec) → k + length us ≤ 15 → All (IsWithin lo hi) us
+    → All (IsByteRange (distance lo hi)) (ranges_at f g lo k us)
+ranges_fit f g lo hi range fg hg k [] l h = All-none (IsByteRange (distance lo hi))
+ranges_fit f g lo hi range fg hg k (u ∷ us) l h =
+    All-cons (IsByteRange (distance lo hi)) (record { at = distance lo u; low = f k; high = g k })
+    (ranges_at f g lo (k + 1) us)
+    (record {
+      at_to = within_width lo hi u range (h 0 u (omega arith));
+      ordered = fg k (omega arith);
+      high_to = hg k (omega arith);
+    })
+    (ranges_fit f g lo hi range fg hg (k + 1) us (omega arith) (λ i d j. h (suc i) d (omega arith)))
+
+pub deviations_fit : (f g : ℕ → ℕ) → ((j : ℕ) → j < 15 → f j ≤ 3000000000) → ((j : ℕ) → j < 15 → g j ≤ 3000000000)
+    → (k : ℕ) (us : List Dec) → k + length us ≤ 15 → All IsSmallDeviation (deviations_at f g k us)
+deviations_fit f g hf hg k [] l = All-none IsSmallDeviation
+deviations_fit f g hf hg k (u ∷ us) l =
+    All-cons IsSmallDeviation (record { rise = f k; fall = g k }) (deviations_at f g (k + 1) us)
+    (record { rise_to = hf k (omega arith); fall_to = hg k (omega arith) })
+    (deviations_fit f g hf hg (k + 1) us (omega arith))
 
 -- ---- of a box
 
 module _ (b : Block) (box : List Interval) (o : ℕ) (x : Output) (h : ℕ) (m : Masses) (ms : AreMasses b box o m)
     (few : length x.singletons ≤ 15) (found : output_at b o ≡ Some x) where
-  pub some_bound : AreTermErrors b box (term_errors b box) → (r : Option ℕ) → IfSome r (λ n. n ≡ bound_at m x h)
+  pub some_bound : AreTermErrors b box (term_errors b box) → (r : Option ℕ) → IfSome r (IsBoundAt m x h)
       → IfSome r (λ n. 1 ≤ sum_at m.lows x.singletons) → IfSome r (λ n. 1 ≤ sum_at m.byte_lows x.singletons)
       → IfSome r (λ n. IfSome (output_at b o) (λ y. IsTightBound b box o y h n))
   some_bound es None e s t = tt
@@ -572,7 +697,7 @@ module _ (b : Block) (box : List Interval) (o : ℕ) (x : Output) (h : ℕ) (m :
         bytes = subst (λ k. 1 ≤ k) (bytes-same b box o x m ms few) t;
       } in
       let bounds : IsTightBound b box o x h n =
-      sure (term_errors b box) es is_sure (e ∙ bound-same b box o x m ms few h) in
+      sure (term_errors b box) es is_sure (bound-same b box o x m ms few h n e) in
       rw found bounds
 
   pub none_sure : (r : Option ℕ)
@@ -583,6 +708,15 @@ module _ (b : Block) (box : List Interval) (o : ℕ) (x : Output) (h : ℕ) (m :
       (subst (λ k. 1 ≤ k) (sym (bytes-same b box o x m ms few)) s.bytes) in
       rw found never
   none_sure (Some n) none = tt
+
+-- over bytes no lower end is above the upper one
+pub ends_are_ordered : (b : Block) (box : List Interval) (o : ℕ) (m : Masses) → AreMasses b box o m → (t : ℕ) → t < 15
+    → slice_index m.byte_lows t ≤ slice_index m.byte_highs t
+ends_are_ordered b box o m ms t few =
+    let l = ms.byte_lows.each t few in
+    let h = ms.byte_highs.each t few in
+    let k = bytes_ordered_at b box o (t + 1) in
+    rw (l, h) k
 
 pub none_quiet : {A : Type 0} (r : Option ℕ) → (A → ⊥) → IfNone r (A → ⊥)
 none_quiet None h = h

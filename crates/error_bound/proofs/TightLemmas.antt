@@ -1,10 +1,10 @@
 -- The tight Bound's parts, the ends of a term's mass, and rules that are still.
 use Rattle.std.proofs.Common.{◌≡◌, ⊎_elim, ℕ, zero, suc, ◌+◌, ◌-◌, ◌*◌, ◌/◌, ◌<◌, ◌≤◌, max, Bool, true, false, List}
-use Rattle.std.proofs.Common.{[], ◌∷◌, length, get_or, Some, refl, sym, subst, arith, mul-le-mul_right, mul-pos}
+use Rattle.std.proofs.Common.{[], ◌∷◌, length, get_or, Some, refl, sym, subst, ap, ap₂, ◌∙◌, arith, mul-le-mul_right, mul-pos}
 use Rattle.std.proofs.{Common.Option, Common.None, Common.le_of_mul-le-mul_right, lemmas.Option.slice_get_within}
 use Rattle.std.proofs.{lemmas.Nat.mul-le, lemmas.Nat.le-div, lemmas.Bool.cases_lt, lemmas.Int.ints}
 use Rattle.std.specs.Prelude.{All, ◌==◌, slice_get, ◌<ℤ◌, IfSome, if◌then◌else◌}
-use Rattle.fz_list.proofs.Algebra.{All-slice_get, IsSomeAnd-some, some_at}
+use Rattle.fz_list.proofs.Algebra.{All-slice_get, All-none, All-cons, IsSomeAnd-some, some_at}
 use Rattle.fz_num.specs.Fractions.{Fraction, over, IsProper, AtMost, greater, none, up_div, lesser}
 use Rattle.fz_num.specs.{declared.dec.Dec.Dec, Decimals.distance}
 use Rattle.fuzzy_meaning.specs.Blocks.{IsValid, IsValidRule, IsWithin, HasSingleton, output_at, IsValidOutput}
@@ -13,19 +13,25 @@ use Rattle.fuzzy_meaning.specs.Conditions.{Condition, Conditions, all, also, con
 use Rattle.fuzzy_meaning.specs.{Blocks.IsValidInput, Blocks.IsWeight, Blocks.input_at, declared.block.Output.Output}
 use Rattle.fuzzy_meaning.specs.{declared.block.Trapezoid.Trapezoid, Places.points_of, Places.degree_at}
 use Rattle.fuzzy_meaning.specs.{declared.block.Block.Block, declared.block.Input.Input, declared.block.Rule.Rule}
-use Rattle.error_bound.specs.Errors.{billion, apart, rule_error, output_error, output_error_among, IsTermError}
-use Rattle.error_bound.specs.Tight.{greatest_of, sum_over, greatest_over, low_part, is_still, moving_error, low_of}
-use Rattle.error_bound.specs.Tight.{byte_low_of, byte_high_of, error_of, if_live, farthest, live_offset, sure_sum}
+use Rattle.error_bound.specs.Errors.{billion, rule_error, rule_rise, rule_fall, output_error, output_error_among}
+use Rattle.error_bound.specs.Errors.{AreTermSides}
+use Rattle.cell_error.specs.declared.{ranges.MassRange.MassRange, ranges.Deviation.Deviation}
+use Rattle.cell_error.specs.{Errors.total, Errors.weighted, Means.pull, Means.up, Means.down, Means.IsOrdered}
+use Rattle.cell_error.specs.{Means.MeansHaveErrors, Errors.sure_mass}
+use Rattle.error_bound.specs.Tight.{greatest_of, sum_over, greatest_over, low_part, is_still, if_moving, low_of}
+use Rattle.error_bound.specs.Tight.{byte_low_of, byte_high_of, rise_of, fall_of, if_live, live_offset, sure_sum}
+use Rattle.error_bound.specs.Tight.{ranges_at, deviations_at, byte_ranges, deviations, scale, IsSureBound}
 use Rattle.error_bound.specs.Boxes.{rule_span, rule_byte_span, IsBox, literal_span, literal_byte_span, grades_over}
-use Rattle.error_bound.specs.Bounds.{errors_from, strong_bound, offset, greatest_offset}
-use Rattle.error_bound.specs.Tight.{sure_bytes, swing, sure_bound, IsSure, high_part}
+use Rattle.error_bound.specs.Bounds.{errors_from, strong_bound, ratio_bound, offset, greatest_offset}
+use Rattle.error_bound.specs.Tight.{sure_bytes, IsSure, high_part}
 use Rattle.error_bound.specs.{Leaves.IsStrong, Leaves.IsStill, Leaves.concludes_some, declared.boxes.Interval.Interval}
-use Rattle.error_bound.specs.{CellErrors.term_error, CellErrors.term_errors, Masses.IsRuleMass, Masses.no_mass}
+use Rattle.error_bound.specs.{CellErrors.term_sides, CellErrors.term_errors, Masses.IsRuleMass, Masses.no_mass}
 use Rattle.error_bound.specs.{Spans.Span, Spans.only, Spans.span, Spans.byte_span, Errors.AreTermErrors}
 use Rattle.error_bound.specs.{Reaches.IsNowhere, Best.IsCandidate}
-use Rattle.error_bound.proofs.RuleLemmas.{rule_low_proper, term_held, rule_within, times_ordered, none_below}
+use Rattle.error_bound.proofs.RuleLemmas.{rule_low_proper, bytes_ordered, term_held, rule_within, times_ordered, none_below}
 use Rattle.error_bound.proofs.SpanLemmas.{IsBetween, AreOrdered, ordered-refl, between, truths_monotone}
-use Rattle.error_bound.proofs.Literals.{IsWithinSpans, term_errors-are, at_place, width_pos, least_le, le_greatest}
+use Rattle.error_bound.proofs.Literals.{IsWithinSpans, term_errors-are, at_place, width_pos, least_le}
+use Rattle.error_bound.proofs.CellErrors.{le_greatest}
 use Rattle.error_bound.proofs.FlatteningLemmas.{span_to_itself, at_literal-holds}
 use Rattle.error_bound.proofs.{RuleLemmas.scaled-mono, RuleLemmas.times_proper, Shares.concluded, Shares.within_width}
 use Rattle.error_bound.proofs.{SpanLemmas.levels_monotone, LeafLemmas.candidate-rule, Nested.ratio-mono}
@@ -112,69 +118,100 @@ live_less b box o t n = by_bool (byte_high_of b box o t == 0)
     by_bool true = omega arith
     by_bool false = omega arith
 
-moving_less : (b : Block) (box : List Interval) (e : ℕ → ℕ → ℕ) (r : Rule) → moving_error b box e r ≤ rule_error e r
-moving_less b box e r = by_bool (is_still b box r)
+moving_less : (b : Block) (box : List Interval) (r : Rule) (n m : ℕ) → n ≤ m → if_moving b box r n ≤ m
+moving_less b box r n m h = by_bool (is_still b box r)
   where
-    by_bool : (c : Bool) → (if c then 0 else rule_error e r) ≤ rule_error e r
+    by_bool : (c : Bool) → (if c then 0 else n) ≤ m
     by_bool true = omega arith
-    by_bool false = omega arith
+    by_bool false = h
 
-among_same : (e : ℕ → ℕ → ℕ) (o t : ℕ) (rs : List Rule) → greatest_of (rule_error e) o t rs
+among_same : (e : ℕ → ℕ → Span ℕ) (o t : ℕ) (rs : List Rule) → greatest_of (rule_error e) o t rs
     ≡ output_error_among e o t rs
 among_same e o t [] = refl
 among_same e o t (r ∷ rs) = rw (among_same e o t rs) refl
 
-error_less : (b : Block) (box : List Interval) (e : ℕ → ℕ → ℕ) (o t : ℕ) → error_of b box e o t ≤ output_error b e o t
-error_less b box e o t =
-    subst (λ m. error_of b box e o t ≤ m) (among_same e o t b.rules)
-    (greatest_of-mono (moving_error b box e) (rule_error e) o t b.rules
-    (λ k d l. moving_less b box e (get_or b.rules k d)))
+rise_rule : (e : ℕ → ℕ → Span ℕ) (r : Rule) → rule_rise e r ≤ rule_error e r
+rise_rule e r = omega arith
 
-errors_over : (b : Block) (e : ℕ → ℕ → ℕ) (o w t : ℕ) (us : List Dec)
-    → sum_over (λ t u. w * output_error b e o t) t us ≡ w * errors_from b e o t us
-errors_over b e o w t [] = omega arith
-errors_over b e o w t (u ∷ us) = let k = errors_over b e o w (t + 1) us in omega arith
+fall_rule : (e : ℕ → ℕ → Span ℕ) (r : Rule) → rule_fall e r ≤ rule_error e r
+fall_rule e r = omega arith
+
+rise_less : (b : Block) (box : List Interval) (e : ℕ → ℕ → Span ℕ) (o t : ℕ)
+    → rise_of b box e o t ≤ output_error b e o t
+rise_less b box e o t = subst (λ m. rise_of b box e o t ≤ m) (among_same e o t b.rules)
+    (greatest_of-mono (λ r. if_moving b box r (rule_rise e r)) (rule_error e) o t b.rules (λ k d l.
+    let r = get_or b.rules k d in moving_less b box r (rule_rise e r) (rule_error e r) (rise_rule e r)))
+
+fall_less : (b : Block) (box : List Interval) (e : ℕ → ℕ → Span ℕ) (o t : ℕ)
+    → fall_of b box e o t ≤ output_error b e o t
+fall_less b box e o t = subst (λ m. fall_of b box e o t ≤ m) (among_same e o t b.rules)
+    (greatest_of-mono (λ r. if_moving b box r (rule_fall e r)) (rule_error e) o t b.rules (λ k d l.
+    let r = get_or b.rules k d in moving_less b box r (rule_fall e r) (rule_error e r) (fall_rule e r)))
 
 offsets_over : (x : Output) (t : ℕ) (us : List Dec) → greatest_over (λ t s. offset x s) t us ≡ greatest_offset x us
 offsets_over x t [] = refl
 offsets_over x t (u ∷ us) = rw (offsets_over x (t + 1) us) refl
-
-near_within : (p q w : ℕ) → p ≤ w → q ≤ w → apart p q ≤ w
-near_within p q w h k = omega arith
 
 part_above : (k : ℕ) (f : Fraction) → IsProper f → AtMost (over k 255) f → billion * k ≤ 255 * billion * f.num / f.den
 part_above k f p h =
     let c : (k * f.den) * billion ≤ (f.num * 255) * billion = mul-le-mul_right billion h.cross in
     le-div (billion * k) (255 * billion * f.num) f.den p.pos (omega arith)
 
-module _ (b : Block) (box : List Interval) (e : ℕ → ℕ → ℕ) (o : ℕ) (x : Output) (range : x.lo.0 <ℤ x.hi.0)
-    (all_within : All (IsWithin x.lo x.hi) x.singletons) where
-  farthest_less : (u : Dec) → IsWithin x.lo x.hi u → farthest b box o x u ≤ distance x.lo x.hi
-  farthest_less u hu =
-      greatest_over-below {P = IsWithin x.lo x.hi}
-      (λ t s. if_live b box o t (apart (distance x.lo u) (distance x.lo s))) (distance x.lo x.hi)
-      (λ t s hs. least (live_less b box o t (apart (distance x.lo u) (distance x.lo s)))
-      (near_within (distance x.lo u) (distance x.lo s) (distance x.lo x.hi) (within_width x.lo x.hi u range hu)
-      (within_width x.lo x.hi s range hs))) 1 x.singletons all_within
-    where
-      least : {p q r : ℕ} → p ≤ q → q ≤ r → p ≤ r
-      least h k = omega arith
+-- a mean is within the range, so no term is further from it than the range is wide
+term_pull : (rise fall e u w g a : ℕ) → rise ≤ e → fall ≤ e → u ≤ w → a ≤ w * g
+    → rise * (u * g - a) + fall * (a - u * g) ≤ w * e * g
+term_pull rise fall e u w g a hr hf hu ha = ⊎_elim
+    (λ (l : u * g < a).
+    let z : 0 ≡ u * g - a = omega arith in
+    let p : fall * (a - u * g) ≤ e * (w * g) = mul-le fall (a - u * g) e (w * g) hf (omega arith) in
+    subst (λ n. rise * n + fall * (a - u * g) ≤ w * e * g) z (omega arith))
+    (λ (l : a ≤ u * g).
+    let z : 0 ≡ a - u * g = omega arith in
+    let h : u * g ≤ w * g = mul-le-mul_right g hu in
+    let p : rise * (u * g - a) ≤ e * (w * g) = mul-le rise (u * g - a) e (w * g) hr (omega arith) in
+    subst (λ n. rise * (u * g - a) + fall * n ≤ w * e * g) z (omega arith))
+    (cases_lt (u * g) a)
 
-  swing_less : swing b box e o x ≤ distance x.lo x.hi * errors_from b e o 1 x.singletons
-  swing_less =
-      subst (λ m. swing b box e o x ≤ m) (errors_over b e o (distance x.lo x.hi) 1 x.singletons)
-      (sum_over-mono {P = IsWithin x.lo x.hi} (λ t u. farthest b box o x u * error_of b box e o t)
-      (λ t u. distance x.lo x.hi * output_error b e o t)
-      (λ t u hu. mul-le (farthest b box o x u) (error_of b box e o t) (distance x.lo x.hi) (output_error b e o t)
-      (farthest_less u hu) (error_less b box e o t)) 1 x.singletons all_within)
+module _ (b : Block) (box : List Interval) (e : ℕ → ℕ → Span ℕ) (o : ℕ) (x : Output) (range : x.lo.0 <ℤ x.hi.0) where
+  abbrev w : ℕ
+  w = distance x.lo x.hi
 
-  offset_less : live_offset b box o x ≤ greatest_offset x x.singletons
-  offset_less =
+  abbrev ts_from : ℕ → List Dec → List MassRange
+  ts_from k us = ranges_at (λ k. byte_low_of b box o (k + 1)) (λ k. byte_high_of b box o (k + 1)) x.lo k us
+
+  abbrev ds_from : ℕ → List Dec → List Deviation
+  ds_from k us = deviations_at (λ k. rise_of b box e o (k + 1)) (λ k. fall_of b box e o (k + 1)) k us
+
+  weighted_less : (k : ℕ) (us : List Dec) → All (IsWithin x.lo x.hi) us → (ms : List ℕ)
+      → weighted (ts_from k us) ms ≤ w * total ms
+  weighted_less k [] h ms = omega arith
+  weighted_less k (u ∷ us) h [] = omega arith
+  weighted_less k (u ∷ us) h (m ∷ ms) =
+      let rest = weighted_less (k + 1) us (λ i d l. h (suc i) d (omega arith)) ms in
+      let one : distance x.lo u * m ≤ w * m =
+      mul-le-mul_right m (within_width x.lo x.hi u range (h 0 u (omega arith))) in
+      omega (arith, rest, one)
+
+  pull_less : (over under : Deviation → ℕ)
+      → ((t : ℕ) → (over (record { rise = rise_of b box e o t; fall = fall_of b box e o t }) ≤ output_error b e o t)
+      × (under (record { rise = rise_of b box e o t; fall = fall_of b box e o t }) ≤ output_error b e o t))
+      → (g a k : ℕ) → a ≤ w * g → (us : List Dec) → All (IsWithin x.lo x.hi) us
+      → pull over under (ts_from k us) (ds_from k us) g a ≤ w * errors_from b e o (k + 1) us * g
+  pull_less over under each g a k ha [] h = omega arith
+  pull_less over under each g a k ha (u ∷ us) h =
+      let rest = pull_less over under each g a (k + 1) ha us (λ i d l. h (suc i) d (omega arith)) in
+      let d : Deviation = record { rise = rise_of b box e o (k + 1); fall = fall_of b box e o (k + 1) } in
+      let one = term_pull (over d) (under d) (output_error b e o (k + 1)) (distance x.lo u) w g a (each (k + 1)).0
+      (each (k + 1)).1 (within_width x.lo x.hi u range (h 0 u (omega arith))) ha in
+      omega (arith, rest, one)
+
+  offset_less : All (IsWithin x.lo x.hi) x.singletons → live_offset b box o x ≤ greatest_offset x x.singletons
+  offset_less all_within =
       subst (λ m. live_offset b box o x ≤ m) (offsets_over x 1 x.singletons)
       (greatest_over-mono {P = IsWithin x.lo x.hi} (λ t s. if_live b box o t (offset x s)) (λ t s. offset x s)
       (λ t s _. live_less b box o t (offset x s)) 1 x.singletons all_within)
 
-module _ (b : Block) (box : List Interval) (e : ℕ → ℕ → ℕ) (o : ℕ) (x : Output) (valid : IsValid b)
+module _ (b : Block) (box : List Interval) (e : ℕ → ℕ → Span ℕ) (o : ℕ) (x : Output) (valid : IsValid b)
     (ex : output_at b o ≡ Some x) (n : ℕ) (r : Rule) (k : ℕ) (er : slice_get b.rules n ≡ Some r) (some : 1 ≤ k)
     (s : IsStrong b box o r k) where
   in_singletons : (1 ≤ s.term) × (s.term < 1 + length x.singletons)
@@ -209,30 +246,94 @@ module _ (b : Block) (box : List Interval) (e : ℕ → ℕ → ℕ) (o : ℕ) (
       least p q r h k l = omega arith
 
   -- and its tight Bound is at most the leaf's
-  pub strong_least : (h : ℕ) → 1 ≤ h
-      → sure_bound b box e o x h ≤ strong_bound x h (errors_from b e o 1 x.singletons) k
-  strong_least h hh =
+  pub strong_least : (h n : ℕ) → 1 ≤ h → IsSureBound b box e o x h n
+      → n ≤ strong_bound x h (errors_from b e o 1 x.singletons) k
+  strong_least h n hh bound =
       let vx : IsValidOutput x = All-slice_get IsValidOutput b.outputs (o - 1) x valid.outputs ex in
       let w = distance x.lo x.hi in
       let wp : 0 < w = width x vx.range in
       let sum = errors_from b e o 1 x.singletons in
-      let m = sure_sum b box o x in
-      let mp : 1 ≤ m = strong_sure.sum in
-      let kp : 0 < billion * k = omega arith in
-      let l = crossed (swing b box e o x) sum w m (billion * k)
-      (swing_less b box e o x vx.range vx.singletons) sum_least
-      in
-      ratio-mono w h h (255 * swing b box e o x) (w * m) (sum * 255) (billion * k) (live_offset b box o x)
-      (greatest_offset x x.singletons) wp hh (omega arith) (mul-pos wp mp) kp l
-      (offset_less b box e o x vx.range vx.singletons)
+      let l = sure_sum b box o x in
+      let f = strong_bound x h sum k in
+      let mean : (ms : List ℕ) → weighted (byte_ranges b box o x) ms ≤ w * total ms =
+      λ ms. weighted_less b box e o x vx.range 0 x.singletons vx.singletons ms in
+      let offset = offset_less b box e o x vx.range vx.singletons in
+      bound.least f (λ small ms between. record {
+        up = covered w h sum (billion * k) l (live_offset b box o x) (greatest_offset x x.singletons)
+            (up (byte_ranges b box o x) (deviations b box e o x) ms) (total ms) f 1 wp hh (omega arith) (omega arith)
+            sum_least offset (pull_less b box e o x vx.range (λ d. d.rise) (λ d. d.fall)
+            (λ t. (rise_less b box e o t, fall_less b box e o t)) (total ms) (weighted (byte_ranges b box o x) ms) 0
+            (mean ms) x.singletons vx.singletons) (omega arith) small;
+        down = covered w h sum (billion * k) l (live_offset b box o x) (greatest_offset x x.singletons)
+            (down (byte_ranges b box o x) (deviations b box e o x) ms) (total ms) f 0 wp hh (omega arith) (omega arith)
+            sum_least offset (pull_less b box e o x vx.range (λ d. d.fall) (λ d. d.rise)
+            (λ t. (fall_less b box e o t, rise_less b box e o t)) (total ms) (weighted (byte_ranges b box o x) ms) 0
+            (mean ms) x.singletons vx.singletons) (omega arith) small;
+      })
     where
       width : (x : Output) → x.lo.0 <ℤ x.hi.0 → 0 < distance x.lo x.hi
       width x range = omega (arith, ints)
 
-      crossed : (a s w m p : ℕ) → a ≤ w * s → p ≤ m → 255 * a * p ≤ s * 255 * (w * m)
-      crossed a s w m p h k =
-          let z : a * p ≤ (w * s) * m = mul-le a p (w * s) m h k in
-          omega arith
+      covered : (w h sum p l d d' u g f floors : ℕ) → 0 < w → 1 ≤ h → 0 < p → floors ≤ 1 → p ≤ l → d ≤ d'
+          → u ≤ w * sum * g → ratio_bound w h (sum * 255) p d' ≤ f → f < 1000000
+          → (65025 * h * u + (d * h + floors * w) * (l * g)) * 1000000 ≤ f * (255 * h * w * (l * g))
+      covered w h sum p l d d' u g f floors wp hh pp fl hp hd hu is small =
+          let num = sum * 255 * (255 * w * (255 * h)) + (d' * (255 * h) + 1 * (255 * w)) * p in
+          let den = p * (255 * w * (255 * h)) in
+          let dp : 0 < den = mul-pos pp (mul-pos (mul-pos (omega arith) wp) (mul-pos (omega arith) hh)) in
+          let up = le-up_div (1000000 * num) den dp in
+          let q : up_div (1000000 * num) den ≤ f = omega arith in
+          let r : up_div (1000000 * num) den * den ≤ f * den = mul-le-mul_right den q in
+          let c : 1000000 * num ≤ f * den = omega arith in
+          let c1 : (1000000 * num) * (l * g) ≤ (f * den) * (l * g) = mul-le-mul_right (l * g) c in
+          let a1 : u * p ≤ (w * sum * g) * l = mul-le u p (w * sum * g) l hu hp in
+          let a2 : (u * p) * (255 * 65025 * h * 1000000) ≤ ((w * sum * g) * l) * (255 * 65025 * h * 1000000) =
+          mul-le-mul_right (255 * 65025 * h * 1000000) a1 in
+          let b1 : d * (h * (l * g) * p * 255 * 1000000) ≤ d' * (h * (l * g) * p * 255 * 1000000) =
+          mul-le-mul_right (h * (l * g) * p * 255 * 1000000) hd in
+          let b2 : floors * (w * (l * g) * p * 255 * 1000000) ≤ 1 * (w * (l * g) * p * 255 * 1000000) =
+          mul-le-mul_right (w * (l * g) * p * 255 * 1000000) fl in
+          let z : ((65025 * h * u + (d * h + floors * w) * (l * g)) * 1000000) * (p * 255)
+          ≤ (f * (255 * h * w * (l * g))) * (p * 255) = omega arith in
+          le_of_mul-le-mul_right z (mul-pos pp (omega arith))
+
+-- ---- a sure box has a Bound
+
+pub bytes_ordered_at : (b : Block) (box : List Interval) (o t : ℕ) → byte_low_of b box o t ≤ byte_high_of b box o t
+bytes_ordered_at b box o t = greatest_of-mono (λ r. (rule_byte_span b box r).low) (λ r. (rule_byte_span b box r).high) o t
+    b.rules (λ k d l. bytes_ordered b box (get_or b.rules k d))
+
+pub ranges_ordered : (f g : ℕ → ℕ) (lo : Dec) → ((j : ℕ) → f j ≤ g j) → (k : ℕ) (us : List Dec)
+    → All IsOrdered (ranges_at f g lo k us)
+ranges_ordered f g lo fg k [] = All-none IsOrdered
+ranges_ordered f g lo fg k (u ∷ us) = All-cons IsOrdered (record { at = distance lo u; low = f k; high = g k })
+    (ranges_at f g lo (k + 1) us) (fg k) (ranges_ordered f g lo fg (k + 1) us)
+
+pub lows_are : (f g : ℕ → ℕ) (lo : Dec) (k : ℕ) (us : List Dec)
+    → sure_mass (ranges_at f g lo k us) ≡ sum_over (λ t u. f (t - 1)) (k + 1) us
+lows_are f g lo k [] = refl
+lows_are f g lo k (u ∷ us) =
+    let here : k ≡ k + 1 - 1 = omega arith in
+    ap₂ (λ m n. m + n) (ap f here) (lows_are f g lo (k + 1) us)
+
+pub sums_same : (f g : ℕ → ℕ) → ((t : ℕ) → 1 ≤ t → f t ≡ g t) → (t : ℕ) (us : List Dec) → 1 ≤ t
+    → sum_over (λ t u. f t) t us ≡ sum_over (λ t u. g t) t us
+sums_same f g h t [] from = refl
+sums_same f g h t (u ∷ us) from = ap₂ (λ m n. m + n) (h t from) (sums_same f g h (t + 1) us (omega arith))
+
+pub sure_has : MeansHaveErrors → (b : Block) (box : List Interval) (e : ℕ → ℕ → Span ℕ) (o : ℕ) (x : Output)
+    → x.lo.0 <ℤ x.hi.0 → (h : ℕ) → 1 ≤ h → IsSure b box o x → (n : ℕ) × IsSureBound b box e o x h n
+sure_has have b box e o x range h hh s =
+    have (scale b box o x h) (byte_ranges b box o x) (deviations b box e o x)
+    (record { width = omega (arith, ints); sum = s.sum; parts = hh })
+    (ranges_ordered (λ k. byte_low_of b box o (k + 1)) (λ k. byte_high_of b box o (k + 1)) x.lo
+    (λ j. bytes_ordered_at b box o (j + 1)) 0 x.singletons)
+    (subst (λ n. 1 ≤ n) (sym lows) s.bytes)
+  where
+    lows : sure_mass (byte_ranges b box o x) ≡ sure_bytes b box o x
+    lows = lows_are (λ k. byte_low_of b box o (k + 1)) (λ k. byte_high_of b box o (k + 1)) x.lo 0 x.singletons
+        ∙ sums_same (λ t. byte_low_of b box o (t - 1 + 1)) (λ t. byte_low_of b box o t)
+        (λ t from. let back : t - 1 + 1 ≡ t = omega arith in ap (byte_low_of b box o) back) 1 x.singletons (omega arith)
 
 -- ---- the mass of a term lies between its ends, and no lower end is above the upper one
 
@@ -293,7 +394,7 @@ between_greater c l1 h1 l2 h2 f g pf pg bf bg = by_greater (IsMassBetween c (max
           let a = bg.high in omega arith;
     })
 
-module _ (b : Block) (box : List Interval) (bytes : List ℕ) (xs : List Dec) (e : ℕ → ℕ → ℕ)
+module _ (b : Block) (box : List Interval) (bytes : List ℕ) (xs : List Dec) (e : ℕ → ℕ → Span ℕ)
     (l : (i t : ℕ) → IsWithinSpans billion (literal_degree b xs i t) (literal_grade b bytes i t) (e i t)
     (literal_span b box i t) (literal_byte_span b box i t)) (o : ℕ) where
   pub mass_between : (t : ℕ) (rs : List Rule) → All (λ r. IfSome r.weight IsWeight) rs
@@ -324,14 +425,14 @@ module _ (b : Block) (box : List Interval) (bytes : List ℕ) (xs : List Dec) (e
 -- ---- the two ends
 
 -- a cell's start lies in it
-start_in : (w b : ℕ) → 0 < w → IsInCell w b (cell_start w b)
+pub start_in : (w b : ℕ) → 0 < w → IsInCell w b (cell_start w b)
 start_in w b p = record {
   proper = record { pos = omega arith };
   place = inside (AtMost-refl (cell_start w b)) (record { cross = omega arith });
 }
 
 -- a literal's degree somewhere in the box
-abbrev IsSomewhere : Block → List Interval → ℕ → ℕ → Type 0
+abbrev pub IsSomewhere : Block → List Interval → ℕ → ℕ → Type 0
 IsSomewhere b box i t = (f : Fraction) × IsBetween AreOrdered (literal_span b box i t) f
 
 parts_ordered : (c : ℕ) (l f h : Fraction) → AreOrdered l f → AreOrdered f h
@@ -362,13 +463,13 @@ module _ (b : Block) (box : List Interval) (valid : IsValid b) (count : length b
         let hw = width_pos x vx in
         let s = is.some (i - 1) v.0 ev in
         let errors : AreTermErrors b box (term_errors b box) = term_errors-are b box valid is in
-        let er : IsTermError x term v.0 (term_error x term v.0) =
+        let er : AreTermSides x term v.0 (term_sides x term v.0) =
         rw (ex, et, ev) at (errors.error i t x term v.0 ex et ev) in
-        let p = at_place x term v.0 v.0.from (term_error x term v.0) (cell_start w v.0.from) er hw (omega arith) s.0
+        let p = at_place x term v.0 v.0.from (term_sides x term v.0) (cell_start w v.0.from) er hw (omega arith) s.0
         (start_in w v.0.from hw) in
         (degree_at (points_of x term) (cell_start w v.0.from), rw (ex, et, ev) p.between)
 
-    by_input : (i t : ℕ) (o : Option Input) → input_at b i ≡ o → IsSomewhere b box i t
+    pub by_input : (i t : ℕ) (o : Option Input) → input_at b i ≡ o → IsSomewhere b box i t
     by_input i t None ex = (none, rw ex nowhere)
     by_input i t (Some x) ex = by_term i t x ex (slice_get x.terms (t - 1)) refl
 
@@ -456,12 +557,13 @@ module _ (b : Block) (box : List Interval) where
         high = omega arith;
         byte_low = omega arith;
         byte_high = omega arith;
-        error = rw (still.high, still.byte_high) refl;
+        rise = rw (still.high, still.byte_high) refl;
+        fall = rw (still.high, still.byte_high) refl;
         low_small = omega arith;
         high_small = omega arith;
         byte_low_small = omega arith;
         byte_high_small = omega arith;
-        error_small = omega arith;
+        sides_small = record { rise_to = omega arith; fall_to = omega arith };
       }
 
   -- nor does a leaf count on it

@@ -6,7 +6,7 @@ use Rattle.fz_num.specs.declared.dec.Dec.{Dec}
 use Rattle.fz_num.specs.{Fractions.Fraction, Fractions.over, Fractions.up_div, Decimals.distance}
 use Rattle.fuzzy_meaning.specs.declared.{block.Block.Block, block.Output.Output}
 use Rattle.byte_scaling.specs.Cells.{nearest_byte}
-use Rattle.error_bound.specs.declared.{boxes.Interval.Interval, boxes.Leaf.Leaf}
+use Rattle.error_bound.specs.{declared.boxes.Interval.Interval, declared.boxes.Leaf.Leaf, Spans.Span}
 use Rattle.error_bound.specs.Errors.{billion, apart, AreTermErrors, output_error}
 
 abbrev pub plus : Fraction → Fraction → Fraction
@@ -17,7 +17,7 @@ abbrev pub in_millionths : Fraction → ℕ
 in_millionths f = min 1000000 (up_div (1000000 * f.num) f.den)
 
 -- the sum of the eps of output o's terms from number t on
-abbrev pub errors_from : Block → (ℕ → ℕ → ℕ) → ℕ → ℕ → List Dec → ℕ
+abbrev pub errors_from : Block → (ℕ → ℕ → Span ℕ) → ℕ → ℕ → List Dec → ℕ
 errors_from b e o t [] = 0
 errors_from b e o t (u ∷ us) = output_error b e o t + errors_from b e o (t + 1) us
 
@@ -43,12 +43,12 @@ strong_bound x h sum k =
 abbrev pub silent_bound : Output → ℕ
 silent_bound x = option_map_or (λ d. in_millionths (over (offset x d) (255 * distance x.lo x.hi))) x.default 0
 
-abbrev pub bound : Block → (ℕ → ℕ → ℕ) → ℕ → Output → ℕ → Leaf → ℕ
+abbrev pub bound : Block → (ℕ → ℕ → Span ℕ) → ℕ → Output → ℕ → Leaf → ℕ
 bound b e o x h leaf =
     if leaf.k == 0 then silent_bound x else strong_bound x h (errors_from b e o 1 x.singletons) leaf.k
 
 -- n is the Bound of a leaf on a box for output o, for answers in h parts to a byte: 1, or 256 for those of 16 bits
 pub record IsBound (b : Block) (box : List Interval) (o : ℕ) (x : Output) (h : ℕ) (leaf : Leaf) (n : ℕ) : Type 0 where
-  pub errors : ℕ → ℕ → ℕ
+  pub errors : ℕ → ℕ → Span ℕ
   pub are_errors : AreTermErrors b box errors
   pub is : n ≡ bound b errors o x h leaf

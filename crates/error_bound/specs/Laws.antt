@@ -17,7 +17,7 @@ CellsHaveBounds =
     AreBounds (points_of i t) (cell_start w v.from) (cell_end w v.to) (v.to == 255)
     (degrees_over i t v).low (degrees_over i t v).high
 
--- over a box the eps of each term is the greatest gap at the low and at the high of each cell
+-- over a box the fall of each term is the greatest at the low of a cell, its rise the greatest at the high of one
 abbrev pub TermErrorsAre : Type 0
 TermErrorsAre = (b : Block) (box : List Interval) → IsValid b → IsBox box → AreTermErrors b box (term_errors b box)
 

@@ -17,3 +17,4 @@ pub mod Tight
 pub mod TightLaws
 pub mod Masses
 pub mod MassRanges
+pub mod Matters

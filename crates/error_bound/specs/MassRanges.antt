@@ -4,26 +4,16 @@ use Rattle.std.specs.Prelude.{◌≡◌, ℕ, ◌+◌, ◌*◌, ◌<◌, ◌≤�
 use Rattle.std.specs.Option.{option_map_or}
 use Rattle.fz_num.specs.{declared.dec.Dec.Dec, Decimals.distance, Fractions.Quotient, Fractions.IsClose}
 use Rattle.cell_error.specs.{declared.ranges.MassRange.MassRange, declared.ranges.Answer.Answer, Errors.Covers}
+use Rattle.cell_error.specs.Errors.{sure_mass}
 use Rattle.fuzzy_meaning.specs.declared.{block.Block.Block, block.Output.Output}
 use Rattle.fuzzy_meaning.specs.{Blocks.output_at, Blocks.IsValid, Meaning.answer_after}
 use Rattle.byte_scaling.specs.Cells.{value_in}
 use Rattle.error_bound.specs.declared.boxes.Interval.{Interval}
-use Rattle.error_bound.specs.{Boxes.IsBox, Boxes.LieIn, Boxes.LieInCells, Tight.low_of, Tight.high_of}
-
--- of singletons from place k on, where their masses have these lower and upper ends by their places
-abbrev pub ranges_at : (ℕ → ℕ) → (ℕ → ℕ) → Dec → ℕ → List Dec → List MassRange
-ranges_at lower upper lo k [] = []
-ranges_at lower upper lo k (u ∷ us) =
-    record { at = distance lo u; low = lower k; high = upper k } ∷ ranges_at lower upper lo (k + 1) us
+use Rattle.error_bound.specs.{Boxes.IsBox, Boxes.LieIn, Boxes.LieInCells, Tight.low_of, Tight.high_of, Tight.ranges_at}
 
 -- of output o over a box; terms count from 1
 abbrev pub ranges : Block → List Interval → ℕ → Output → List MassRange
 ranges b box o x = ranges_at (λ k. low_of b box o (k + 1)) (λ k. high_of b box o (k + 1)) x.lo 0 x.singletons
-
--- the sum of the lows
-abbrev pub sure_mass : List MassRange → ℕ
-sure_mass [] = 0
-sure_mass (t ∷ ts) = t.low + sure_mass ts
 
 -- an answer in h parts to a byte
 abbrev pub answer_at : ℕ → Output → ℕ → Answer

@@ -5,6 +5,7 @@ use Rattle.fz_num.specs.{Decimals.distance, Fractions.Fraction}
 use Rattle.fuzzy_meaning.specs.{declared.block.Block.Block, declared.block.Input.Input, declared.block.Rule.Rule}
 use Rattle.fuzzy_meaning.specs.{declared.block.Trapezoid.Trapezoid, Conditions.Condition, Places.points_of}
 use Rattle.point_slope.specs.Tables.{row_of, grade_of}
+use Rattle.cell_error.specs.{declared.ranges.Deviation.Deviation, Means.IsSmallDeviation}
 use Rattle.error_bound.specs.declared.{boxes.Interval.Interval, cells.TermCells.TermCells, degrees.Degrees.Degrees}
 use Rattle.error_bound.specs.declared.{ends.End.End, reaches.Reach.Reach, tables.InputCells.InputCells}
 use Rattle.error_bound.specs.declared.{tables.BlockTable.BlockTable, tables.Row.Row, tables.BoxTerms.BoxTerms}
@@ -12,8 +13,9 @@ use Rattle.error_bound.specs.declared.rules.BoxTable.{BoxTable}
 use Rattle.error_bound.specs.{Ratios.value_of, Ratios.IsRatio, Spans.Span, Spans.span, Spans.byte_span, Spans.end_of}
 use Rattle.error_bound.specs.Boxes.{IsBoxOf, degrees_over, grades_over, literal_span, literal_byte_span, rule_span}
 use Rattle.error_bound.specs.Boxes.{rule_byte_span}
-use Rattle.error_bound.specs.{Errors.billion, Errors.rule_error, Flattening.IsSame, Flattening.ReachesAlike}
-use Rattle.error_bound.specs.CellErrors.{cell_error, term_error, term_errors}
+use Rattle.error_bound.specs.Errors.{billion, rule_error, rule_rise, rule_fall}
+use Rattle.error_bound.specs.{Flattening.IsSame, Flattening.ReachesAlike, Spans.sides}
+use Rattle.error_bound.specs.CellErrors.{cell_rise, cell_fall, term_sides, term_errors}
 
 abbrev pub span_of : Degrees → Span Fraction
 span_of d = record { low = value_of d.low; high = value_of d.high }
@@ -21,12 +23,23 @@ span_of d = record { low = value_of d.low; high = value_of d.high }
 abbrev pub byte_span_of : Reach → Span ℕ
 byte_span_of r = record { low = r.least; high = r.greatest }
 
--- a term's grades and their errors at the bytes of an interval
+-- from the fall to the rise
+abbrev pub sides_in : Deviation → Span ℕ
+sides_in d = record { low = d.fall; high = d.rise }
+
+pub record AreSmallSides (d : Deviation) : Type 0 where
+  pub rise : d.rise ≤ 1000000000
+  pub fall : d.fall ≤ 1000000000
+
+-- a term's grades, and their rises and falls, at the bytes of an interval
 pub record AreTermCells (x : Input) (term : Trapezoid) (v : Interval) (c : TermCells) : Type 0 where
   pub grades : (n : ℕ) → v.from ≤ n → n ≤ v.to → slice_index c.grades n ≡ grade_of (row_of x term) n
-  pub errors : (n : ℕ) → v.from ≤ n → n ≤ v.to
-      → slice_index c.errors n ≡ cell_error billion (points_of x term) (distance x.lo x.hi) (grade_of (row_of x term)) n
-  pub small : (n : ℕ) → v.from ≤ n → n ≤ v.to → slice_index c.errors n ≤ billion
+  pub rises : (n : ℕ) → v.from ≤ n → n ≤ v.to
+      → slice_index c.rises n ≡ cell_rise billion (points_of x term) (distance x.lo x.hi) (grade_of (row_of x term)) n
+  pub falls : (n : ℕ) → v.from ≤ n → n ≤ v.to
+      → slice_index c.falls n ≡ cell_fall billion (points_of x term) (distance x.lo x.hi) (grade_of (row_of x term)) n
+  pub rises_small : (n : ℕ) → v.from ≤ n → n ≤ v.to → slice_index c.rises n ≤ billion
+  pub falls_small : (n : ℕ) → v.from ≤ n → n ≤ v.to → slice_index c.falls n ≤ billion
 
 -- those of each term of an input
 abbrev pub AreInputCells : Input → Interval → InputCells → Type 0
@@ -63,13 +76,13 @@ pub record AreTruths (d : Degrees) : Type 0 where
 
 pub record IsSmall (r : Reach) : Type 0 where
   pub degrees : AreTruths r.degrees
-  pub error : r.error ≤ 1000000000
+  pub sides : AreSmallSides r.sides
 
 -- the reach of a term over an interval
 pub record IsReachOfTerm (x : Input) (term : Trapezoid) (v : Interval) (r : Reach) : Type 0 where
   pub value : span_of r.degrees ≡ degrees_over x term v
   pub bytes : byte_span_of r ≡ grades_over x term v
-  pub error : r.error ≡ term_error x term v
+  pub sides : sides_in r.sides ≡ term_sides x term v
   pub small : IsSmall r
 
 -- the reaches of an input's terms
@@ -89,7 +102,7 @@ pub record AreBoxTerms (b : Block) (terms : BoxTerms) : Type 0 where
 pub record IsReachOfLiteral (b : Block) (box : List Interval) (i t : ℕ) (r : Reach) : Type 0 where
   pub value : span_of r.degrees ≡ literal_span b box i t
   pub bytes : byte_span_of r ≡ literal_byte_span b box i t
-  pub error : r.error ≡ term_errors b box i t
+  pub sides : sides_in r.sides ≡ term_errors b box i t
   pub small : IsSmall r
 
 -- an end of the reach of a condition, the upper one or the lower
@@ -109,7 +122,18 @@ pub record IsEndOfRule (b : Block) (box : List Interval) (r : Rule) (upper : Boo
   pub byte : e.byte ≡ end_of upper (rule_byte_span b box r)
   pub small : IsRatio 10000000000000000 e.truth
 
--- how far a rule's strength over bytes may be from the exact one
+-- how far a condition's truth may be above that over bytes, and below
+pub record AreSidesOfCondition (b : Block) (box : List Interval) (c : Condition) (d : Deviation) : Type 0 where
+  pub value : sides_in d ≡ sides (term_errors b box) c
+  pub small : AreSmallSides d
+
+-- and a rule's strength
+pub record AreSidesOfRule (b : Block) (box : List Interval) (r : Rule) (d : Deviation) : Type 0 where
+  pub rise : d.rise ≡ rule_rise (term_errors b box) r
+  pub fall : d.fall ≡ rule_fall (term_errors b box) r
+  pub small : IsSmallDeviation d
+
+-- its eps
 pub record IsErrorOfRule (b : Block) (box : List Interval) (r : Rule) (e : ℕ) : Type 0 where
   pub value : e ≡ rule_error (term_errors b box) r
   pub small : e ≤ 3000000000

@@ -37,6 +37,9 @@ span = evaluate (reversed one_minus) (spans truths)
 abbrev pub byte_span : (ℕ → ℕ → Span ℕ) → Condition → Span ℕ
 byte_span = evaluate (reversed (λ n. 255 - n)) (spans (levels 255))
 
--- the greatest number of a literal
-abbrev pub greatest_literal : (ℕ → ℕ → ℕ) → Condition → ℕ
-greatest_literal = evaluate (λ n. n) (record { none = λ any. 0; join = λ any. max })
+abbrev pub greatest : Joins ℕ
+greatest = record { none = λ any. 0; join = λ any. max }
+
+-- of how far degrees may be below grades, to how far above; NOT changes the two
+abbrev pub sides : (ℕ → ℕ → Span ℕ) → Condition → Span ℕ
+sides = evaluate (reversed (λ n. n)) (spans greatest)

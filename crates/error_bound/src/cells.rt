@@ -4,12 +4,14 @@ ghost use Rattle.fz_num.specs.Decimals.{distance};
 ghost use Rattle.fuzzy_meaning.specs.{Blocks.IsValidInput, Blocks.IsValidTerm, Places.points_of};
 ghost use Rattle.point_slope.specs.Tables.{row_of, grade_of};
 ghost use Rattle.error_bound.specs.Boxes.{least_from, greatest_from};
-ghost use Rattle.error_bound.specs.{Errors.IsTermError, CellErrors.cell_error, Reaches.AreTermCells};
+ghost use Rattle.error_bound.specs.{Errors.IsTermError, CellErrors.cell_rise, CellErrors.cell_fall};
+ghost use Rattle.error_bound.specs.Reaches.{AreTermCells};
 
 use crate::boxes::Interval;
 use crate::degrees::degrees_of;
+use cell_error::Deviation;
 use fuzzy_meaning::{Input, Trapezoid};
-use fz_num::{Frac, Nano};
+use fz_num::Nano;
 use point_slope::{grade, row};
 
 /// The eps of a term over the bytes from `from` to `to`: the least number of 10^9 parts above which
@@ -23,29 +25,34 @@ pub fn term_error(input: &Input, term: u8, from: u8, to: u8) -> Nano
         (λ t. IsTermError input.now t (record { from = from; to = to }) result.0) }
 {
     let bytes = Interval { from, to };
-    Nano(TermCells::new(input, term, bytes).over(bytes).error)
+    let grades = TermCells::new(input, term, bytes).over(bytes);
+    Nano(u64::from(grades.rise.max(grades.fall)))
 }
 
-/// From the least to the greatest grade, and the greatest error, in parts of 10^9.
+/// From the least to the greatest grade, and the greatest rise and fall, in parts of 10^9.
 #[derive(Clone, Copy)]
 pub(crate) struct Grades {
     pub(crate) least: u8,
     pub(crate) greatest: u8,
-    pub(crate) error: u64,
+    pub(crate) rise: u32,
+    pub(crate) fall: u32,
 }
 
-/// A term's grades and their errors, in parts of 10^9, at the bytes of an interval.
+/// A term's grades at the bytes of an interval, and how far degrees of their cells rise above them and fall below,
+/// in parts of 10^9.
 #[derive(Clone, Copy)]
 pub(crate) struct TermCells {
     grades: [u8; 256],
-    errors: [u32; 256],
+    rises: [u32; 256],
+    falls: [u32; 256],
 }
 
 impl TermCells {
     /// No grades yet.
     pub(crate) const NONE: TermCells = TermCells {
         grades: [0; 256],
-        errors: [0; 256],
+        rises: [0; 256],
+        falls: [0; 256],
     };
 
     /// Of a term over an interval. A term counts from 1 in its input.
@@ -60,27 +67,31 @@ impl TermCells {
         cells_under(input, term, table, bytes)
     }
 
-    /// The reach of the grades and the greatest error over an interval.
+    /// The reach of the grades, and the greatest rise and fall, over an interval.
     pub(crate) fn over(&self, bytes: Interval) -> Grades
         requires { bytes.from ≤ bytes.to }
         ensures least { result.least ≡ least_from
             (λ n. slice_index self.now.grades n) bytes.from (bytes.to - bytes.from) }
         ensures greatest { result.greatest ≡ greatest_from
             (λ n. slice_index self.now.grades n) bytes.from (bytes.to - bytes.from) }
-        ensures error { result.error ≡ greatest_from
-            (λ n. slice_index self.now.errors n) bytes.from (bytes.to - bytes.from) }
+        ensures rise { result.rise ≡ greatest_from
+            (λ n. slice_index self.now.rises n) bytes.from (bytes.to - bytes.from) }
+        ensures fall { result.fall ≡ greatest_from
+            (λ n. slice_index self.now.falls n) bytes.from (bytes.to - bytes.from) }
     {
         let from = usize::from(bytes.from);
         let mut grades = Grades {
             least: self.grades[from],
             greatest: self.grades[from],
-            error: u64::from(self.errors[from]),
+            rise: self.rises[from],
+            fall: self.falls[from],
         };
         for b in from..usize::from(bytes.to) {
             grades = Grades {
                 least: grades.least.min(self.grades[b + 1]),
                 greatest: grades.greatest.max(self.grades[b + 1]),
-                error: grades.error.max(u64::from(self.errors[b + 1])),
+                rise: grades.rise.max(self.rises[b + 1]),
+                fall: grades.fall.max(self.falls[b + 1]),
             };
         }
         grades
@@ -91,29 +102,38 @@ fn cells_under(input: &Input, term: &Trapezoid, table: [u8; 4], bytes: Interval)
     requires input { IsValidInput input.now }
     requires term { IsValidTerm input.now.lo input.now.hi term.now }
     ensures grades { (n : ℕ) → bytes.from ≤ n → n ≤ bytes.to → slice_index result.grades n ≡ grade_of table n }
-    ensures errors { (n : ℕ) → bytes.from ≤ n → n ≤ bytes.to → slice_index result.errors n
-        ≡ cell_error 1000000000 (points_of input.now term.now) (distance input.now.lo input.now.hi) (grade_of table) n }
-    ensures small { (n : ℕ) → bytes.from ≤ n → n ≤ bytes.to → slice_index result.errors n ≤ 1000000000 }
+    ensures rises { (n : ℕ) → bytes.from ≤ n → n ≤ bytes.to → slice_index result.rises n
+        ≡ cell_rise 1000000000 (points_of input.now term.now) (distance input.now.lo input.now.hi) (grade_of table) n }
+    ensures falls { (n : ℕ) → bytes.from ≤ n → n ≤ bytes.to → slice_index result.falls n
+        ≡ cell_fall 1000000000 (points_of input.now term.now) (distance input.now.lo input.now.hi) (grade_of table) n }
+    ensures rises_small { (n : ℕ) → bytes.from ≤ n → n ≤ bytes.to → slice_index result.rises n ≤ 1000000000 }
+    ensures falls_small { (n : ℕ) → bytes.from ≤ n → n ≤ bytes.to → slice_index result.falls n ≤ 1000000000 }
 {
     let mut cells = TermCells::NONE;
     for b in usize::from(bytes.from)..usize::from(bytes.to) + 1 {
         cells.grades[b] = grade(table, b as u8);
-        cells.errors[b] = error_of_cell(input, term, table, b as u8) as u32;
+        let sides = sides_of_cell(input, term, table, b as u8);
+        cells.rises[b] = sides.rise as u32;
+        cells.falls[b] = sides.fall as u32;
     }
     cells
 }
 
-/// The greatest gap over one byte's cell.
-fn error_of_cell(input: &Input, term: &Trapezoid, table: [u8; 4], b: u8) -> u64
+/// How far the degrees of one byte's cell rise above its grade, and fall below.
+fn sides_of_cell(input: &Input, term: &Trapezoid, table: [u8; 4], b: u8) -> Deviation
     requires input { IsValidInput input.now }
     requires term { IsValidTerm input.now.lo input.now.hi term.now }
-    ensures value { result
-        ≡ cell_error 1000000000 (points_of input.now term.now) (distance input.now.lo input.now.hi) (grade_of table) b }
-    ensures small { result ≤ 1000000000 }
+    ensures rise { result.rise
+        ≡ cell_rise 1000000000 (points_of input.now term.now) (distance input.now.lo input.now.hi) (grade_of table) b }
+    ensures fall { result.fall
+        ≡ cell_fall 1000000000 (points_of input.now term.now) (distance input.now.lo input.now.hi) (grade_of table) b }
+    ensures rise_small { result.rise ≤ 1000000000 }
+    ensures fall_small { result.fall ≤ 1000000000 }
 {
     let degrees = degrees_of(input, term, Interval { from: b, to: b });
     let g = grade(table, b);
-    Frac::gap(g, degrees.low.wide())
-        .0
-        .max(Frac::gap(g, degrees.high.wide()).0)
+    Deviation {
+        rise: degrees.high.wide().rise(g).0,
+        fall: degrees.low.wide().fall(g).0,
+    }
 }

@@ -8,8 +8,10 @@ ghost use Rattle.error_bound.specs.TightLaws.{TightBoundsAreLeast, TightBoundsFa
 ghost use Rattle.error_bound.specs.TightLaws.{TightBoundsFallWithParts};
 ghost use Rattle.error_bound.specs.Flattening.{flat, FlatteningKeepsReaches};
 ghost use Rattle.error_bound.specs.{Answers.AnswersAreNear, MassRanges.AnswersToMassesAreNear};
+ghost use Rattle.error_bound.specs.Matters.{AlikeBoxesHaveOneBound, AlikeBoxesHaveOneRange, AlikeBoxesHaveOneGrade};
 
 use byte_scaling::laws::nearest_is_byte;
+use cell_error::laws::means_have_errors;
 use fuzzy_meaning::laws::numbers_have_their_degrees;
 
 /// `low` and `high` are the greatest lower and the least upper bound of a term's degrees over the
@@ -30,6 +32,7 @@ pub fn answers_are_near()
 {
     numbers_have_their_degrees();
     nearest_is_byte();
+    means_have_errors();
 }
 
 /// A leaf that holds on a box holds on each box inside it.
@@ -100,7 +103,9 @@ pub fn tight_bounds_are_small()
 /// Where a leaf holds there is a tight Bound, and it is at most the leaf's.
 pub fn tight_bounds_are_least()
     ensures { TightBoundsAreLeast }
-{}
+{
+    means_have_errors();
+}
 
 /// On a box inside another the tight Bound is no greater.
 pub fn tight_bounds_fall_inside()
@@ -110,12 +115,16 @@ pub fn tight_bounds_fall_inside()
 /// And where the box has one, the inner box has one.
 pub fn tight_bounds_hold_inside()
     ensures { TightBoundsHoldInside }
-{}
+{
+    means_have_errors();
+}
 
 /// Nor is it for answers in more parts to a byte.
 pub fn tight_bounds_fall_with_parts()
     ensures { TightBoundsFallWithParts }
-{}
+{
+    means_have_errors();
+}
 
 /// An answer is within of the exact answer what covers all masses that a box's terms may have.
 pub fn answers_to_masses_are_near()
@@ -128,4 +137,19 @@ pub fn answers_to_masses_are_near()
 /// A flat condition reaches as far over each box as the one that it is made of.
 pub(crate) fn flattening_keeps_reaches()
     ensures { FlatteningKeepsReaches }
+{}
+
+/// Boxes in one whose intervals of the inputs that matter there are the same have one tight Bound for an output.
+pub fn alike_boxes_have_one_bound()
+    ensures { AlikeBoxesHaveOneBound }
+{}
+
+/// On such boxes the masses of an output's terms lie between the same ends.
+pub fn alike_boxes_have_one_range()
+    ensures { AlikeBoxesHaveOneRange }
+{}
+
+/// And they are at most the same over bytes.
+pub fn alike_boxes_have_one_grade()
+    ensures { AlikeBoxesHaveOneGrade }
 {}

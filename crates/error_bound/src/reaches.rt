@@ -6,16 +6,17 @@ ghost use Rattle.error_bound.specs.Reaches.{AreBoxTerms, IsReachOfLiteral};
 use crate::degrees::Degrees;
 use crate::ratio::Ratio;
 use crate::tables::BoxTerms;
+use cell_error::Deviation;
 use fuzzy_meaning::{Block, Condition, Node};
 
-/// From the least to the greatest truth, of degrees and over bytes, and how far these may be apart,
-/// in parts of 10^9.
+/// From the least to the greatest truth, of degrees and over bytes, and how far the former may be above
+/// the latter and below, in parts of 10^9.
 #[derive(Clone, Copy)]
 pub(crate) struct Reach {
     pub(crate) degrees: Degrees,
     pub(crate) least: u8,
     pub(crate) greatest: u8,
-    pub(crate) error: u64,
+    pub(crate) sides: Deviation,
 }
 
 impl Reach {
@@ -27,7 +28,7 @@ impl Reach {
         },
         least: 0,
         greatest: 0,
-        error: 0,
+        sides: Deviation { rise: 0, fall: 0 },
     };
 }
 

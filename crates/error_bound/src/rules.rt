@@ -6,14 +6,16 @@ ghost use Rattle.fuzzy_meaning.specs.{declared.block.Rule.Rule as TheRule, Block
 ghost use Rattle.error_bound.specs.{Boxes.IsBoxOf, Errors.apart, Flattening.ReachesAlike};
 ghost use Rattle.error_bound.specs.Leaves.{IsStill, concludes_some as concludes_any};
 ghost use Rattle.error_bound.specs.Reaches.{HasAlike, IsBlockTable, AreBoxTerms, IsEndOfRule, IsErrorOfRule, IsTable};
+ghost use Rattle.error_bound.specs.Reaches.{AreSidesOfRule};
 
 use crate::boxes::ByteBox;
 use crate::ends::{End, end_of};
 use crate::leaves::concludes_some;
-use crate::literal_errors::error_of;
+use crate::literal_errors::sides_of;
 use crate::nowhere::is_nowhere;
 use crate::tables::{BlockTable, BoxTerms};
 use byte_scaling::weight_byte;
+use cell_error::Deviation;
 use fuzzy_meaning::{Block, Condition, Rule};
 use fz_num::Dec;
 
@@ -82,6 +84,19 @@ impl<'a> BoxTable<'a> {
         let rule = &block.rules.as_slice()[place];
         let condition = condition_in(self.kept, place, rule, block);
         error_of_strength(rule, condition, block, &self.terms)
+    }
+
+    /// How far the strength of the rule at a place may be above that over bytes, and below.
+    pub(crate) fn sides_of_rule(&self, block: &Block, place: usize) -> Deviation
+        requires block { IsValid block.now }
+        requires table { IsTable block.now self.now }
+        requires place { place < length block.now.rules }
+        ensures { (r : TheRule) → slice_get block.now.rules place ≡ Some r
+            → AreSidesOfRule block.now self.now.bytes.0.items r result }
+    {
+        let rule = &block.rules.as_slice()[place];
+        let condition = condition_in(self.kept, place, rule, block);
+        sides_of_strength(rule, condition, block, &self.terms)
     }
 
     /// The upper end of the strength of the rule at a place, or the lower.
@@ -153,7 +168,31 @@ fn error_of_strength(rule: &Rule, condition: &Condition, block: &Block, terms: &
 {
     let weight = rule.weight.unwrap_or(Dec(10_000));
     let byte = weight_byte(rule.weight);
-    error_of(condition, block, terms) + weight_error(weight, byte) + floor_error(byte)
+    let sides = sides_of(condition, block, terms);
+    sides.rise.max(sides.fall) + weight_error(weight, byte) + floor_error(byte)
+}
+
+/// How far the strength of the rule at a place may be above that over bytes, and below.
+fn sides_of_strength(
+    rule: &Rule,
+    condition: &Condition,
+    block: &Block,
+    terms: &BoxTerms,
+) -> Deviation
+    requires condition { ReachesAlike block.now rule.now.cond condition.now }
+    requires rule { IsValidRule block.now rule.now }
+    requires block { IsValid block.now }
+    requires terms { AreBoxTerms block.now terms.now }
+    ensures { AreSidesOfRule block.now terms.now.bytes.0.items rule.now result }
+{
+    let weight = rule.weight.unwrap_or(Dec(10_000));
+    let byte = weight_byte(rule.weight);
+    let sides = sides_of(condition, block, terms);
+    let apart = weight_error(weight, byte);
+    Deviation {
+        rise: sides.rise + apart + floor_error(byte),
+        fall: sides.fall + apart,
+    }
 }
 
 /// The condition of the rule at a place, the flat one where that is kept.

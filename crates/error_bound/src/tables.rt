@@ -11,6 +11,7 @@ use crate::degrees::degrees_of;
 use crate::flattening::flattened;
 use crate::laws::flattening_keeps_reaches;
 use crate::reaches::Reach;
+use cell_error::Deviation;
 use fuzzy_meaning::{Block, Condition, Input, Trapezoid};
 use std::alloc::{AllocError, Global};
 
@@ -44,7 +45,7 @@ pub struct BlockTable {
 }
 
 impl BlockTable {
-    /// Takes some 20 KB for each input and a copy of each condition, and a division or two for each
+    /// Takes some 35 KB for each input and a copy of each condition, and a division or two for each
     /// byte of each term.
     pub fn new(alloc: Global, block: &Block) -> Result<BlockTable, AllocError>
         requires { IsValid block.now }
@@ -158,7 +159,7 @@ fn row_in(kept: Option<&BlockTable>, place: usize, input: &Input, bytes: Interva
 }
 
 /// The reaches of an input's terms, from cells that are made for this interval alone. They take a frame of
-/// 20 KB, which is cleared at each call.
+/// 35 KB, which is cleared at each call.
 #[inline(never)]
 fn row_anew(input: &Input, bytes: Interval) -> Row
     requires input { IsValidInput input.now }
@@ -196,6 +197,9 @@ fn reach_of_term(input: &Input, term: &Trapezoid, cells: &TermCells, bytes: Inte
         degrees: degrees_of(input, term, bytes),
         least: grades.least,
         greatest: grades.greatest,
-        error: grades.error,
+        sides: Deviation {
+            rise: u64::from(grades.rise),
+            fall: u64::from(grades.fall),
+        },
     }
 }

@@ -1,31 +1,32 @@
 //! The tight Bound of a box, which names no rule: it comes from how far the masses of an output's terms
 //! reach there.
-ghost use Rattle.std.specs.Prelude.{◌≡◌, ◌≤◌, ◌<◌, ◌+◌, ◌*◌, ◌/◌, ℕ, ◌==◌, ◌&&◌, if◌then◌else◌, max, All};
-ghost use Rattle.std.specs.Prelude.{IfSome, IfNone, Some, length, slice_get, slice_index};
-ghost use Rattle.fz_num.specs.{Decimals.distance, Fractions.up_div};
+ghost use Rattle.std.specs.Prelude.{◌≡◌, ◌≤◌, ◌<◌, ◌*◌, ◌/◌, ℕ, ◌==◌, if◌then◌else◌, true};
+ghost use Rattle.std.specs.Prelude.{IfSome, IfNone, Some, length, slice_get, slice_index, take};
+ghost use Rattle.fz_num.specs.{Fractions.up_div};
+ghost use Rattle.cell_error.specs.Means.{IsSmallDeviation};
 ghost use Rattle.fuzzy_meaning.specs.declared.block.Rule.{Rule as TheRule};
-ghost use Rattle.fuzzy_meaning.specs.Blocks.{IsValid, IsValidOutput, IsWithin, output_at};
-ghost use Rattle.error_bound.specs.{Bounds.ratio_bound, Errors.apart, Leaves.Holds, Ratios.value_of, Ratios.IsRatio};
-ghost use Rattle.error_bound.specs.Masses.{IsRuleMass, AreMasses, AreSmall, sum_at, farthest_at, offset_at, swing_at};
-ghost use Rattle.error_bound.specs.Masses.{bound_at};
-ghost use Rattle.error_bound.specs.{Reaches.IsTable, Tight.IsTightBound, Tight.IsSure};
+ghost use Rattle.fuzzy_meaning.specs.Blocks.{IsValid, IsValidOutput, output_at};
+ghost use Rattle.error_bound.specs.{Leaves.Holds, Ratios.value_of, Ratios.IsRatio, CellErrors.term_errors};
+ghost use Rattle.error_bound.specs.{Errors.rule_rise, Errors.rule_fall, Reaches.IsEndOfRule, Reaches.IsTable};
+ghost use Rattle.error_bound.specs.Masses.{IsRuleMass, AreMasses, AreSmall, sum_at, offset_at, IsBoundAt};
+ghost use Rattle.error_bound.specs.Tight.{IsTightBound, IsSure, if_moving, ranges_at, deviations_at};
 
-use crate::bounds::{in_millionths, offset, raise_terms, silent_bound};
+use crate::bounds::{offset, raise_terms, silent_bound};
 use crate::ends::End;
 use crate::leaves::output_of;
 use crate::rules::BoxTable;
+use cell_error::{Deviation, MassRange, Scale, mean_error};
 use fuzzy_meaning::{Block, Output};
-use fz_num::Dec;
 
 /// How far the strength of a rule reaches over a box: its least and its greatest in parts of 255 * 10^9,
-/// those over bytes, and how far the two may be apart.
+/// those over bytes, and how far the former may be above the latter and below, which is 0 where both are 0.
 #[derive(Clone, Copy)]
 pub(crate) struct RuleMass {
     pub(crate) low: u64,
     pub(crate) high: u64,
     pub(crate) byte_low: u64,
     pub(crate) byte_high: u64,
-    pub(crate) error: u64,
+    pub(crate) sides: Deviation,
 }
 
 /// How far the masses of an output's terms reach over a box, each at its term's place.
@@ -39,8 +40,10 @@ pub struct Masses {
     pub byte_lows: [u64; 15],
     /// The greatest over bytes.
     pub byte_highs: [u64; 15],
-    /// How far each may be from that over bytes, in parts of 10^9.
-    pub errors: [u64; 15],
+    /// How far each may be above that over bytes, in parts of 10^9.
+    pub rises: [u64; 15],
+    /// And below.
+    pub falls: [u64; 15],
 }
 
 impl BoxTable<'_> {
@@ -95,7 +98,8 @@ impl BoxTable<'_> {
         let mut highs = [0; 15];
         let mut byte_lows = [0; 15];
         let mut byte_highs = [0; 15];
-        let mut errors = [0; 15];
+        let mut rises = [0; 15];
+        let mut falls = [0; 15];
         let rules = block.rules.as_slice();
         for n in (0..rules.len()).rev() {
             if self.may_fire(block, n, out) {
@@ -104,7 +108,8 @@ impl BoxTable<'_> {
                 raise_terms(&mut highs, &rules[n], out, rule.high);
                 raise_terms(&mut byte_lows, &rules[n], out, rule.byte_low);
                 raise_terms(&mut byte_highs, &rules[n], out, rule.byte_high);
-                raise_terms(&mut errors, &rules[n], out, rule.error);
+                raise_terms(&mut rises, &rules[n], out, rule.sides.rise);
+                raise_terms(&mut falls, &rules[n], out, rule.sides.fall);
             }
         }
         Masses {
@@ -112,7 +117,8 @@ impl BoxTable<'_> {
             highs,
             byte_lows,
             byte_highs,
-            errors,
+            rises,
+            falls,
         }
     }
 
@@ -126,13 +132,35 @@ impl BoxTable<'_> {
     {
         let low = self.end_of_rule(block, place, false);
         let high = self.end_of_rule(block, place, true);
-        let error = self.error_of_rule(block, place);
         RuleMass {
             low: low_part(low),
             high: high_part(high),
             byte_low: u64::from(low.byte),
             byte_high: u64::from(high.byte),
-            error: moving_error(high, error),
+            sides: self.moving_sides(block, place, high),
+        }
+    }
+
+    /// How far the strength of the rule at a place may be above that over bytes, and below, or 0 where it reaches up
+    /// to nowhere.
+    fn moving_sides(&self, block: &Block, place: usize, high: End) -> Deviation
+        requires block { IsValid block.now }
+        requires table { IsTable block.now self.now }
+        requires place { place < length block.now.rules }
+        requires high { (r : TheRule) → slice_get block.now.rules place ≡ Some r
+            → IsEndOfRule block.now self.now.bytes.0.items r true high }
+        ensures rise { (r : TheRule) → slice_get block.now.rules place ≡ Some r → result.rise
+            ≡ if_moving block.now self.now.bytes.0.items r
+            (rule_rise (term_errors block.now self.now.bytes.0.items) r) }
+        ensures fall { (r : TheRule) → slice_get block.now.rules place ≡ Some r → result.fall
+            ≡ if_moving block.now self.now.bytes.0.items r
+            (rule_fall (term_errors block.now self.now.bytes.0.items) r) }
+        ensures small { IsSmallDeviation result }
+    {
+        if high.truth.num == 0 && high.byte == 0 {
+            Deviation { rise: 0, fall: 0 }
+        } else {
+            self.sides_of_rule(block, place)
         }
     }
 }
@@ -156,17 +184,6 @@ fn high_part(high: End) -> u64
     ((255_000_000_000 * u128::from(high.truth.num) + (den - 1)) / den) as u64
 }
 
-/// The error of a rule that reaches so far up, or 0 where that is nowhere.
-fn moving_error(high: End, error: u64) -> u64
-    ensures { result ≡ (if ((value_of high.truth).num == 0) && (high.byte == 0) then 0 else error) }
-{
-    if high.truth.num == 0 && high.byte == 0 {
-        0
-    } else {
-        error
-    }
-}
-
 impl Masses {
     /// The Bound of a box with these masses, where their sum is above 0, over bytes too.
     fn bound(&self, output: &Output, parts: u16) -> Option<u32>
@@ -174,9 +191,11 @@ impl Masses {
         requires parts_from { 1 ≤ parts }
         requires parts_to { parts ≤ 256 }
         requires lows { AreSmall 255000000000 self.now.lows }
-        requires byte_lows { AreSmall 255000000000 self.now.byte_lows }
-        requires errors { AreSmall 3000000000 self.now.errors }
-        ensures value { IfSome result (λ n. n ≡ bound_at self.now output.now parts) }
+        requires ordered { (t : ℕ) → t < 15 → slice_index self.now.byte_lows t ≤ slice_index self.now.byte_highs t }
+        requires byte_highs { AreSmall 255 self.now.byte_highs }
+        requires rises { AreSmall 3000000000 self.now.rises }
+        requires falls { AreSmall 3000000000 self.now.falls }
+        ensures bound { IfSome result (IsBoundAt self.now output.now parts) }
         ensures sum { IfSome result (λ n. 1 ≤ sum_at self.now.lows output.now.singletons) }
         ensures bytes { IfSome result (λ n. 1 ≤ sum_at self.now.byte_lows output.now.singletons) }
         ensures none { IfNone result (1 ≤ sum_at self.now.lows output.now.singletons
@@ -187,10 +206,55 @@ impl Masses {
         if sum == 0 || bytes == 0 {
             return None;
         }
-        let swing = swing(&self.byte_highs, &self.errors, output);
-        let offset = live_offset(&self.byte_highs, output);
-        Some(sure_bound(output, parts, swing, sum, offset))
+        let scale = Scale {
+            width: output.hi.above(output.lo),
+            sum,
+            offset: live_offset(&self.byte_highs, output),
+            parts: u64::from(parts),
+        };
+        let ranges = ranges_of(output, &self.byte_lows, &self.byte_highs);
+        let deviations = deviations_of(output, &self.rises, &self.falls);
+        let count = output.singletons.len();
+        Some(mean_error(&ranges[..count], &deviations[..count], scale))
     }
+}
+
+/// What the masses of an output's terms lie between, of their lower and their upper ends.
+pub fn ranges_of(output: &Output, lows: &[u64; 15], highs: &[u64; 15]) -> [MassRange; 15]
+    requires { IsValidOutput output.now }
+    ensures { take (length output.now.singletons) result
+        ≡ ranges_at (slice_index lows.now) (slice_index highs.now) output.now.lo 0 output.now.singletons }
+{
+    let mut ranges = [MassRange {
+        at: 0,
+        low: 0,
+        high: 0,
+    }; 15];
+    let singletons = output.singletons.as_slice();
+    for k in (0..singletons.len()).rev() {
+        ranges[k] = MassRange {
+            at: singletons[k].above(output.lo),
+            low: lows[k],
+            high: highs[k],
+        };
+    }
+    ranges
+}
+
+/// The deviations of an output's terms.
+fn deviations_of(output: &Output, rises: &[u64; 15], falls: &[u64; 15]) -> [Deviation; 15]
+    requires { IsValidOutput output.now }
+    ensures { take (length output.now.singletons) result
+        ≡ deviations_at (slice_index rises.now) (slice_index falls.now) 0 output.now.singletons }
+{
+    let mut deviations = [Deviation { rise: 0, fall: 0 }; 15];
+    for k in (0..output.singletons.len()).rev() {
+        deviations[k] = Deviation {
+            rise: rises[k],
+            fall: falls[k],
+        };
+    }
+    deviations
 }
 
 /// The sum of a number for each term of an output.
@@ -214,23 +278,6 @@ fn if_some(high: u64, number: u64) -> u64
     if high == 0 { 0 } else { number }
 }
 
-/// How far a number is at most from the singleton of a term with a mass.
-fn farthest(highs: &[u64; 15], output: &Output, number: Dec) -> u64
-    requires output { IsValidOutput output.now }
-    requires number { IsWithin output.now.lo output.now.hi number }
-    ensures value { result ≡ farthest_at highs.now output.now number }
-    ensures small { result ≤ 2000010000 }
-{
-    let from = number.above(output.lo);
-    let singletons = output.singletons.as_slice();
-    let mut greatest = 0;
-    for k in (0..singletons.len()).rev() {
-        let apart = from.abs_diff(singletons[k].above(output.lo));
-        greatest = if_some(highs[k], apart).max(greatest);
-    }
-    greatest
-}
-
 /// How far the singleton of a term with a mass is at most from its byte.
 fn live_offset(highs: &[u64; 15], output: &Output) -> u64
     requires output { IsValidOutput output.now }
@@ -243,40 +290,4 @@ fn live_offset(highs: &[u64; 15], output: &Output) -> u64
         greatest = if_some(highs[k], offset(output, singletons[k])).max(greatest);
     }
     greatest
-}
-
-/// The terms' errors, each as often as the singletons of terms with a mass are apart from its own.
-fn swing(highs: &[u64; 15], errors: &[u64; 15], output: &Output) -> u128
-    requires output { IsValidOutput output.now }
-    requires small { AreSmall 3000000000 errors.now }
-    ensures value { result ≡ swing_at highs.now errors.now output.now }
-    ensures small { result ≤ 90000450000000000000 }
-{
-    let singletons = output.singletons.as_slice();
-    let mut swing = 0;
-    for k in (0..singletons.len()).rev() {
-        let apart = farthest(highs, output, singletons[k]);
-        swing = u128::from(apart) * u128::from(errors[k]) + swing;
-    }
-    swing
-}
-
-/// The Bound by the swing of the terms and the sum of their masses.
-fn sure_bound(output: &Output, parts: u16, swing: u128, sum: u64, offset: u64) -> u32
-    requires output { IsValidOutput output.now }
-    requires parts_from { 1 ≤ parts }
-    requires parts_to { parts ≤ 256 }
-    requires swing { swing ≤ 90000450000000000000 }
-    requires sum_from { 1 ≤ sum }
-    requires sum_to { sum ≤ 3825000000000 }
-    requires offset { offset ≤ 510002550000 }
-    ensures { result ≡ ratio_bound (distance output.now.lo output.now.hi) parts (255 * swing)
-        (distance output.now.lo output.now.hi * sum) offset }
-{
-    let width = output.hi.above(output.lo);
-    let parts = u64::from(parts);
-    let ends = offset * parts + width;
-    let num = swing * u128::from(65_025 * parts) + u128::from(ends) * u128::from(sum);
-    let den = u128::from(width * (255 * parts)) * u128::from(sum);
-    in_millionths(num, den)
 }

@@ -1,6 +1,6 @@
 use Rattle.std.proofs.Common.{◌≤◌, ◌∙◌, ap₂, sym, subst, arith}
 use Rattle.error_bound.specs.Errors.{billion}
-use Rattle.error_bound.proofs.CellErrors.{least_is, greatest_is, error_is, error_small}
+use Rattle.error_bound.proofs.CellErrors.{least_is, greatest_is, rise_is, fall_is, rise_small, fall_small}
 use Rattle.error_bound.proofs.tables.reach_of_term.Goals as goal
 
 pub returns : goal.returns
@@ -15,10 +15,18 @@ returns c =
       bytes = ap₂ (λ a b. record { low = a; high = b })
           (o.least ∙ least_is x term v v cells c.requires.cells (omega arith) (omega arith) c.requires.order)
           (o.greatest ∙ greatest_is x term v v cells c.requires.cells (omega arith) (omega arith) c.requires.order);
-      error = o.error ∙ error_is x term v v cells c.requires.cells (omega arith) (omega arith) c.requires.order;
+      sides = ap₂ (λ a b. record { low = a; high = b })
+          (c.from-2.ensures ∙ o.fall
+          ∙ fall_is x term v v cells c.requires.cells (omega arith) (omega arith) c.requires.order)
+          (c.from.ensures ∙ o.rise
+          ∙ rise_is x term v v cells c.requires.cells (omega arith) (omega arith) c.requires.order);
       small = record {
         degrees = c.degrees_of.ensures.truth;
-        error = subst (λ e. e ≤ billion) (sym o.error)
-            (error_small x term v v cells c.requires.cells (omega arith) (omega arith) c.requires.order);
+        sides = record {
+          rise = subst (λ e. e ≤ billion) (sym (c.from.ensures ∙ o.rise))
+              (rise_small x term v v cells c.requires.cells (omega arith) (omega arith) c.requires.order);
+          fall = subst (λ e. e ≤ billion) (sym (c.from-2.ensures ∙ o.fall))
+              (fall_small x term v v cells c.requires.cells (omega arith) (omega arith) c.requires.order);
+        };
       };
     }

@@ -8,7 +8,8 @@ pub loop-b-preserved : goal.loop-b-preserved
 loop-b-preserved c =
     let self = c.args.self.now in
     let g = λ (n : ℕ). slice_index self.grades n in
-    let e = λ (n : ℕ). slice_index self.errors n in
+    let r = λ (n : ℕ). slice_index self.rises n in
+    let d = λ (n : ℕ). slice_index self.falls n in
     let p = c.args.bytes.from in
     let b = c.loop-b.b in
     let i = c.loop-b.invariant in
@@ -16,20 +17,41 @@ loop-b-preserved c =
     let from : p ≤ b = omega (arith, c.loop-b.auto.b, start) in
     let least : c.min.result ≡ min c.loop-b.grades.least (g (b + 1)) = omega arith in
     let greatest : c.max.result ≡ max c.loop-b.grades.greatest (g (b + 1)) = omega arith in
-    let worst : c.max-in-loop-b.result ≡ max c.loop-b.grades.error (e (b + 1)) =
-    omega (arith, c.from-in-loop-b.ensures) in
+    let rise : c.max-in-loop-b.result ≡ max c.loop-b.grades.rise (r (b + 1)) = omega arith in
+    let fall : c.max-in-loop-b-2.result ≡ max c.loop-b.grades.fall (d (b + 1)) = omega arith in
     record {
       least = least ∙ ap (λ m. min m (g (b + 1))) i.least ∙ sym (least_more g p b from);
       greatest = greatest ∙ ap (λ m. max m (g (b + 1))) i.greatest ∙ sym (greatest_more g p b from);
-      error = worst ∙ ap (λ m. max m (e (b + 1))) i.error ∙ sym (greatest_more e p b from);
+      rise = rise ∙ ap (λ m. max m (r (b + 1))) i.rise ∙ sym (greatest_more r p b from);
+      fall = fall ∙ ap (λ m. max m (d (b + 1))) i.fall ∙ sym (greatest_more d p b from);
     }
 
-pub returns-clause-error : goal.returns-clause-error
-returns-clause-error c =
-    let e = λ (n : ℕ). slice_index c.args.self.now.errors n in
-    let p = c.args.bytes.from in
+pub returns-clause-greatest : goal.returns-clause-greatest
+returns-clause-greatest c =
+    let g = λ (n : ℕ). slice_index c.args.self.now.grades n in
     let start = c.from-from.ensures in
     let end = c.from-b-end.ensures in
     let at : c.loop-b.b ≡ c.args.bytes.to =
     omega (arith, c.loop-b-test.false, c.loop-b.auto.b-end, start, end, c.requires) in
-    subst (λ k. c.loop-b.grades.error ≡ greatest_from e p (k - p)) at c.loop-b.invariant.error
+    subst (λ k. c.loop-b.grades.greatest ≡ greatest_from g c.args.bytes.from (k - c.args.bytes.from)) at
+    c.loop-b.invariant.greatest
+
+pub returns-clause-rise : goal.returns-clause-rise
+returns-clause-rise c =
+    let g = λ (n : ℕ). slice_index c.args.self.now.rises n in
+    let start = c.from-from.ensures in
+    let end = c.from-b-end.ensures in
+    let at : c.loop-b.b ≡ c.args.bytes.to =
+    omega (arith, c.loop-b-test.false, c.loop-b.auto.b-end, start, end, c.requires) in
+    subst (λ k. c.loop-b.grades.rise ≡ greatest_from g c.args.bytes.from (k - c.args.bytes.from)) at
+    c.loop-b.invariant.rise
+
+pub returns-clause-fall : goal.returns-clause-fall
+returns-clause-fall c =
+    let g = λ (n : ℕ). slice_index c.args.self.now.falls n in
+    let start = c.from-from.ensures in
+    let end = c.from-b-end.ensures in
+    let at : c.loop-b.b ≡ c.args.bytes.to =
+    omega (arith, c.loop-b-test.false, c.loop-b.auto.b-end, start, end, c.requires) in
+    subst (λ k. c.loop-b.grades.fall ≡ greatest_from g c.args.bytes.from (k - c.args.bytes.from)) at
+    c.loop-b.invariant.fall

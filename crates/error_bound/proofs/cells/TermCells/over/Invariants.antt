@@ -8,5 +8,6 @@ invariant-loop-b l = record {
   least : l.grades.least ≡ least_from (λ n. slice_index l.self.grades n) l.fn.bytes.from (l.b - l.fn.bytes.from);
   greatest : l.grades.greatest ≡ greatest_from (λ n. slice_index l.self.grades n) l.fn.bytes.from
       (l.b - l.fn.bytes.from);
-  error : l.grades.error ≡ greatest_from (λ n. slice_index l.self.errors n) l.fn.bytes.from (l.b - l.fn.bytes.from);
+  rise : l.grades.rise ≡ greatest_from (λ n. slice_index l.self.rises n) l.fn.bytes.from (l.b - l.fn.bytes.from);
+  fall : l.grades.fall ≡ greatest_from (λ n. slice_index l.self.falls n) l.fn.bytes.from (l.b - l.fn.bytes.from);
 }

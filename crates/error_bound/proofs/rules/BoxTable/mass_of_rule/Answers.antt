@@ -1,8 +1,6 @@
-use Rattle.std.proofs.Common.{◌∙◌, ap, sym, subst, arith, ◌≤◌}
-use Rattle.std.specs.Prelude.{if◌then◌else◌}
+use Rattle.std.proofs.Common.{◌∙◌, arith}
 use Rattle.fz_list.proofs.Algebra.{some_at}
-use Rattle.error_bound.proofs.TightLawLemmas.{still-same, low_part-end, high_part-end, chosen_small}
-use Rattle.error_bound.specs.Tight.{is_still}
+use Rattle.error_bound.proofs.TightLawLemmas.{low_part-end, high_part-end}
 use Rattle.error_bound.proofs.rules.BoxTable.mass_of_rule.Goals as goal
 
 pub low_part-requires : goal.low_part-requires
@@ -21,18 +19,16 @@ returns c r found =
     let box = c.args.self.now.bytes.0.items in
     let low = c.end_of_rule-low.ensures r found in
     let high = c.end_of_rule-high.ensures r found in
-    let error = c.error_of_rule-error.ensures r found in
-    let moving = c.moving_error.ensures
-    ∙ ap (λ t. if t then 0 else c.error_of_rule-error.result) (still-same b box r c.end_of_rule-high.result high) in
     record {
       low = c.low_part.ensures.value ∙ low_part-end b box r c.end_of_rule-low.result low;
       high = c.high_part.ensures.value ∙ high_part-end b box r c.end_of_rule-high.result high;
       byte_low = c.from.ensures ∙ low.byte;
       byte_high = c.from-2.ensures ∙ high.byte;
-      error = moving ∙ ap (λ n. if is_still b box r then 0 else n) error.value;
+      rise = c.moving_sides.ensures.rise r found;
+      fall = c.moving_sides.ensures.fall r found;
       low_small = c.low_part.ensures.small;
       high_small = c.high_part.ensures.small;
       byte_low_small = omega (arith, c.from.ensures);
       byte_high_small = omega (arith, c.from-2.ensures);
-      error_small = subst (λ n. n ≤ 3000000000) (sym moving) (chosen_small (is_still b box r) error.small);
+      sides_small = c.moving_sides.ensures.small;
     }

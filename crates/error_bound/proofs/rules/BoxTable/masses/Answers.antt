@@ -2,8 +2,9 @@ use Rattle.std.proofs.Common.{◌≡◌, suc, true, ◌+◌, ◌-◌, ◌<◌, �
 use Rattle.std.proofs.{lemmas.Option.slice_get_read, Common.subst, Common.arith, Math.Seq.drop-cons}
 use Rattle.std.specs.Prelude.{slice_get}
 use Rattle.fuzzy_meaning.specs.declared.block.Rule.{Rule}
-use Rattle.error_bound.specs.{Tight.low_part, Tight.high_part, Tight.moving_error, Masses.IsRuleMass, Masses.no_mass}
-use Rattle.error_bound.specs.{CellErrors.term_errors, Leaves.concludes_some, Boxes.rule_byte_span}
+use Rattle.error_bound.specs.{Tight.low_part, Tight.high_part, Tight.if_moving, Masses.IsRuleMass, Masses.no_mass}
+use Rattle.error_bound.specs.{Errors.rule_rise, Errors.rule_fall, CellErrors.term_errors}
+use Rattle.error_bound.specs.{Leaves.concludes_some, Boxes.rule_byte_span}
 use Rattle.fz_list.proofs.Algebra.{some_at}
 use Rattle.error_bound.proofs.TightLawLemmas.{AreGreatest-raised, AreGreatest-skipped}
 use Rattle.error_bound.proofs.{TightLemmas.ends_ordered, TightLemmas.still_mass, ListLemmas.get_or-slice}
@@ -33,23 +34,28 @@ loop-n-preserved-then-may_fire c =
     let r2 = c.index-rules-n-then-may_fire-2.result in
     let r3 = c.index-rules-n-then-may_fire-3.result in
     let r4 = c.index-rules-n-then-may_fire-4.result in
+    let r5 = c.index-rules-n-then-may_fire-5.result in
     let e0 = c.index-rules-n.is in
     let e1 = c.index-rules-n-then-may_fire.is in
     let e2 = c.index-rules-n-then-may_fire-2.is in
     let e3 = c.index-rules-n-then-may_fire-3.is in
     let e4 = c.index-rules-n-then-may_fire-4.is in
+    let e5 = c.index-rules-n-then-may_fire-5.is in
     let q0 = of_rule r0 (found r0 e0) in
     let q1 = of_rule r1 (found r1 e1) in
     let q2 = of_rule r2 (found r2 e2) in
     let q3 = of_rule r3 (found r3 e3) in
     let q4 = of_rule r4 (found r4 e4) in
+    let q5 = of_rule r5 (found r5 e5) in
+    let e = term_errors b box in
     let rest = drop c.loop-n.n rules in
     record {
       lows_count = c.raise_terms.array_long;
       highs_count = c.raise_terms-then-may_fire.array_long;
       byte_lows_count = c.raise_terms-then-may_fire-2.array_long;
       byte_highs_count = c.raise_terms-then-may_fire-3.array_long;
-      errors_count = c.raise_terms-then-may_fire-4.array_long;
+      rises_count = c.raise_terms-then-may_fire-4.array_long;
+      falls_count = c.raise_terms-then-may_fire-5.array_long;
       lows = AreGreatest-raised (low_part b box) 255000000000 o r0 rest (drop j rules) value.low c.loop-n.lows
           c.raise_terms.new.errors (here r0 e0) q0.low q0.low_small before.lows c.raise_terms.ensures;
       highs = AreGreatest-raised (high_part b box) 255000000000 o r1 rest (drop j rules) value.high c.loop-n.highs
@@ -61,9 +67,12 @@ loop-n-preserved-then-may_fire c =
       byte_highs = AreGreatest-raised (λ r. (rule_byte_span b box r).high) 255 o r3 rest (drop j rules)
           value.byte_high c.loop-n.byte_highs c.raise_terms-then-may_fire-3.new.errors (here r3 e3) q3.byte_high
           q3.byte_high_small before.byte_highs c.raise_terms-then-may_fire-3.ensures;
-      errors = AreGreatest-raised (moving_error b box (term_errors b box)) 3000000000 o r4 rest (drop j rules)
-          value.error c.loop-n.errors c.raise_terms-then-may_fire-4.new.errors (here r4 e4) q4.error q4.error_small
-          before.errors c.raise_terms-then-may_fire-4.ensures;
+      rises = AreGreatest-raised (λ r. if_moving b box r (rule_rise e r)) 3000000000 o r4 rest (drop j rules)
+          value.sides.rise c.loop-n.rises c.raise_terms-then-may_fire-4.new.errors (here r4 e4) q4.rise
+          q4.sides_small.rise_to before.rises c.raise_terms-then-may_fire-4.ensures;
+      falls = AreGreatest-raised (λ r. if_moving b box r (rule_fall e r)) 3000000000 o r5 rest (drop j rules)
+          value.sides.fall c.loop-n.falls c.raise_terms-then-may_fire-5.new.errors (here r5 e5) q5.fall
+          q5.sides_small.fall_to before.falls c.raise_terms-then-may_fire-5.ensures;
     }
 
 pub loop-n-preserved : goal.loop-n-preserved
@@ -83,12 +92,14 @@ loop-n-preserved c =
     (c.may_fire.ensures.still c.if-may_fire.false r.0 r.1 one) in
     let rest = drop c.loop-n.n rules in
     let before = c.loop-n.invariant in
+    let e = term_errors b box in
     record {
       lows_count = before.lows_count;
       highs_count = before.highs_count;
       byte_lows_count = before.byte_lows_count;
       byte_highs_count = before.byte_highs_count;
-      errors_count = before.errors_count;
+      rises_count = before.rises_count;
+      falls_count = before.falls_count;
       lows = AreGreatest-skipped (low_part b box) 255000000000 c.args.out r.0 rest (drop j rules) c.loop-n.lows here
           (λ one. sym (none one).low) before.lows;
       highs = AreGreatest-skipped (high_part b box) 255000000000 c.args.out r.0 rest (drop j rules) c.loop-n.highs here
@@ -97,9 +108,10 @@ loop-n-preserved c =
           c.loop-n.byte_lows here (λ one. sym (none one).byte_low) before.byte_lows;
       byte_highs = AreGreatest-skipped (λ q. (rule_byte_span b box q).high) 255 c.args.out r.0 rest (drop j rules)
           c.loop-n.byte_highs here (λ one. sym (none one).byte_high) before.byte_highs;
-      errors = AreGreatest-skipped (moving_error b box (term_errors b box)) 3000000000 c.args.out r.0 rest
-          (drop j rules)
-          c.loop-n.errors here (λ one. sym (none one).error) before.errors;
+      rises = AreGreatest-skipped (λ r. if_moving b box r (rule_rise e r)) 3000000000 c.args.out r.0 rest
+          (drop j rules) c.loop-n.rises here (λ one. sym (none one).rise) before.rises;
+      falls = AreGreatest-skipped (λ r. if_moving b box r (rule_fall e r)) 3000000000 c.args.out r.0 rest
+          (drop j rules) c.loop-n.falls here (λ one. sym (none one).fall) before.falls;
     }
 
 pub returns : goal.returns
@@ -117,7 +129,8 @@ returns c =
         highs = rw whole at i.highs;
         byte_lows = rw whole at i.byte_lows;
         byte_highs = rw whole at i.byte_highs;
-        errors = rw whole at i.errors;
+        rises = rw whole at i.rises;
+        falls = rw whole at i.falls;
       };
       ordered = λ t few. omega (
         arith,

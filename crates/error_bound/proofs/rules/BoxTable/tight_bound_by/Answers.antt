@@ -1,6 +1,6 @@
 use Rattle.std.proofs.Common.{refl}
 use Rattle.error_bound.specs.{Best.silent_leaf, Leaves.silent as holds_silent, Tight.IsTightBound, Tight.silent}
-use Rattle.error_bound.proofs.TightLawLemmas.{some_bound, none_sure, none_quiet}
+use Rattle.error_bound.proofs.TightLawLemmas.{some_bound, none_sure, none_quiet, ends_are_ordered}
 use Rattle.error_bound.proofs.{LeafLemmas.faulty_fail, Literals.term_errors-are}
 use Rattle.error_bound.proofs.rules.BoxTable.tight_bound_by.Goals as goal
 
@@ -10,6 +10,10 @@ returns-in-None-clause-bound c =
     let bounds : IsTightBound c.args.block.now c.args.self.now.bytes.0.items c.args.out x.result.now c.args.parts
     c.silent_bound.result = silent (holds_silent refl refl c.in-None.ensures.still) c.silent_bound.ensures in
     rw x.ensures.found bounds
+
+pub bound-requires-clause-ordered : goal.bound-requires-clause-ordered
+bound-requires-clause-ordered c =
+    ends_are_ordered c.args.block.now c.args.self.now.bytes.0.items c.args.out c.args.masses.now c.requires.masses
 
 pub returns-in-Some : goal.returns-in-Some
 returns-in-Some c =
@@ -22,7 +26,7 @@ returns-in-Some c =
     record {
       bound = some_bound b box c.args.out x c.args.parts c.args.masses.now c.requires.masses few found
           (term_errors-are b box c.requires.block c.requires.table.box_is.intervals) c.bound.result
-          n.value n.sum n.bytes;
+          n.bound n.sum n.bytes;
       loud = none_quiet c.bound.result
           (λ h. faulty_fail b box c.args.out silent_leaf c.in-Some.field-0 c.in-Some.ensures.fault h);
       unsure = none_sure b box c.args.out x c.args.parts c.args.masses.now c.requires.masses few found c.bound.result

@@ -1,0 +1,38 @@
+use Rattle.std.proofs.Common.{◌≡◌, ℕ, Bool, inl, inr, refl, sym, ap, ◌∙◌, subst, rules}
+use Rattle.std.specs.Prelude.{◌||◌, ◌&&◌, ◌==◌}
+use Rattle.fuzzy_meaning.specs.Conditions.{Condition, all, any, Conditions, end, also, conditions}
+use Rattle.fuzzy_meaning.specs.Trees.{tree}
+use Rattle.error_bound.specs.Matters.{some_literal, asks_for, is_spread}
+use Rattle.error_bound.proofs.ListLemmas.{part_asks, parts_ask}
+use Rattle.error_bound.proofs.matters.+asking.Goals as goal
+
+-- the parts of an AND ask as those of an OR do
+all-any : (p : ℕ → ℕ → Bool) (cs : Conditions) → some_literal p (all cs) ≡ some_literal p (any cs)
+all-any p end = refl
+all-any p (also c cs) = ap (λ d. some_literal p c || d) (all-any p cs)
+
+pub some_asks_for-asks_for-requires : goal.some_asks_for-asks_for-requires
+some_asks_for-asks_for-requires t c =
+    let asks = part_asks c.parts_are_valid.ensures c.args.block.now c.args.parts.now c.loop-k.k c.index-parts-k.result
+    (search rules) (search rules) c.index-parts-k.is c.requires.parts in
+    (search (rules, asks.0), (asks.1, (c.requires.block, c.requires.terms)))
+
+pub asks_for-some_asks_for-requires : goal.asks_for-some_asks_for-requires
+asks_for-some_asks_for-requires t c =
+    let asks = parts_ask c.args.block.now c.condition.view_is (inl c.in-And.is) c.as_slice.ensures.value
+    c.requires.condition in (search (rules, asks.0), (asks.1, (c.requires.block, c.requires.terms)))
+
+pub asks_for-some_asks_for-requires-in-Or : goal.asks_for-some_asks_for-requires-in-Or
+asks_for-some_asks_for-requires-in-Or t c =
+    let asks = parts_ask c.args.block.now c.condition.view_is (inr c.in-Or.is) c.as_slice-in-Or.ensures.value
+    c.requires.condition in (search (rules, asks.0), (asks.1, (c.requires.block, c.requires.terms)))
+
+pub asks_for-returns-in-Or : goal.asks_for-returns-in-Or
+asks_for-returns-in-Or t c =
+    let b = c.args.block.now in
+    let box = c.args.terms.now.bytes.0.items in
+    let i = c.args.input in
+    c.some_asks_for-in-Or.ensures ∙ all-any (λ j t. (j == i) && is_spread b box j t)
+    (conditions c.as_slice-in-Or.result.now)
+    ∙ ap (λ ps. asks_for b box i (any (conditions ps))) c.as_slice-in-Or.ensures.value
+    ∙ ap (asks_for b box i) (ap tree (sym c.in-Or.is) ∙ c.condition.view_is)

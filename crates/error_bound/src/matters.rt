@@ -1,0 +1,135 @@
+//! The inputs that matter on a box: those that a rule with a strength there asks for by a term whose degrees or
+//! grades are not all one.
+ghost use Rattle.std.specs.Prelude.{◌≡◌, ◌≤◌, ◌<◌, ◌*◌, ◌+◌, ◌==◌, ◌&&◌, ◌||◌, not, if◌then◌else◌, nat_lt};
+ghost use Rattle.std.specs.Prelude.{length, Some, slice_get};
+ghost use Rattle.error_bound.specs.declared.boxes.Interval.{Interval as TheInterval};
+ghost use Rattle.fuzzy_meaning.specs.declared.block.Rule.{Rule as TheRule};
+ghost use Rattle.fuzzy_meaning.specs.Blocks.{IsValid, IsValidCondition, AreValidConditions};
+ghost use Rattle.fuzzy_meaning.specs.Conditions.{all, conditions};
+ghost use Rattle.error_bound.specs.{Boxes.IsBoxOf, Reaches.AreBoxTerms, Reaches.IsTable, Ratios.value_of, Tight.is_still};
+ghost use Rattle.error_bound.specs.Matters.{asks_for as asks_for_of, matters as matters_of, narrowed};
+
+use crate::boxes::{ByteBox, Interval};
+use crate::ends::End;
+use crate::reaches::{Reach, reach_of_literal};
+use crate::rules::BoxTable;
+use crate::tables::BoxTerms;
+use arrayvec::ArrayVec;
+use fuzzy_meaning::laws::parts_are_valid;
+use fuzzy_meaning::{Block, Condition, Node};
+
+impl BoxTable<'_> {
+    /// The table's box with its low byte alone in each interval of an input that doesn't matter there.
+    pub fn narrowed(&self, block: &Block) -> ByteBox
+        requires block { IsValid block.now }
+        requires table { IsTable block.now self.now }
+        ensures narrowed { result.0.items ≡ narrowed block.now self.now.bytes.0.items }
+        ensures bytes { IsBoxOf block.now result.0.items }
+    {
+        let mut narrow = ArrayVec::new();
+        for k in 0..self.bytes.0.len() {
+            narrow.push(self.interval_that_matters(block, k));
+        }
+        ByteBox(narrow)
+    }
+
+    /// The interval at a place, or its low byte alone.
+    fn interval_that_matters(&self, block: &Block, place: usize) -> Interval
+        requires block { IsValid block.now }
+        requires table { IsTable block.now self.now }
+        requires place { place < length self.now.bytes.0.items }
+        ensures { (v : TheInterval) → slice_get self.now.bytes.0.items place ≡ Some v
+            → result ≡ (if matters_of block.now self.now.bytes.0.items (place + 1) then v
+            else record { from = v.from; to = v.from }) }
+    {
+        let interval = self.bytes.0[place];
+        if self.matters(block, place as u8 + 1) {
+            interval
+        } else {
+            Interval {
+                from: interval.from,
+                to: interval.from,
+            }
+        }
+    }
+
+    /// Whether an input, from 1, matters on the table's box.
+    fn matters(&self, block: &Block, input: u8) -> bool
+        requires block { IsValid block.now }
+        requires table { IsTable block.now self.now }
+        ensures { result ≡ matters_of block.now self.now.bytes.0.items input }
+    {
+        for n in 0..block.rules.len() {
+            if self.rule_asks_for(block, n, input) {
+                return true;
+            }
+        }
+        false
+    }
+
+    /// Whether the rule at a place, which has a strength somewhere on the table's box, asks for an input so.
+    fn rule_asks_for(&self, block: &Block, place: usize, input: u8) -> bool
+        requires block { IsValid block.now }
+        requires table { IsTable block.now self.now }
+        requires place { place < length block.now.rules }
+        ensures { (r : TheRule) → slice_get block.now.rules place ≡ Some r
+            → result ≡ (asks_for_of block.now self.now.bytes.0.items input r.cond
+            && not (is_still block.now self.now.bytes.0.items r)) }
+    {
+        let rule = &block.rules.as_slice()[place];
+        if !asks_for(&rule.cond, input, block, &self.terms) {
+            return false;
+        }
+        !is_nothing(self.end_of_rule(block, place, true))
+    }
+}
+
+/// Whether a strength that reaches so far up is none, over bytes neither.
+fn is_nothing(high: End) -> bool
+    ensures { result ≡ (((value_of high.truth).num == 0) && (high.byte == 0)) }
+{
+    high.truth.num == 0 && high.byte == 0
+}
+
+/// Whether a condition has a literal of an input whose degrees or grades are not all one.
+#[cycle(asking)]
+fn asks_for(condition: &Condition, input: u8, block: &Block, terms: &BoxTerms) -> bool
+    requires condition { IsValidCondition block.now condition.now }
+    requires block { IsValid block.now }
+    requires terms { AreBoxTerms block.now terms.now }
+    ensures { result ≡ asks_for_of block.now terms.now.bytes.0.items input condition.now }
+{
+    match &condition.node {
+        Node::Is(i, term) => *i == input && is_spread(reach_of_literal(block, *i, *term, terms)),
+        Node::Not(inner) => asks_for(inner, input, block, terms),
+        Node::And(parts) => some_asks_for(parts.as_slice(), input, block, terms),
+        Node::Or(parts) => some_asks_for(parts.as_slice(), input, block, terms),
+    }
+}
+
+/// Whether some of an AND's parts has one, or as well of an OR's.
+#[cycle(asking)]
+fn some_asks_for(parts: &[Condition], input: u8, block: &Block, terms: &BoxTerms) -> bool
+    requires parts { AreValidConditions block.now (conditions parts.now) }
+    requires block { IsValid block.now }
+    requires terms { AreBoxTerms block.now terms.now }
+    ensures { result ≡ asks_for_of block.now terms.now.bytes.0.items input (all (conditions parts.now)) }
+{
+    parts_are_valid();
+    let mut some = false;
+    for k in (0..parts.len()).rev() {
+        some = asks_for(&parts[k], input, block, terms) || some;
+    }
+    some
+}
+
+/// Whether the degrees of a reach, or its grades, are not all one.
+fn is_spread(reach: &Reach) -> bool
+    ensures { result ≡ (nat_lt ((value_of reach.now.degrees.low).num * (value_of reach.now.degrees.high).den)
+        ((value_of reach.now.degrees.high).num * (value_of reach.now.degrees.low).den)
+        || nat_lt reach.now.least reach.now.greatest) }
+{
+    let (low, high) = (reach.degrees.low, reach.degrees.high);
+    u128::from(low.num) * u128::from(high.den) < u128::from(high.num) * u128::from(low.den)
+        || reach.least < reach.greatest
+}
