@@ -17,11 +17,12 @@ use Rattle.point_slope.specs.Bytes.{total_mass as byte_total, weighted_sum as by
 use Rattle.point_slope.specs.Tables.{row_of, grade_of}
 use Rattle.error_bound.specs.Boxes.{IsBox, LieIn, literal_byte_span, rule_byte_span, grades_over, least_from}
 use Rattle.error_bound.specs.Tight.{greatest_of, byte_high_of, IsTightBound, IsSure, silent as tight_silent, sure}
-use Rattle.error_bound.specs.MassRanges.{ranges, answer_at, rest_of, ranges_at, sure_mass}
+use Rattle.error_bound.specs.{MassRanges.ranges, MassRanges.answer_at, MassRanges.rest_of, Tight.ranges_at}
 use Rattle.error_bound.specs.{TightLaws.TightBoundsAreOne, TightLaws.TightBoundsAreSmall, Tight.of_bound as count_of}
 use Rattle.error_bound.specs.{Spans.Span, Spans.only, Spans.reversed, Spans.spans, Spans.byte_span, Leaves.Holds}
 use Rattle.error_bound.specs.{declared.boxes.Interval.Interval, Boxes.greatest_from, Boxes.IsBoxOf, Best.silent_leaf}
 use Rattle.cell_error.specs.{Errors.Covers, Errors.IsRange, Errors.IsCellError, declared.ranges.MassRange.MassRange}
+use Rattle.cell_error.specs.Errors.{sure_mass}
 use Rattle.cell_error.specs.declared.ranges.Answer.{Answer}
 use Rattle.cell_bounds.specs.Cells.{unsure, silent, ErrorsOnCellsAreOne, UnsureCellsHaveNone, IsErrorOnCell, IsUnsure}
 use Rattle.cell_bounds.specs.CellBounds.{HasCellBound, of_tight, of_error, IsCellBound}
@@ -94,35 +95,6 @@ quotient_le a b n h l = ⊎_elim
     (λ (k : n < a / b). let j : suc n * b ≤ (a / b) * b = mul-le-mul_right b k in absurd (omega arith))
     (λ (k : a / b ≤ n). k)
     (cases_lt n (a / b))
-
--- a loop from the back fills a list's first n places
-pub fill : (xs : List MassRange) (n k : ℕ) (v : MassRange) → k < n → n ≤ length xs
-    → drop k (take n (slice_set xs k v)) ≡ v ∷ drop (suc k) (take n xs)
-fill [] n k v h l = absurd (omega arith)
-fill (x ∷ xs) zero k v h l = absurd (omega arith)
-fill (x ∷ xs) (suc n) zero v h l = refl
-fill (x ∷ xs) (suc n) (suc k) v h l = fill xs n k v (omega arith) (omega arith)
-
-pub fill_next : (f g : ℕ → ℕ) (lo : Dec) (ss : List Dec) (rs : List MassRange) (k a m : ℕ) (d : Dec) → 0 < k
-    → k ≤ length ss → length ss ≤ length rs → a ≡ distance lo (get_or ss (k - 1) d) → m ≡ g (k - 1)
-    → drop k (take (length ss) rs) ≡ ranges_at f g lo k (drop k ss)
-    → drop (k - 1) (take (length ss) (slice_set rs (k - 1) (record { at = a; low = f (k - 1); high = m })))
-    ≡ ranges_at f g lo (k - 1) (drop (k - 1) ss)
-fill_next f g lo ss rs k a m d some upto room ea em done =
-    let n = length ss in
-    let j = k - 1 in
-    let back : k ≡ suc j = omega arith in
-    let next : k ≡ j + 1 = omega arith in
-    let v : MassRange = record { at = a; low = f j; high = m } in
-    let e1 = fill rs n j v (omega arith) room in
-    let e2 : drop (suc j) (take n rs) ≡ ranges_at f g lo (j + 1) (drop (suc j) ss) =
-    subst (λ i. drop i (take n rs) ≡ ranges_at f g lo (j + 1) (drop i ss)) back
-    (subst (λ i. drop k (take n rs) ≡ ranges_at f g lo i (drop k ss)) next done) in
-    let e3 : drop j ss ≡ get_or ss j d ∷ drop (suc j) ss = drop-cons ss j d (omega arith) in
-    let e4 : v ∷ ranges_at f g lo (j + 1) (drop (suc j) ss) ≡ ranges_at f g lo j (get_or ss j d ∷ drop (suc j) ss) =
-    ap₂ (λ (p q : ℕ). let t : MassRange = record { at = p; low = f j; high = q } in
-    t ∷ ranges_at f g lo (j + 1) (drop (suc j) ss)) ea em in
-    e1 ∙ ap (λ ts. v ∷ ts) e2 ∙ e4 ∙ sym (ap (ranges_at f g lo j) e3)
 
 pub ranges_same : (f f' g g' : ℕ → ℕ) (lo : Dec) → ((j : ℕ) → j < 15 → f j ≡ f' j) → ((j : ℕ) → j < 15 → g j ≡ g' j)
     → (k : ℕ) (us : List Dec) → k + length us ≤ 15 → ranges_at f g lo k us ≡ ranges_at f' g' lo k us

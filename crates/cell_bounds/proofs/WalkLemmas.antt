@@ -1,7 +1,7 @@
 -- The cells of a box, and numbers raised to their Bounds part by part.
 use Rattle.std.proofs.Common.{◌≡◌, ℕ, zero, suc, ◌≤◌, List, [], ◌∷◌, length, Some, refl, sym, subst, ap, ◌∙◌, arith}
 use Rattle.std.proofs.Common.{◌≢◌, ◌⊎◌, inl, inr, ⊎_elim, ◌+◌, ◌-◌, ◌<◌, ap₂, max, Option, None}
-use Rattle.std.proofs.lemmas.List.{length-set, get_or-set_same, get_or-set_other}
+use Rattle.std.proofs.lemmas.List.{length-set, get_or-set_same, get_or-set_other, get_or_past}
 use Rattle.std.proofs.lemmas.Option.{slice_get_within, get_or_from_slice_get}
 use Rattle.std.proofs.{lemmas.Bool.cases_lt, lemmas.Bool.cases_eq, lemmas.List.Sums.sum_by-set}
 use Rattle.std.specs.Prelude.{slice_get, set, IfSome, IfOk, IfErr, Result, Ok, Err, slice_index, slice_set}
@@ -19,17 +19,18 @@ use Rattle.cell_bounds.specs.CellBounds.{HasCellBound, of_tight, of_error, of_bo
 use Rattle.cell_bounds.specs.CellBounds.{CellCountsAreOne, CellsBoundsAreOne, CellsBoundsFallInside, IsBefore}
 use Rattle.cell_bounds.specs.CellBounds.{IsCellCount, IsCellWithin, CellsAreWithin, IsCellsBound, IsFirstCellAbove}
 use Rattle.cell_bounds.specs.{Walks.cuts_of, Walks.IsRaised, Walks.AreRaised, Walks.AreAtMost, CellBounds.IsUnsureOn}
+use Rattle.cell_bounds.specs.{Walks.whole_ranges, CellBounds.number_of}
 use Rattle.cell_bounds.specs.Cells.{IsCell, cell_of, AnswersOnCellsAreNear}
 use Rattle.cell_bounds.proofs.CellLemmas.{lowest, lowest_in}
 
 -- what stands at a place of the cell
-record IsAt (bytes : List ℕ) (k : ℕ) (v : Interval) : Type 0 where
-  byte : ℕ
-  byte_is : slice_get bytes k ≡ Some byte
-  from_is : v.from ≡ byte
-  to_is : v.to ≡ byte
+pub record IsAt (bytes : List ℕ) (k : ℕ) (v : Interval) : Type 0 where
+  pub byte : ℕ
+  pub byte_is : slice_get bytes k ≡ Some byte
+  pub from_is : v.from ≡ byte
+  pub to_is : v.to ≡ byte
 
-at : (bytes : List ℕ) (k : ℕ) (v : Interval) → slice_get (cell_of bytes) k ≡ Some v → IsAt bytes k v
+pub at : (bytes : List ℕ) (k : ℕ) (v : Interval) → slice_get (cell_of bytes) k ≡ Some v → IsAt bytes k v
 at [] k v e = absurd (let z : ⊥ = cc in z)
 at (n ∷ ns) zero v e =
     let one : Interval = record { from = n; to = n } in
@@ -411,11 +412,11 @@ module _ (b : Block) (h : ℕ) (box : List Interval) (k : ℕ) (w : Interval) (t
       (λ x a c. one_raised (j + 1) x (slice_index olds j) (slice_index mids j) (slice_index news j) a c)
       (l j from to) (r j from to)
 
-  pub above_left : (limit p q : ℕ) (bytes : List ℕ) (o n : ℕ)
+  pub above_left : (limits : List ℕ) (p q : ℕ) (bytes : List ℕ) (o n : ℕ)
       → ((j : ℕ) (v : Interval) → j < k → slice_get box j ≡ Some v → v.from ≡ v.to)
-      → IsFirstCellAbove b h limit p q (left box k w there is wide) bytes o n
-      → IsFirstCellAbove b h limit p q box bytes o n
-  above_left limit p q bytes o n single a = record {
+      → IsFirstCellAbove b h limits p q (left box k w there is wide) bytes o n
+      → IsFirstCellAbove b h limits p q box bytes o n
+  above_left limits p q bytes o n single a = record {
     inside = lie_around (left box k w there is wide) box bytes (left_inside box k w there is wide) a.inside;
     from = a.from;
     to = a.to;
@@ -426,11 +427,11 @@ module _ (b : Block) (h : ℕ) (box : List Interval) (k : ℕ) (w : Interval) (t
         a.cells_before ms (before_left box k w there is wide single ms bytes lie a.inside before) before j f t;
   }
 
-  pub above_right : (limit p q : ℕ) (olds mids : List ℕ) (bytes : List ℕ) (o n : ℕ) → q ≤ 4
-      → AreRaised b h p q (left box k w there is wide) olds mids → AreAtMost limit mids
-      → IsFirstCellAbove b h limit (p + 1) q (right box k w there is wide) bytes o n
-      → IsFirstCellAbove b h limit (p + 1) q box bytes o n
-  above_right limit p q olds mids bytes o n few l small a = record {
+  pub above_right : (limits : List ℕ) (p q : ℕ) (olds mids : List ℕ) (bytes : List ℕ) (o n : ℕ) → q ≤ length limits
+      → AreRaised b h p q (left box k w there is wide) olds mids → AreAtMost limits mids
+      → IsFirstCellAbove b h limits (p + 1) q (right box k w there is wide) bytes o n
+      → IsFirstCellAbove b h limits (p + 1) q box bytes o n
+  above_right limits p q olds mids bytes o n few l small a = record {
     inside = lie_around (right box k w there is wide) box bytes (right_inside box k w there is wide) a.inside;
     from = a.from;
     to = a.to;
@@ -440,11 +441,11 @@ module _ (b : Block) (h : ℕ) (box : List Interval) (k : ℕ) (w : Interval) (t
     cells_before = λ ms lie before j f t. ⊎_elim
         (λ (i : LieIn (left box k w there is wide) ms).
         let back : j - 1 + 1 ≡ j = omega arith in
-        let le : slice_index mids (j - 1) ≤ limit = small (j - 1) (omega arith) in
-        let here : IfSome (output_at b (j - 1 + 1)) (λ x. IsCellWithin b ms (j - 1 + 1) x h limit) =
+        let le : slice_index mids (j - 1) ≤ number_of limits j = small (j - 1) (omega arith) in
+        let here : IfSome (output_at b (j - 1 + 1)) (λ x. IsCellWithin b ms (j - 1 + 1) x h (number_of limits j)) =
         more_output (output_at b (j - 1 + 1)) (λ x r. within_le ms le (r.within ms i))
         (l (j - 1) (omega arith) (omega arith)) in
-        subst (λ i. IfSome (output_at b i) (λ x. IsCellWithin b ms i x h limit)) back here)
+        subst (λ i. IfSome (output_at b i) (λ x. IsCellWithin b ms i x h (number_of limits j))) back here)
         (λ (i : LieIn (right box k w there is wide) ms). a.cells_before ms i before j f t)
         (in_either box k w there is wide ms lie);
   }
@@ -481,20 +482,20 @@ module _ (b : Block) (h : ℕ) (box : List Interval) (k : ℕ) (is : IsBox box) 
       (subst (λ i. AreRaised b h p q i olds mids) (el cut.0 cut.1) l)
       (subst (λ i. AreRaised b h p q i mids news) (er cut.0 cut.1) r)
 
-  pub above_in_left : (limit p q : ℕ) (bytes : List ℕ) (o n : ℕ)
+  pub above_in_left : (limits : List ℕ) (p q : ℕ) (bytes : List ℕ) (o n : ℕ)
       → ((j : ℕ) (v : Interval) → j < k → slice_get box j ≡ Some v → v.from ≡ v.to)
-      → IsFirstCellAbove b h limit p q ls bytes o n → IsFirstCellAbove b h limit p q box bytes o n
-  above_in_left limit p q bytes o n single a =
-      above_left b h box k cut.0 cut.1 is apart limit p q bytes o n single
-      (subst (λ i. IsFirstCellAbove b h limit p q i bytes o n) (el cut.0 cut.1) a)
+      → IsFirstCellAbove b h limits p q ls bytes o n → IsFirstCellAbove b h limits p q box bytes o n
+  above_in_left limits p q bytes o n single a =
+      above_left b h box k cut.0 cut.1 is apart limits p q bytes o n single
+      (subst (λ i. IsFirstCellAbove b h limits p q i bytes o n) (el cut.0 cut.1) a)
 
-  pub above_in_right : (limit p q : ℕ) (olds mids : List ℕ) (bytes : List ℕ) (o n : ℕ) → q ≤ 4
-      → AreRaised b h p q ls olds mids → AreAtMost limit mids
-      → IsFirstCellAbove b h limit (p + 1) q rs bytes o n → IsFirstCellAbove b h limit (p + 1) q box bytes o n
-  above_in_right limit p q olds mids bytes o n few l small a =
-      above_right b h box k cut.0 cut.1 is apart limit p q olds mids bytes o n few
+  pub above_in_right : (limits : List ℕ) (p q : ℕ) (olds mids : List ℕ) (bytes : List ℕ) (o n : ℕ) → q ≤ length limits
+      → AreRaised b h p q ls olds mids → AreAtMost limits mids
+      → IsFirstCellAbove b h limits (p + 1) q rs bytes o n → IsFirstCellAbove b h limits (p + 1) q box bytes o n
+  above_in_right limits p q olds mids bytes o n few l small a =
+      above_right b h box k cut.0 cut.1 is apart limits p q olds mids bytes o n few
       (subst (λ i. AreRaised b h p q i olds mids) (el cut.0 cut.1) l) small
-      (subst (λ i. IsFirstCellAbove b h limit (p + 1) q i bytes o n) (er cut.0 cut.1) a)
+      (subst (λ i. IsFirstCellAbove b h limits (p + 1) q i bytes o n) (er cut.0 cut.1) a)
 
 -- ---- one cell
 
@@ -523,11 +524,11 @@ module _ (b : Block) (box : List Interval) (cell : IsCell box) (h : ℕ) where
   raised_count is o x old n new e small (of_none none are) = absurd (omega arith)
 
   -- the first output above, where those before are raised within the limit
-  pub above_here : (is : IsBox box) (limit p q place n : ℕ) (olds news : List ℕ) → p ≤ place → place < q → q ≤ 4
-      → AreRaised b h p place box olds news → AreAtMost limit news
-      → IfSome (output_at b (place + 1)) (λ x. IsCellCount b box (place + 1) x h n) → limit < n
-      → IsFirstCellAbove b h limit (p + 1) q box (lowest box) (place + 1) n
-  above_here is limit p q place n olds news from to few raised small count above =
+  pub above_here : (is : IsBox box) (limits : List ℕ) (p q place n : ℕ) (olds news : List ℕ) → p ≤ place → place < q
+      → q ≤ length limits → AreRaised b h p place box olds news → AreAtMost limits news
+      → IfSome (output_at b (place + 1)) (λ x. IsCellCount b box (place + 1) x h n) → slice_index limits place < n
+      → IsFirstCellAbove b h limits (p + 1) q box (lowest box) (place + 1) n
+  above_here is limits p q place n olds news from to few raised small count above =
       let lie = lowest_in box is in
       let same = cell_same box (lowest box) cell lie in
       record {
@@ -535,11 +536,13 @@ module _ (b : Block) (box : List Interval) (cell : IsCell box) (h : ℕ) where
         from = omega arith;
         to = omega arith;
         count = subst (λ i. IfSome (output_at b (place + 1)) (λ x. IsCellCount b i (place + 1) x h n)) (sym same) count;
-        above = above;
+        above =
+            (let place_is : place ≡ place + 1 - 1 = omega arith in
+            subst (λ i. slice_index limits i < n) place_is above);
         outputs_before = λ j f t.
             let back : j - 1 + 1 ≡ j = omega arith in
-            let le : slice_index news (j - 1) ≤ limit = small (j - 1) (omega arith) in
-            subst (λ i. IfSome (output_at b i) (λ x. IsCellWithin b (lowest box) i x h limit)) back
+            let le : slice_index news (j - 1) ≤ number_of limits j = small (j - 1) (omega arith) in
+            subst (λ i. IfSome (output_at b i) (λ x. IsCellWithin b (lowest box) i x h (number_of limits j))) back
             (more_output (output_at b (j - 1 + 1)) (λ x r. within_le (lowest box) le (r.within (lowest box) lie))
             (raised (j - 1) (omega arith) (omega arith)));
         cells_before = λ ms l before j f t. absurd (never box ms (lowest box) cell l lie before);
@@ -595,11 +598,13 @@ raised_next b h p place box olds mids new few done same one j from to = ⊎_elim
     (slice_index (slice_set mids place new) i))) e here)
     (cases_lt j place)
 
-pub small_next : (limit place new : ℕ) (mids : List ℕ) → place < length mids → AreAtMost limit mids → new ≤ limit
-    → AreAtMost limit (slice_set mids place new)
-small_next limit place new mids few small le k l = ⊎_elim
-    (λ (e : k ≡ place). let s = set_at mids place new few in
-    let t = ap (λ i. slice_index (slice_set mids place new) i) e in omega arith)
+pub small_next : (limits : List ℕ) (place new : ℕ) (mids : List ℕ) → place < length mids → AreAtMost limits mids
+    → new ≤ slice_index limits place → AreAtMost limits (slice_set mids place new)
+small_next limits place new mids few small le k l = ⊎_elim
+    (λ (e : k ≡ place).
+    let here : slice_index (slice_set mids place new) place ≤ slice_index limits place =
+    (let s = set_at mids place new few in omega arith) in
+    subst (λ i. slice_index (slice_set mids place new) i ≤ slice_index limits i) (sym e) here)
     (λ (e : k ≡ place → ⊥). let s = set_beside mids place k new (beside e) in let t = small k l in omega arith)
     (cases_eq k place)
   where
@@ -625,21 +630,40 @@ no_numbers (suc (suc zero)) = refl
 no_numbers (suc (suc (suc zero))) = refl
 no_numbers (suc (suc (suc (suc k)))) = refl
 
+range_whole : (k : ℕ) → k < 4 → slice_index whole_ranges k ≡ 1000000
+range_whole zero l = refl
+range_whole (suc zero) l = refl
+range_whole (suc (suc zero)) l = refl
+range_whole (suc (suc (suc zero))) l = refl
+range_whole (suc (suc (suc (suc k)))) l = absurd (omega arith)
+
+pub ranges_whole : (k : ℕ) → slice_index whole_ranges k ≤ 1000000
+ranges_whole k = ⊎_elim (λ (l : k < 4). let e = range_whole k l in omega arith)
+    (λ (l : 4 ≤ k). let e : slice_index whole_ranges k ≡ 0 = get_or_past whole_ranges k 0 l in omega arith)
+    (cases_lt k 4)
+
 -- where the numbers of one output stay within the whole range it is unsure nowhere
 pub sure_next : (b : Block) (h place : ℕ) (box : List Interval) (olds news : List ℕ) → place < 4
-    → AreRaised b h place (place + 1) box olds news → AreAtMost 1000000 news
+    → AreRaised b h place (place + 1) box olds news → AreAtMost whole_ranges news
     → IfSome (output_at b (place + 1)) (λ x. CellsAreWithin b box (place + 1) x h 1000000)
 sure_next b h place box olds news few raised small =
-    let le : slice_index news place ≤ 1000000 = small place few in
+    let whole = range_whole place few in
+    let at = small place few in
+    let le : slice_index news place ≤ 1000000 = omega arith in
     more_output (output_at b (place + 1)) (λ x r bytes lie. within_le bytes le (r.within bytes lie))
     (raised place (omega arith) (omega arith))
 
 -- a count above the whole range is that of no Bound
 pub unsure_above : (b : Block) (h p q : ℕ) (box : List Interval) (bytes : List ℕ) (o n : ℕ)
-    → IsFirstCellAbove b h 1000000 p q box bytes o n → IsUnsureOn b h box o
-unsure_above b h p q box bytes o n a =
+    → q ≤ 4 → 1 ≤ p → IsFirstCellAbove b h whole_ranges p q box bytes o n → IsUnsureOn b h box o
+unsure_above b h p q box bytes o n few some a =
     (bytes, a.inside, more_output (output_at b o) (λ x c. none x c) a.count)
   where
     none : (x : Output) → IsCellCount b (cell_of bytes) o x h n → (m : ℕ) → HasCellBound b (cell_of bytes) o x h m → ⊥
-    none x (of_bound p small) m q = absurd (let l = a.above in omega arith)
+    none x (of_bound p small) m q = absurd (
+        let l = a.above in
+        let from = a.from in
+        let to = a.to in
+        let e = range_whole (o - 1) (omega arith) in
+        omega arith)
     none x (of_none missing are) m q = missing m q

@@ -1,12 +1,14 @@
 -- The Bound of a cell, and of a leaf of cells.
 -- Beside the promise.
-use Rattle.std.specs.Prelude.{◌≡◌, ℕ, ◌+◌, ◌-◌, ◌*◌, ◌<◌, ◌≤◌, ◌⊎◌, List, [], ◌∷◌, length, IfSome}
+use Rattle.std.specs.Prelude.{◌≡◌, ℕ, ◌+◌, ◌-◌, ◌*◌, ◌<◌, ◌≤◌, ◌⊎◌, List, [], ◌∷◌, length, IfSome, Some, true}
+use Rattle.std.specs.Prelude.{slice_get, slice_index}
 use Rattle.fz_num.specs.{declared.dec.Dec.Dec, Fractions.Quotient}
 use Rattle.fuzzy_meaning.specs.declared.{block.Block.Block, block.Output.Output}
-use Rattle.fuzzy_meaning.specs.{Blocks.output_at, Meaning.answer_after}
+use Rattle.fuzzy_meaning.specs.{Blocks.output_at, Blocks.IsValid, Meaning.answer_after}
 use Rattle.byte_scaling.specs.Cells.{value_in}
 use Rattle.point_slope.specs.Bytes.{answer_in}
 use Rattle.error_bound.specs.{declared.boxes.Interval.Interval, Boxes.LieIn, Laws.IsInside, MassRanges.AreOverBox}
+use Rattle.error_bound.specs.{Boxes.IsBoxOf, Matters.matters, Matters.narrowed}
 use Rattle.error_bound.specs.{Tight.IsTightBound, TightLaws.IsAnsweredWithin}
 use Rattle.cell_bounds.specs.Cells.{cell_of, IsErrorOnCell}
 
@@ -45,18 +47,23 @@ IsBefore [] ns = ⊥
 IsBefore (m ∷ ms) [] = ⊥
 IsBefore (m ∷ ms) (n ∷ ns) = (m < n) ⊎ ((m ≡ n) × IsBefore ms ns)
 
--- of the outputs from number p to q, the cell of these bytes is the first in the box where one is above a limit, o is
+-- of numbers for each output, in order, that of output o
+abbrev pub number_of : List ℕ → ℕ → ℕ
+number_of numbers o = slice_index numbers (o - 1)
+
+-- of the outputs from number p to q, the cell of these bytes is the first in the box where one is above its limit, o is
 -- the first that is, and n is its count there
-pub record IsFirstCellAbove (b : Block) (h limit p q : ℕ) (box : List Interval) (bytes : List ℕ) (o n : ℕ) : Type 0
-  where
-    pub inside : LieIn box bytes
-    pub from : p ≤ o
-    pub to : o ≤ q
-    pub count : IfSome (output_at b o) (λ x. IsCellCount b (cell_of bytes) o x h n)
-    pub above : limit < n
-    pub outputs_before : (j : ℕ) → p ≤ j → j < o → IfSome (output_at b j) (λ x. IsCellWithin b bytes j x h limit)
-    pub cells_before : (ms : List ℕ) → LieIn box ms → IsBefore ms bytes → (j : ℕ) → p ≤ j → j ≤ q
-        → IfSome (output_at b j) (λ x. IsCellWithin b ms j x h limit)
+pub record IsFirstCellAbove (b : Block) (h : ℕ) (limits : List ℕ) (p q : ℕ) (box : List Interval) (bytes : List ℕ)
+    (o n : ℕ) : Type 0 where
+  pub inside : LieIn box bytes
+  pub from : p ≤ o
+  pub to : o ≤ q
+  pub count : IfSome (output_at b o) (λ x. IsCellCount b (cell_of bytes) o x h n)
+  pub above : number_of limits o < n
+  pub outputs_before : (j : ℕ) → p ≤ j → j < o
+      → IfSome (output_at b j) (λ x. IsCellWithin b bytes j x h (number_of limits j))
+  pub cells_before : (ms : List ℕ) → LieIn box ms → IsBefore ms bytes → (j : ℕ) → p ≤ j → j ≤ q
+      → IfSome (output_at b j) (λ x. IsCellWithin b ms j x h (number_of limits j))
 
 -- on some cell of the box output o has no Bound
 abbrev pub IsUnsureOn : Block → ℕ → List Interval → ℕ → Type 0
@@ -71,7 +78,7 @@ pub record IsFirstUnsure (b : Block) (h : ℕ) (box : List Interval) (o : ℕ) :
   pub unsure : IsUnsureOn b h box o
   pub before : (j : ℕ) → 1 ≤ j → j < o → IfSome (output_at b j) (λ x. CellsAreWithin b box j x h 1000000)
 
--- how many cells a box has
+-- how many cells a box has; those of a narrowed box are what a leaf of cells has few of
 abbrev pub cell_count : List Interval → ℕ
 cell_count [] = 1
 cell_count (v ∷ vs) = (v.to - v.from + 1) * cell_count vs
@@ -85,6 +92,34 @@ BoxesOfCellsAnswer =
     (before : Quotient) → AreOverBox b box o x h bytes xs → CellsAreWithin b box o x h n
     → IsAnsweredWithin x n q (answer_in h b o bytes q) (value_in h x (answer_in h b o bytes q)) before
     (answer_after b o before xs)
+
+-- bytes are the same for the inputs that matter on a box
+abbrev pub AreSameWhereItMatters : Block → List Interval → List ℕ → List ℕ → Type 0
+AreSameWhereItMatters b box ms ns =
+    (i : ℕ) → 1 ≤ i → matters b box i ≡ true → slice_get ms (i - 1) ≡ slice_get ns (i - 1)
+
+-- cells of such bytes in a box have one Bound
+abbrev pub AlikeCellsHaveOneBound : Type 0
+AlikeCellsHaveOneBound =
+    (b : Block) (box : List Interval) (ms ns : List ℕ) (o : ℕ) (x : Output) (h n : ℕ) → IsValid b
+    → output_at b o ≡ Some x → IsBoxOf b box → LieIn box ms → LieIn box ns → AreSameWhereItMatters b box ms ns
+    → HasCellBound b (cell_of ms) o x h n → HasCellBound b (cell_of ns) o x h n
+
+-- so those of the narrowed box stand for all: their greatest Bound is the box's, the first above its limit is, and so is
+-- the first output that is unsure
+pub record StandForAll (b : Block) (h : ℕ) (box : List Interval) : Type 0 where
+  pub bound : (o : ℕ) (x : Output) (n : ℕ) → output_at b o ≡ Some x → IsCellsBound b (narrowed b box) o x h n
+      → IsCellsBound b box o x h n
+  pub first : (limits : List ℕ) (p q : ℕ) (bytes : List ℕ) (o n : ℕ)
+      → IsFirstCellAbove b h limits p q (narrowed b box) bytes o n → IsFirstCellAbove b h limits p q box bytes o n
+  pub unsure : (o : ℕ) → IsFirstUnsure b h (narrowed b box) o → IsFirstUnsure b h box o
+
+abbrev pub NarrowedBoxesStandForAll : Type 0
+NarrowedBoxesStandForAll = (b : Block) (h : ℕ) (box : List Interval) → IsValid b → IsBoxOf b box → StandForAll b h box
+
+-- they are no more than all
+abbrev pub NarrowedBoxesHaveFewerCells : Type 0
+NarrowedBoxesHaveFewerCells = (b : Block) (box : List Interval) → cell_count (narrowed b box) ≤ cell_count box
 
 -- a cell has one count, and a box one greatest Bound
 abbrev pub CellCountsAreOne : Type 0

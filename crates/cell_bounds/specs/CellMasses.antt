@@ -3,9 +3,9 @@
 use Rattle.std.specs.Prelude.{◌≡◌, ℕ, ◌<◌, ◌≤◌, All, List, None, take}
 use Rattle.fuzzy_meaning.specs.declared.{block.Block.Block, block.Output.Output}
 use Rattle.point_slope.specs.Bytes.{answer_in}
-use Rattle.cell_error.specs.{declared.ranges.MassRange.MassRange, Errors.IsAnswer, Errors.IsRange}
+use Rattle.cell_error.specs.{declared.ranges.MassRange.MassRange, Errors.IsAnswer, Errors.IsRange, Errors.sure_mass}
 use Rattle.error_bound.specs.{declared.boxes.Interval.Interval, Boxes.LieIn}
-use Rattle.error_bound.specs.MassRanges.{ranges, sure_mass, answer_at, rest_of}
+use Rattle.error_bound.specs.MassRanges.{ranges, answer_at, rest_of}
 use Rattle.cell_bounds.specs.declared.masses.CellMasses.{CellMasses}
 
 abbrev pub terms_of : CellMasses → List MassRange

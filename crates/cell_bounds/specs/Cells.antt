@@ -2,13 +2,13 @@
 -- Beside the promise.
 use Rattle.std.specs.Prelude.{◌≡◌, ℕ, ◌+◌, ◌*◌, ◌/◌, ◌<◌, ◌==◌, if◌then◌else◌, List, [], ◌∷◌, Some, None, slice_get}
 use Rattle.fz_num.specs.{declared.dec.Dec.Dec, Decimals.distance, Fractions.Quotient, Fractions.IsClose}
-use Rattle.cell_error.specs.Errors.{IsCellError}
+use Rattle.cell_error.specs.Errors.{IsCellError, sure_mass}
 use Rattle.fuzzy_meaning.specs.declared.{block.Block.Block, block.Output.Output}
 use Rattle.fuzzy_meaning.specs.{Blocks.output_at, Meaning.answer_after}
 use Rattle.byte_scaling.specs.Cells.{value_in, nearest_byte}
 use Rattle.point_slope.specs.Bytes.{answer_in, resting_answer, byte_shares, total_mass}
 use Rattle.error_bound.specs.{declared.boxes.Interval.Interval, Boxes.IsBox, Boxes.LieIn}
-use Rattle.error_bound.specs.MassRanges.{ranges, sure_mass, answer_at, rest_of, AreOverBox}
+use Rattle.error_bound.specs.MassRanges.{ranges, answer_at, rest_of, AreOverBox}
 
 pub record IsCell (box : List Interval) : Type 0 where
   pub single : (k : ℕ) (v : Interval) → slice_get box k ≡ Some v → v.from ≡ v.to

@@ -1,6 +1,6 @@
 -- The cells of a box, gone through one after the other.
 -- Beside the promise.
-use Rattle.std.specs.Prelude.{ℕ, ◌+◌, ◌-◌, ◌<◌, ◌≤◌, List, length, IfSome, slice_index}
+use Rattle.std.specs.Prelude.{ℕ, ◌+◌, ◌-◌, ◌<◌, ◌≤◌, List, [], ◌∷◌, length, IfSome, slice_index}
 use Rattle.std.specs.List.{sum_by}
 use Rattle.fuzzy_meaning.specs.declared.{block.Block.Block, block.Output.Output}
 use Rattle.fuzzy_meaning.specs.Blocks.{IsValid, output_at}
@@ -12,8 +12,9 @@ pub record IsWalk (w : Walk) : Type 0 where
   pub block : IsValid w.block.now
   pub parts_from : 1 ≤ w.parts
   pub parts_to : w.parts ≤ 256
-  pub limit : w.limit ≤ 1000000
+  pub limits : (k : ℕ) → slice_index w.limits.now k ≤ 1000000
   pub end : w.end ≤ length w.block.now.outputs
+  pub all : w.end ≤ length w.limits.now
 
 -- a number is raised to the greatest of itself and the Bounds of a box's cells
 pub record IsRaised (b : Block) (box : List Interval) (o : ℕ) (x : Output) (h old new : ℕ) : Type 0 where
@@ -27,8 +28,13 @@ AreRaised b h p q box olds news =
     (k : ℕ) → p ≤ k → k < q
     → IfSome (output_at b (k + 1)) (λ x. IsRaised b box (k + 1) x h (slice_index olds k) (slice_index news k))
 
-abbrev pub AreAtMost : ℕ → List ℕ → Type 0
-AreAtMost n values = (k : ℕ) → k < 4 → slice_index values k ≤ n
+-- each is at most the number at its place
+abbrev pub AreAtMost : List ℕ → List ℕ → Type 0
+AreAtMost numbers values = (k : ℕ) → k < length numbers → slice_index values k ≤ slice_index numbers k
+
+-- the whole range of each output
+abbrev pub whole_ranges : List ℕ
+whole_ranges = 1000000 ∷ 1000000 ∷ 1000000 ∷ 1000000 ∷ []
 
 -- how often a box may be cut
 abbrev pub cuts_of : List Interval → ℕ

@@ -1,14 +1,14 @@
 //! The error and the Bound of a cell.
-ghost use Rattle.std.specs.Prelude.{◌≡◌, ◌≤◌, ◌⊎◌, ℕ, length, IfSome, IfNone, Some, None};
+ghost use Rattle.std.specs.Prelude.{◌≡◌, ◌<◌, ◌≤◌, ◌⊎◌, ℕ, length, slice_index, IfSome, IfNone, Some, None};
 ghost use Rattle.fuzzy_meaning.specs.Blocks.{IsValid, output_at};
-ghost use Rattle.error_bound.specs.Reaches.{IsTable};
+ghost use Rattle.error_bound.specs.{Reaches.IsTable, Masses.AreMasses};
 ghost use Rattle.cell_bounds.specs.Cells.{IsCell, IsErrorOnCell, IsUnsure};
 ghost use Rattle.cell_bounds.specs.CellBounds.{HasCellBound, IsCellBound, IsCellCount};
 
 use crate::masses::cell_masses;
 use cell_error::laws::covered_masses_have_errors;
-use error_bound::BoxTable;
 use error_bound::laws::{tight_bounds_are_one, tight_bounds_are_small};
+use error_bound::{BoxTable, Masses};
 use fuzzy_meaning::Block;
 
 /// The error of a cell for an output, for answers in so many parts to a byte: how far its answer may be
@@ -28,8 +28,28 @@ pub fn cell_error(block: &Block, table: &BoxTable, out: u8, parts: u16) -> Optio
     ensures none { IfNone result
         (IfSome (output_at block.now out) (IsUnsure block.now table.now.bytes.0.items out)) }
 {
-    match cell_masses(block, table, out, parts, &table.masses(block, out)) {
-        Some(masses) => Some(masses.error()),
+    error_by(block, table, out, parts, &table.masses(block, out))
+}
+
+/// The same where the masses are known.
+fn error_by(block: &Block, table: &BoxTable, out: u8, parts: u16, masses: &Masses) -> Option<u32>
+    requires block { IsValid block.now }
+    requires table { IsTable block.now table.now }
+    requires cell { IsCell table.now.bytes.0.items }
+    requires out_from { 1 ≤ out }
+    requires out_to { out ≤ length block.now.outputs }
+    requires parts_from { 1 ≤ parts }
+    requires parts_to { parts ≤ 256 }
+    requires masses { AreMasses block.now table.now.bytes.0.items out masses.now }
+    requires ordered { (t : ℕ) → t < 15 → slice_index masses.now.lows t ≤ slice_index masses.now.highs t }
+    ensures error { IfSome result (λ n. IfSome (output_at block.now out)
+        (λ x. IsErrorOnCell block.now table.now.bytes.0.items out x parts n)) }
+    ensures small { IfSome result (λ n. n ≤ 1000000) }
+    ensures none { IfNone result
+        (IfSome (output_at block.now out) (IsUnsure block.now table.now.bytes.0.items out)) }
+{
+    match cell_masses(block, table, out, parts, masses) {
+        Some(cell) => Some(cell.error()),
         None => None,
     }
 }
@@ -50,10 +70,30 @@ pub fn cell_bound(block: &Block, table: &BoxTable, out: u8, parts: u16) -> Optio
     ensures none { IfNone result (IfSome (output_at block.now out)
         (λ x. (n : ℕ) → HasCellBound block.now table.now.bytes.0.items out x parts n → ⊥)) }
 {
+    bound_by(block, table, out, parts, &table.masses(block, out))
+}
+
+/// The same where the masses are known.
+fn bound_by(block: &Block, table: &BoxTable, out: u8, parts: u16, masses: &Masses) -> Option<u32>
+    requires block { IsValid block.now }
+    requires table { IsTable block.now table.now }
+    requires cell { IsCell table.now.bytes.0.items }
+    requires out_from { 1 ≤ out }
+    requires out_to { out ≤ length block.now.outputs }
+    requires parts_from { 1 ≤ parts }
+    requires parts_to { parts ≤ 256 }
+    requires masses { AreMasses block.now table.now.bytes.0.items out masses.now }
+    requires ordered { (t : ℕ) → t < 15 → slice_index masses.now.lows t ≤ slice_index masses.now.highs t }
+    ensures bound { IfSome result (λ n. IfSome (output_at block.now out)
+        (λ x. IsCellBound block.now table.now.bytes.0.items out x parts n)) }
+    ensures small { IfSome result (λ n. n ≤ 1000000) }
+    ensures none { IfNone result (IfSome (output_at block.now out)
+        (λ x. (n : ℕ) → HasCellBound block.now table.now.bytes.0.items out x parts n → ⊥)) }
+{
     tight_bounds_are_one();
     tight_bounds_are_small();
-    let tight = table.tight_bound(block, out, parts);
-    let error = cell_error(block, table, out, parts);
+    let tight = table.tight_bound_by(block, out, parts, masses);
+    let error = error_by(block, table, out, parts, masses);
     less(tight, error)
 }
 
@@ -91,7 +131,7 @@ pub(crate) fn count_above(
             return None;
         }
     }
-    match cell_bound(block, table, out, parts) {
+    match bound_by(block, table, out, parts, &masses) {
         Some(bound) => Some(bound),
         None => Some(1_000_001),
     }

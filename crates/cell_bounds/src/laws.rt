@@ -1,11 +1,13 @@
 //! Laws of the definitions.
 ghost use Rattle.cell_bounds.specs.Cells.{AnswersOnCellsAreNear, ErrorsOnCellsAreOne, UnsureCellsHaveNone};
 ghost use Rattle.cell_bounds.specs.CellBounds.{BoxesOfCellsAnswer, CellCountsAreOne, CellsBoundsAreOne};
-ghost use Rattle.cell_bounds.specs.CellBounds.{CellsBoundsFallInside};
+ghost use Rattle.cell_bounds.specs.CellBounds.{CellsBoundsFallInside, AlikeCellsHaveOneBound};
+ghost use Rattle.cell_bounds.specs.CellBounds.{NarrowedBoxesStandForAll, NarrowedBoxesHaveFewerCells};
 ghost use Rattle.cell_bounds.specs.Claims.{ClaimAnswersAreNear, ClaimBoundsAreOne, ClaimBoundsFallWithParts};
 ghost use Rattle.cell_bounds.specs.Claims.{TightClaimsAreLeast, CountsAreLeast, BoxCountsAreOne, CountsAreOne};
 
 use error_bound::laws::{
+    alike_boxes_have_one_bound, alike_boxes_have_one_grade, alike_boxes_have_one_range,
     answers_are_near, answers_to_masses_are_near, best_bounds_are_least, best_leaves_are_one,
     bounds_are_determined, bounds_fall_with_parts, tight_answers_are_near, tight_bounds_are_least,
     tight_bounds_are_one, tight_bounds_fall_with_parts, tight_bounds_hold_inside,
@@ -35,6 +37,27 @@ pub fn errors_on_cells_are_one()
 /// Where the masses are unsure it has none.
 pub fn unsure_cells_have_none()
     ensures { UnsureCellsHaveNone }
+{}
+
+/// Cells in a box whose bytes are the same for the inputs that matter there have one Bound for an output.
+pub fn alike_cells_have_one_bound()
+    ensures { AlikeCellsHaveOneBound }
+{
+    alike_boxes_have_one_bound();
+    alike_boxes_have_one_range();
+    alike_boxes_have_one_grade();
+}
+
+/// So the cells of a narrowed box stand for all of the box.
+pub fn narrowed_boxes_stand_for_all()
+    ensures { NarrowedBoxesStandForAll }
+{
+    alike_cells_have_one_bound();
+}
+
+/// They are no more.
+pub fn narrowed_boxes_have_fewer_cells()
+    ensures { NarrowedBoxesHaveFewerCells }
 {}
 
 /// A cell has one count for an output.

@@ -2,16 +2,16 @@
 ghost use Rattle.std.specs.Prelude.{◌≡◌, ◌≤◌, ◌<◌, ◌+◌, ◌*◌, ◌↔◌, ℕ, All, IsTrue, length, take, slice_index};
 ghost use Rattle.std.specs.Prelude.{IfSome, IfNone, None};
 ghost use Rattle.fz_num.specs.Decimals.{distance};
-ghost use Rattle.cell_error.specs.Errors.{IsRange, IsCellError, Covers};
+ghost use Rattle.cell_error.specs.Errors.{IsRange, IsCellError, Covers, sure_mass as sure_mass_of};
 ghost use Rattle.fuzzy_meaning.specs.Blocks.{IsValid, IsValidOutput, output_at};
 ghost use Rattle.error_bound.specs.{Masses.AreMasses, Reaches.IsTable};
-ghost use Rattle.error_bound.specs.MassRanges.{ranges_at, sure_mass as sure_mass_of, answer_at, rest_of};
+ghost use Rattle.error_bound.specs.MassRanges.{answer_at, rest_of};
 ghost use Rattle.cell_bounds.specs.Cells.{IsCell, IsUnsure, mass_sum, dot_sum, answer_by};
 ghost use Rattle.cell_bounds.specs.CellMasses.{AreFit, AreCellMasses, terms_of};
 
 use byte_scaling::near;
 use cell_error::{Answer, MassRange, least_error, serves};
-use error_bound::{BoxTable, Masses, output_of};
+use error_bound::{BoxTable, Masses, output_of, ranges_of};
 use fuzzy_meaning::{Block, Output};
 
 /// What the masses of an output's terms lie between on a cell, how far above the low end what stands in for an
@@ -75,28 +75,6 @@ pub(crate) fn cell_masses(
         Some(value) => with_rest(output, ranges, parts, value),
         None => None,
     }
-}
-
-/// What the masses of an output's terms lie between, of their lower and their upper ends.
-fn ranges_of(output: &Output, lows: &[u64; 15], highs: &[u64; 15]) -> [MassRange; 15]
-    requires { IsValidOutput output.now }
-    ensures { take (length output.now.singletons) result
-        ≡ ranges_at (slice_index lows.now) (slice_index highs.now) output.now.lo 0 output.now.singletons }
-{
-    let mut ranges = [MassRange {
-        at: 0,
-        low: 0,
-        high: 0,
-    }; 15];
-    let singletons = output.singletons.as_slice();
-    for k in (0..singletons.len()).rev() {
-        ranges[k] = MassRange {
-            at: singletons[k].above(output.lo),
-            low: lows[k],
-            high: highs[k],
-        };
-    }
-    ranges
 }
 
 /// The answer by the masses over bytes. With NC there is none where they all are 0.

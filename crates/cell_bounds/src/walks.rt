@@ -5,6 +5,7 @@ ghost use Rattle.fuzzy_meaning.specs.Blocks.{IsValid, output_at};
 ghost use Rattle.error_bound.specs.declared.boxes.Interval.{Interval as TheInterval};
 ghost use Rattle.error_bound.specs.{Boxes.IsBox, Boxes.IsBoxOf, Reaches.IsBlockTable, Reaches.IsTable};
 ghost use Rattle.cell_bounds.specs.{Cells.IsCell, Walks.IsWalk, Walks.IsRaised, Walks.AreRaised, Walks.AreAtMost};
+ghost use Rattle.cell_bounds.specs.Walks.{whole_ranges};
 ghost use Rattle.cell_bounds.specs.CellBounds.{IsCellCount, IsCellsBound, IsFirstCellAbove, cell_count, IsUnsureOn};
 ghost use Rattle.cell_bounds.specs.CellBounds.{IsFirstUnsure};
 
@@ -16,7 +17,7 @@ use fuzzy_meaning::Block;
 /// The most cells that the box of a leaf of cells has.
 pub const MOST_CELLS: u32 = 64;
 
-/// A cell, by its bytes, on which an output, from 1, counts more than a limit.
+/// A cell, by its bytes, on which an output, from 1, counts more than its limit.
 #[derive(Clone, Drop)]
 pub struct CellAbove {
     pub bytes: ArrayVec<u8, 8>,
@@ -24,43 +25,44 @@ pub struct CellAbove {
     pub bound: u32,
 }
 
-/// What is looked for on each cell: Bounds above a limit, of the outputs at the places from `first` to below
-/// `end`, for answers in so many parts to a byte.
+/// What is looked for on each cell: Bounds above their limits, of the outputs at the places from `first` to below
+/// `end`, for answers in so many parts to a byte. Each limit stands at its output's place.
 #[derive(Clone, Copy)]
 pub(crate) struct Walk<'a> {
     block: &'a Block,
     parts: u16,
-    limit: u32,
+    limits: &'a [u32],
     first: u8,
     end: u8,
 }
 
 /// The greatest Bound of a box's cells for each output at its place, for answers in so many parts to a byte; or
-/// the first cell with one above a limit, the first input's byte rising slowest, and its first such output.
+/// the first cell with one above its limit, the first input's byte rising slowest, and its first such output.
 pub fn cells_bounds(
     block: &Block,
     table: &BlockTable,
     bytes: &ByteBox,
     parts: u16,
-    limit: u32,
+    limits: &[u32],
 ) -> Result<[u32; 4], CellAbove>
     requires block { IsValid block.now }
     requires table { IsBlockTable block.now table.now }
     requires bytes { IsBoxOf block.now bytes.now.0.items }
     requires parts_from { 1 ≤ parts }
     requires parts_to { parts ≤ 256 }
-    requires limit { limit ≤ 1000000 }
+    requires limits { (k : ℕ) → slice_index limits.now k ≤ 1000000 }
+    requires all { length block.now.outputs ≤ length limits.now }
     ensures bounds { IfOk result (λ bounds. (k : ℕ) → k < length block.now.outputs
         → IfSome (output_at block.now (k + 1))
         (λ x. IsCellsBound block.now bytes.now.0.items (k + 1) x parts (slice_index bounds k))) }
-    ensures within { IfOk result (AreAtMost limit) }
-    ensures above { IfErr result (λ a. IsFirstCellAbove block.now parts limit 1 (length block.now.outputs)
+    ensures within { IfOk result (AreAtMost limits.now) }
+    ensures above { IfErr result (λ a. IsFirstCellAbove block.now parts limits.now 1 (length block.now.outputs)
         bytes.now.0.items a.bytes.items a.out a.bound) }
 {
     let walk = Walk {
         block,
         parts,
-        limit,
+        limits,
         first: 0,
         end: block.outputs.len() as u8,
     };
@@ -83,10 +85,11 @@ pub fn sure_cells_bounds(
     ensures bounds { IfOk result (λ bounds. (k : ℕ) → k < length block.now.outputs
         → IfSome (output_at block.now (k + 1))
         (λ x. IsCellsBound block.now bytes.now.0.items (k + 1) x parts (slice_index bounds k))) }
-    ensures within { IfOk result (AreAtMost 1000000) }
+    ensures within { IfOk result (AreAtMost whole_ranges) }
     ensures unsure { IfErr result (IsFirstUnsure block.now parts bytes.now.0.items) }
 {
-    match cells_bounds(block, table, bytes, parts, 1_000_000) {
+    let whole = [1_000_000; 4];
+    match cells_bounds(block, table, bytes, parts, &whole) {
         Ok(bounds) => Ok(bounds),
         Err(above) => Err(first_unsure(block, table, bytes, parts, above.out)),
     }
@@ -104,12 +107,13 @@ fn first_unsure(block: &Block, table: &BlockTable, bytes: &ByteBox, parts: u16, 
     requires known { IsUnsureOn block.now parts bytes.now.0.items known }
     ensures { IsFirstUnsure block.now parts bytes.now.0.items result }
 {
+    let whole = [1_000_000; 4];
     let mut cell = BoxTable::over(block, table, bytes.copied());
     for place in 0..known - 1 {
         let walk = Walk {
             block,
             parts,
-            limit: 1_000_000,
+            limits: &whole,
             first: place,
             end: place + 1,
         };
@@ -122,7 +126,7 @@ fn first_unsure(block: &Block, table: &BlockTable, bytes: &ByteBox, parts: u16, 
 }
 
 impl Walk<'_> {
-    /// The numbers raised to the Bounds of a box's cells, or the first cell above the limit. The table is moved
+    /// The numbers raised to the Bounds of a box's cells, or the first cell above its limit. The table is moved
     /// from cell to cell.
     fn over(
         &self,
@@ -133,12 +137,12 @@ impl Walk<'_> {
         requires walk { IsWalk self.now }
         requires table { IsTable self.now.block.now cell.old }
         requires bytes { IsBoxOf self.now.block.now bytes.0.items }
-        requires so_far { AreAtMost self.now.limit so_far }
+        requires so_far { AreAtMost self.now.limits.now so_far }
         ensures table { IsTable self.now.block.now cell.new }
         ensures raised { IfOk result (AreRaised self.now.block.now self.now.parts self.now.first self.now.end
             bytes.0.items so_far) }
-        ensures within { IfOk result (AreAtMost self.now.limit) }
-        ensures above { IfErr result (λ a. IsFirstCellAbove self.now.block.now self.now.parts self.now.limit
+        ensures within { IfOk result (AreAtMost self.now.limits.now) }
+        ensures above { IfErr result (λ a. IsFirstCellAbove self.now.block.now self.now.parts self.now.limits.now
             (self.now.first + 1) self.now.end bytes.0.items a.bytes.items a.out a.bound) }
     {
         let Some(place) = first_wide(&bytes) else {
@@ -160,12 +164,12 @@ impl Walk<'_> {
         requires table { IsTable self.now.block.now cell.old }
         requires bytes { IsBoxOf self.now.block.now bytes.now.0.items }
         requires cell { IsCell bytes.now.0.items }
-        requires so_far { AreAtMost self.now.limit so_far }
+        requires so_far { AreAtMost self.now.limits.now so_far }
         ensures table { IsTable self.now.block.now cell.new }
         ensures raised { IfOk result (AreRaised self.now.block.now self.now.parts self.now.first self.now.end
             bytes.now.0.items so_far) }
-        ensures within { IfOk result (AreAtMost self.now.limit) }
-        ensures above { IfErr result (λ a. IsFirstCellAbove self.now.block.now self.now.parts self.now.limit
+        ensures within { IfOk result (AreAtMost self.now.limits.now) }
+        ensures above { IfErr result (λ a. IsFirstCellAbove self.now.block.now self.now.parts self.now.limits.now
             (self.now.first + 1) self.now.end bytes.now.0.items a.bytes.items a.out a.bound) }
     {
         cell.move_to(self.block, bytes);
@@ -187,24 +191,24 @@ impl Walk<'_> {
     }
 
     /// A number raised to the Bound of a table's cell for the output at a place, or how that counts where it is
-    /// above the limit.
+    /// above the output's limit.
     fn raised(&self, table: &BoxTable, place: u8, so_far: u32) -> Result<u32, u32>
         requires walk { IsWalk self.now }
         requires table { IsTable self.now.block.now table.now }
         requires cell { IsCell table.now.bytes.0.items }
         requires place { place < self.now.end }
-        requires so_far { so_far ≤ self.now.limit }
+        requires so_far { so_far ≤ slice_index self.now.limits.now place }
         ensures raised { IfOk result (λ n. IfSome (output_at self.now.block.now (place + 1))
             (λ x. IsRaised self.now.block.now table.now.bytes.0.items (place + 1) x self.now.parts so_far n)) }
-        ensures within { IfOk result (λ n. n ≤ self.now.limit) }
+        ensures within { IfOk result (λ n. n ≤ slice_index self.now.limits.now place) }
         ensures count { IfErr result (λ n. IfSome (output_at self.now.block.now (place + 1))
             (λ x. IsCellCount self.now.block.now table.now.bytes.0.items (place + 1) x self.now.parts n)) }
-        ensures above { IfErr result (λ n. self.now.limit < n) }
+        ensures above { IfErr result (λ n. slice_index self.now.limits.now place < n) }
     {
         match count_above(self.block, table, place + 1, self.parts, so_far) {
             None => Ok(so_far),
             Some(count) => {
-                if count > self.limit {
+                if count > self.limits[place as usize] {
                     Err(count)
                 } else {
                     Ok(count.max(so_far))

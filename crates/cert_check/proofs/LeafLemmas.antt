@@ -11,6 +11,8 @@ use Rattle.error_bound.specs.{Tight.IsTightBound, Tight.IsSure, Tight.silent, Ti
 use Rattle.error_bound.specs.{declared.boxes.Interval.Interval, Faults.FaultyLeavesFail, Best.silent_leaf}
 use Rattle.error_bound.specs.Bounds.{IsBound}
 use Rattle.cell_bounds.specs.CellBounds.{CellsAreWithin, HasCellBound, IsCellsBound, IsFirstUnsure, cell_count}
+use Rattle.cell_bounds.specs.CellBounds.{StandForAll}
+use Rattle.error_bound.specs.Matters.{narrowed}
 use Rattle.cell_bounds.specs.declared.claims.Claim.TheVariants.{Pair, Tight, Cells}
 use Rattle.cell_bounds.specs.{declared.claims.Claim.Claim, Claims.HasClaimBound, Cells.cell_of}
 use Rattle.cert_check.specs.Faults.{ClaimHolds, AllHold, IsPairFault, bad_rule, fails, IsCellsFault, too_many, unsure}
@@ -34,7 +36,7 @@ one_claim e f = cc
 -- ---- with a Bound it holds
 
 claim_holds : (b : Block) (h : ℕ) (box : List Interval) (o : ℕ) (x : Output) (claim : Claim) (n : ℕ)
-    → output_at b o ≡ Some x → IsAllowed claim box → HasClaimBound b box o x h claim n → ClaimHolds b h box o claim
+    → output_at b o ≡ Some x → IsAllowed b claim box → HasClaimBound b box o x h claim n → ClaimHolds b h box o claim
 claim_holds b h box o x (Pair leaf) n out may bound = bound.0
 claim_holds b h box o x Tight n out may bound =
     IfSome-from (λ y. (m : ℕ) × IsTightBound b box o y h m) out (n, bound)
@@ -196,20 +198,22 @@ tight_fault b h box o line loud weak =
 
 -- ---- a leaf of cells
 
-pub has_cells_bounds : (b : Block) (h : ℕ) (box : List Interval) (bounds : List ℕ) → cell_count box ≤ 64
+pub has_cells_bounds : (b : Block) (h : ℕ) (box : List Interval) (bounds : List ℕ)
+    → cell_count (narrowed b box) ≤ 64 → StandForAll b h box
     → ((k : ℕ) → k < length b.outputs → IfSome (output_at b (k + 1))
-    (λ x. IsCellsBound b box (k + 1) x h (slice_index bounds k)))
+    (λ x. IsCellsBound b (narrowed b box) (k + 1) x h (slice_index bounds k)))
     → AreBounds b h (part_of box form.Cells) bounds
-has_cells_bounds b h box bounds few are k x e = record {
+has_cells_bounds b h box bounds few stand are k x e = record {
   claim = Cells;
   claim_is = refl;
   allowed = few;
-  bound_is = IfSome-at (λ y. IsCellsBound b box (k + 1) y h (slice_index bounds k)) (out_at b k x e)
-      (are k (slice_get_within b.outputs k x e));
+  bound_is = stand.bound (k + 1) x (slice_index bounds k) (out_at b k x e)
+      (IfSome-at (λ y. IsCellsBound b (narrowed b box) (k + 1) y h (slice_index bounds k)) (out_at b k x e)
+      (are k (slice_get_within b.outputs k x e)));
 }
 
 pub too_many_cells : (b : Block) (h : ℕ) (box : List Interval) (line : ℕ) → 1 ≤ length b.outputs
-    → (cell_count box ≤ 64 → ⊥) → HasPartFault b h (part_of box form.Cells) line (fault.TooManyCells line)
+    → (cell_count (narrowed b box) ≤ 64 → ⊥) → HasPartFault b h (part_of box form.Cells) line (fault.TooManyCells line)
 too_many_cells b h box line some many = record {
   output = 1;
   from = omega arith;
@@ -220,8 +224,8 @@ too_many_cells b h box line some many = record {
   is = too_many (omega (arith, many));
 }
 
-pub unsure_cell : (b : Block) (h : ℕ) (box : List Interval) (line o : ℕ) → cell_count box ≤ 64
-    → IsFirstUnsure b h box o → HasPartFault b h (part_of box form.Cells) line (fault.Unsure line o)
+pub unsure_cell : (b : Block) (h : ℕ) (box : List Interval) (line o : ℕ)
+    → cell_count (narrowed b box) ≤ 64 → IsFirstUnsure b h box o → HasPartFault b h (part_of box form.Cells) line (fault.Unsure line o)
 unsure_cell b h box line o few first = record {
   output = o;
   from = first.from;

@@ -4,7 +4,7 @@ use Rattle.std.specs.Prelude.{◌≡◌, ℕ, ◌-◌, ◌≤◌, List, [], leng
 use Rattle.std.specs.List.{Any}
 use Rattle.std.specs.Option.{option_map}
 use Rattle.fuzzy_meaning.specs.{declared.block.Block.Block, declared.block.Output.Output, Blocks.output_at}
-use Rattle.error_bound.specs.declared.boxes.Interval.{Interval}
+use Rattle.error_bound.specs.{declared.boxes.Interval.Interval, Matters.narrowed}
 use Rattle.box_tree.specs.declared.{cert.Cert.Cert, cert.LeafForm.LeafForm}
 use Rattle.box_tree.specs.declared.cert.LeafForm.TheVariants as form
 use Rattle.cell_bounds.specs.{declared.claims.Claim.Claim, CellBounds.cell_count, Claims.HasClaimBound}
@@ -17,17 +17,17 @@ claim_at (form.Pairs pairs) k = option_map (λ p. Pair (record { rule = p.0; k =
 claim_at form.Tight k = Some Tight
 claim_at form.Cells k = Some Cells
 
--- the boxes of which it may be said: a leaf of cells has few of them
-abbrev pub IsAllowed : Claim → List Interval → Type 0
-IsAllowed (Pair leaf) box = Unit {0}
-IsAllowed Tight box = Unit {0}
-IsAllowed Cells box = cell_count box ≤ 64
+-- the boxes of which it may be said: a leaf of cells has few of them, by the inputs that matter
+abbrev pub IsAllowed : Block → Claim → List Interval → Type 0
+IsAllowed b (Pair leaf) box = Unit {0}
+IsAllowed b Tight box = Unit {0}
+IsAllowed b Cells box = cell_count (narrowed b box) ≤ 64
 
 -- what the leaf says of output o holds on its box, with Bound n for answers in h parts to a byte
 pub record HasBound (b : Block) (o : ℕ) (x : Output) (h : ℕ) (p : Part) (n : ℕ) : Type 0 where
   pub claim : Claim
   pub claim_is : claim_at p.form (o - 1) ≡ Some claim
-  pub allowed : IsAllowed claim p.box
+  pub allowed : IsAllowed b claim p.box
   pub bound_is : HasClaimBound b p.box o x h claim n
 
 -- e is the greatest Bound of the leaves

@@ -6,6 +6,7 @@ use Rattle.error_bound.specs.declared.boxes.Interval.{Interval}
 use Rattle.error_bound.specs.declared.boxes.Leaf as the
 use Rattle.error_bound.specs.declared.boxes.LeafFault.{LeafFault}
 use Rattle.error_bound.specs.{Leaves.Holds, Leaves.IsPairFor, Faults.HasLeafFault, Tight.IsTightBound}
+use Rattle.error_bound.specs.Matters.{narrowed}
 use Rattle.box_tree.specs.declared.{cert.LeafForm.LeafForm, cert.Node.Node, cert.Cert.Cert}
 use Rattle.box_tree.specs.declared.cert.Node.TheVariants.{Split, Leaf}
 use Rattle.cell_bounds.specs.declared.claims.Claim.{Claim}
@@ -21,7 +22,7 @@ abbrev pub ClaimHolds : Block → ℕ → List Interval → ℕ → Claim → Ty
 ClaimHolds b h box o (Pair leaf) = Holds b box o leaf
 ClaimHolds b h box o Tight = IfSome (output_at b o) (λ x. (n : ℕ) × IsTightBound b box o x h n)
 ClaimHolds b h box o Cells =
-    (cell_count box ≤ 64) × IfSome (output_at b o) (λ x. (n : ℕ) × CellsAreWithin b box o x h n)
+    (cell_count (narrowed b box) ≤ 64) × IfSome (output_at b o) (λ x. (n : ℕ) × CellsAreWithin b box o x h n)
 
 -- what a leaf says of the outputs before number o holds
 abbrev pub HoldBefore : Block → ℕ → Part → ℕ → Type 0
@@ -56,8 +57,8 @@ pub data IsPairFault (b : Block) (box : List Interval) (o : ℕ) (leaf : the.Lea
 
 -- why a leaf of cells does
 pub data IsCellsFault (b : Block) (h : ℕ) (box : List Interval) (o line : ℕ) : CheckFault → Type 0 where
-  too_many : 64 < cell_count box → IsCellsFault b h box o line (fault.TooManyCells line)
-  unsure : cell_count box ≤ 64 → IsUnsureOn b h box o → IsCellsFault b h box o line (fault.Unsure line o)
+  too_many : 64 < cell_count (narrowed b box) → IsCellsFault b h box o line (fault.TooManyCells line)
+  unsure : cell_count (narrowed b box) ≤ 64 → IsUnsureOn b h box o → IsCellsFault b h box o line (fault.Unsure line o)
 
 -- why what a line says of output o does
 abbrev pub IsClaimFault : Block → ℕ → List Interval → ℕ → ℕ → Claim → CheckFault → Type 0

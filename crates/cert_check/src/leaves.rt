@@ -13,6 +13,7 @@ ghost use Rattle.cert_check.specs.Walks.{AreBounds, AreRaised, Raises};
 use crate::checker::CheckFault;
 use arrayvec::ArrayVec;
 use box_tree::LeafForm;
+use cell_bounds::laws::narrowed_boxes_stand_for_all;
 use cell_bounds::{has_few_cells, sure_cells_bounds};
 use error_bound::{BlockTable, BoxTable, ByteBox, Leaf, is_pair_for};
 use fuzzy_meaning::Block;
@@ -73,7 +74,7 @@ fn leaf_bounds(
     match form {
         LeafForm::Pairs(pairs) => pair_bounds(block, kept, bytes, pairs, parts, line),
         LeafForm::Tight => tight_bounds(block, kept, bytes, parts, line),
-        LeafForm::Cells => cells_bounds(block, kept, &bytes, parts, line),
+        LeafForm::Cells => cells_bounds(block, kept, bytes, parts, line),
     }
 }
 
@@ -81,22 +82,24 @@ fn leaf_bounds(
 fn cells_bounds(
     block: &Block,
     kept: &BlockTable,
-    bytes: &ByteBox,
+    bytes: ByteBox,
     parts: u16,
     line: u32,
 ) -> Result<[u32; 4], CheckFault>
     requires block { IsValid block.now }
     requires kept { IsBlockTable block.now kept.now }
-    requires bytes { IsBoxOf block.now bytes.now.0.items }
+    requires bytes { IsBoxOf block.now bytes.0.items }
     requires parts_from { 1 ≤ parts }
     requires parts_to { parts ≤ 256 }
-    ensures bounds { IfOk result (AreBounds block.now parts (part_of bytes.now.0.items form.Cells)) }
-    ensures fault { IfErr result (HasPartFault block.now parts (part_of bytes.now.0.items form.Cells) line) }
+    ensures bounds { IfOk result (AreBounds block.now parts (part_of bytes.0.items form.Cells)) }
+    ensures fault { IfErr result (HasPartFault block.now parts (part_of bytes.0.items form.Cells) line) }
 {
-    if !has_few_cells(bytes) {
+    narrowed_boxes_stand_for_all();
+    let narrow = BoxTable::over(block, kept, bytes).narrowed(block);
+    if !has_few_cells(&narrow) {
         return Err(CheckFault::TooManyCells(line));
     }
-    match sure_cells_bounds(block, kept, bytes, parts) {
+    match sure_cells_bounds(block, kept, &narrow, parts) {
         Ok(bounds) => Ok(bounds),
         Err(out) => Err(CheckFault::Unsure(line, out)),
     }

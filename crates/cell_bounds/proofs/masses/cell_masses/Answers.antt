@@ -4,7 +4,7 @@ use Rattle.fz_num.specs.Decimals.{distance}
 use Rattle.fuzzy_meaning.specs.{declared.block.Output.Output, declared.block.Block.Block}
 use Rattle.cell_error.specs.{declared.ranges.MassRange.MassRange, Errors.IsRange}
 use Rattle.error_bound.specs.{declared.boxes.Interval.Interval, declared.tight.Masses.Masses}
-use Rattle.error_bound.specs.{MassRanges.ranges_at, MassRanges.ranges, Tight.low_of, Tight.high_of, Masses.AreMasses}
+use Rattle.error_bound.specs.{Tight.ranges_at, MassRanges.ranges, Tight.low_of, Tight.high_of, Masses.AreMasses}
 use Rattle.cell_bounds.proofs.CellLemmas.{answer_point, none_point, ranges_same, ranges_ok, masses_are, unfinished}
 use Rattle.cell_bounds.proofs.CellLemmas.{unanswered}
 use Rattle.cell_bounds.proofs.masses.cell_masses.Goals as goal

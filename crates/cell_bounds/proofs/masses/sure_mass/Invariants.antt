@@ -1,5 +1,5 @@
 use Rattle.std.proofs.Common.{◌≡◌, ◌≤◌, ◌*◌, ◌-◌, length, drop}
-use Rattle.error_bound.specs.MassRanges.{sure_mass as sure_mass_of}
+use Rattle.cell_error.specs.Errors.{sure_mass as sure_mass_of}
 use Rattle.cell_bounds.proofs.masses.sure_mass.Given as goal
 
 abbrev pub invariant-loop-k : goal.invariant-loop-k

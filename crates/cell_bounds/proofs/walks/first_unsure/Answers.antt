@@ -2,7 +2,7 @@ use Rattle.std.proofs.Common.{◌≡◌, ⊎_elim, [], ◌∷◌, ◌+◌, ◌<�
 use Rattle.std.specs.Prelude.{IfSome}
 use Rattle.std.proofs.lemmas.Bool.{cases_lt}
 use Rattle.fuzzy_meaning.specs.Blocks.{output_at}
-use Rattle.cell_bounds.specs.CellBounds.{CellsAreWithin, IsFirstCellAbove}
+use Rattle.cell_bounds.specs.{CellBounds.CellsAreWithin, CellBounds.IsFirstCellAbove, Walks.whole_ranges}
 use Rattle.cell_bounds.proofs.WalkLemmas.{unsure_above, sure_next}
 use Rattle.cell_bounds.proofs.walks.first_unsure.Goals as goal
 
@@ -17,13 +17,15 @@ returns-in-Err c =
     let known = c.requires.known_to in
     let from = first.from in
     let to = first.to in
-    let here : IsFirstCellAbove b c.args.parts 1000000 (place + 1) (place + 1) box a.bytes.items a.out a.bound =
-    subst (λ i. IsFirstCellAbove b c.args.parts 1000000 (place + 1) (place + 1) i a.bytes.items a.out a.bound)
+    let outputs = c.requires.block.few_outputs in
+    let here : IsFirstCellAbove b c.args.parts whole_ranges (place + 1) (place + 1) box a.bytes.items a.out a.bound =
+    subst (λ i. IsFirstCellAbove b c.args.parts whole_ranges (place + 1) (place + 1) i a.bytes.items a.out a.bound)
     c.copied-in-loop-place.ensures first in
     record {
       from = omega arith;
       to = omega arith;
-      unsure = unsure_above b c.args.parts (place + 1) (place + 1) box a.bytes.items a.out a.bound here;
+      unsure = unsure_above b c.args.parts (place + 1) (place + 1) box a.bytes.items a.out a.bound (omega arith)
+          (omega arith) here;
       before = λ j f l. c.loop-place.invariant.sure j f (omega arith);
     }
 

@@ -37,7 +37,7 @@ returns-in_err-raised-clause-above t c =
     let err = err_from_is_err_and c.from_residual.result c.from_residual.ensures.1 in
     rw (err.1, err.2) (above_in_left s.block.now s.parts c.args.bytes.0.items c.in-Some.place
     c.requires.bytes.intervals c.in-Some.ensures.there c.in-Some.ensures.wide p.result.0.0.items p.result.1.0.items
-    p.ensures.left p.ensures.right s.limit (s.first + 1) s.end a.bytes.items a.out a.bound c.in-Some.ensures.first
+    p.ensures.left p.ensures.right s.limits.now (s.first + 1) s.end a.bytes.items a.out a.bound c.in-Some.ensures.first
     c.in_err-raised.ensures.above)
 
 pub returns : goal.returns
@@ -45,7 +45,7 @@ returns t c =
     let s = c.args.self.now in
     let p = c.parted-left in
     let box = c.args.bytes.0.items in
-    let few : s.end ≤ 4 = omega (arith, c.requires.walk.end, c.requires.walk.block.few_outputs) in
+    let few = c.requires.walk.all in
     record {
       table = c.over-2.ensures.table;
       raised = more_ok c.over-2.result (λ (news : List ℕ) r. raised_of_parts s.block.now s.parts box c.in-Some.place
@@ -55,7 +55,7 @@ returns t c =
       within = c.over-2.ensures.within;
       above = more_err c.over-2.result (λ a r. above_in_right s.block.now s.parts box c.in-Some.place
           c.requires.bytes.intervals c.in-Some.ensures.there c.in-Some.ensures.wide p.result.0.0.items
-          p.result.1.0.items p.ensures.left p.ensures.right s.limit s.first s.end c.args.so_far c.in_ok-raised.raised
+          p.result.1.0.items p.ensures.left p.ensures.right s.limits.now s.first s.end c.args.so_far c.in_ok-raised.raised
           a.bytes.items a.out a.bound few c.in_ok-raised.ensures.raised c.in_ok-raised.ensures.within r)
           c.over-2.ensures.above;
     }

@@ -17,14 +17,13 @@ returns-in-Err-clause-above c =
     let same = c.move_to.ensures.bytes in
     let from = c.loop-place.auto.place in
     let to = c.loop-place-test.true in
-    let end = c.requires.walk.end in
-    let few = c.requires.walk.block.few_outputs in
+    let all = c.requires.walk.all in
     let count : IfSome (output_at b (place + 1)) (λ x. IsCellCount b box (place + 1) x w.parts n) =
     subst (λ y. IfSome (output_at b (place + 1)) (λ x. IsCellCount b y (place + 1) x w.parts n)) same
     c.in-Err.ensures.count in
-    subst (λ m. IsFirstCellAbove b w.parts w.limit (w.first + 1) w.end box m (place + 1) n) (sym c.low_bytes.ensures)
-    (above_here b box c.requires.cell w.parts c.requires.bytes.intervals w.limit w.first w.end place n c.args.so_far
-    c.loop-place.raised (omega arith) to (omega arith) i.done i.small count c.in-Err.ensures.above)
+    subst (λ m. IsFirstCellAbove b w.parts w.limits.now (w.first + 1) w.end box m (place + 1) n) (sym c.low_bytes.ensures)
+    (above_here b box c.requires.cell w.parts c.requires.bytes.intervals w.limits.now w.first w.end place n
+    c.args.so_far c.loop-place.raised (omega arith) to all i.done i.small count c.in-Err.ensures.above)
 
 pub loop-place-preserved : goal.loop-place-preserved
 loop-place-preserved c =
@@ -50,7 +49,7 @@ loop-place-preserved c =
       done = raised_next b w.parts w.first place box c.args.so_far raised new few i.done
           (i.rest place (omega arith)) one;
       rest = λ k l. set_beside raised place k new (inr (omega arith)) ∙ i.rest k (omega arith);
-      small = small_next w.limit place new raised few i.small c.in-Ok.ensures.within;
+      small = small_next w.limits.now place new raised few i.small c.in-Ok.ensures.within;
     }
 
 pub returns-clause-raised : goal.returns-clause-raised

@@ -8,5 +8,5 @@ invariant-loop-place l = record {
   count : length l.raised ≡ 4;
   done : AreRaised l.self.block.now l.self.parts l.self.first l.place l.bytes.0.items l.fn.so_far l.raised;
   rest : (k : ℕ) → l.place ≤ k → slice_index l.raised k ≡ slice_index l.fn.so_far k;
-  small : AreAtMost l.self.limit l.raised;
+  small : AreAtMost l.self.limits.now l.raised;
 }

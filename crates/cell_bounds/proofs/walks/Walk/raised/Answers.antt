@@ -13,8 +13,8 @@ returns-in-None-clause-raised c =
 pub returns-else-count-self-clause-raised : goal.returns-else-count-self-clause-raised
 returns-else-count-self-clause-raised c =
     let w = c.args.self.now in
-    let le : c.in-Some.count ≤ w.limit = c.if-count-self.false in
-    let limit = c.requires.walk.limit in
+    let le = c.if-count-self.false in
+    let limit = c.requires.walk.limits c.args.place in
     let small : c.in-Some.count ≤ 1000000 = omega arith in
     more_output (output_at w.block.now (c.args.place + 1))
     (λ x p. raised_count w.block.now c.args.table.now.bytes.0.items c.requires.cell w.parts
