@@ -2,10 +2,11 @@
 use Rattle.std.proofs.Common.{◌≡◌, ⊎_elim, ℕ, zero, suc, ◌+◌, ◌-◌, ◌*◌, ◌/◌, ◌<◌, ◌≤◌, List, [], ◌∷◌, length, map}
 use Rattle.std.proofs.Common.{get_or, Some, refl, sym, ap, ap₂, ◌∙◌, subst, arith, length-set, inl, inr, max, ◌++◌}
 use Rattle.std.proofs.{lemmas.List.Elements.All-append, lemmas.Option.slice_get_within, lemmas.Bool.cases_lt}
-use Rattle.std.proofs.Common.{append_assoc}
-use Rattle.std.specs.{Prelude.slice_get, Prelude.All, Prelude.◌⊎◌, Prelude.slice_index, Global.Vec, List.Any}
+use Rattle.std.proofs.Common.{append_assoc, Bool, true, false, Option}
+use Rattle.std.specs.{Prelude.if◌then◌else◌, Prelude.slice_get, Prelude.All, Prelude.◌⊎◌, Prelude.slice_index, Global.Vec, List.Any}
 use Rattle.fuzzy_meaning.specs.{declared.block.Output.Output, declared.block.Block.Block, declared.block.Input.Input}
 use Rattle.error_bound.specs.{declared.boxes.Interval.Interval, Boxes.IsBox, Boxes.IsBoxOf}
+use Rattle.error_bound.specs.{Matters.matters, Matters.narrowed_from}
 use Rattle.cell_bounds.specs.{CellBounds.cell_count, Cells.cell_of}
 use Rattle.cert_check.specs.Trees.{whole, left_of, right_of, Part, IsTree, leaf, split, part_of, IsCut}
 use Rattle.cert_check.specs.{BoxLaws.HasHalves, BoxLaws.CutsHaveHalves, Walks.cuts_of, Walks.AreRaised}
@@ -34,7 +35,7 @@ same_items (x ∷ xs) (y ∷ ys) e h =
 pub middle_inside : (f t : ℕ) → f < t → (f < f + (t - f + 1) / 2) × (f + (t - f + 1) / 2 ≤ t)
 middle_inside f t h = (omega arith, omega arith)
 
-pub halves_of : CutsHaveHalves → (box : List Interval) (k c : ℕ) (at : IsHalvedAt box k c)
+pub halves_of : {by : List Interval} → CutsHaveHalves → (box : List Interval) (k c : ℕ) (at : IsHalvedAt by box k c)
     → HasHalves box k c at.interval
 halves_of cuts box k c at =
     let v = at.interval in
@@ -42,15 +43,17 @@ halves_of cuts box k c at =
     let e = at.middle in
     let m0 = m.0 in
     let m1 = m.1 in
-    cuts box k c v at.widest.is_at (omega arith) (omega arith)
+    cuts box k c v at.is_at (omega arith) (omega arith)
 
-pub left_box : CutsHaveHalves → (b : Block) (box : List Interval) (k c : ℕ) → IsHalvedAt box k c → IsBoxOf b box
+pub left_box : {by : List Interval} → CutsHaveHalves → (b : Block) (box : List Interval) (k c : ℕ) → IsHalvedAt by box k c
+    → IsBoxOf b box
     → IsBoxOf b (left_of k c box)
 left_box cuts b box k c at is =
     let h = halves_of cuts box k c at in
     record { count = ap length (sym h.left_is) ∙ length-set box k _ ∙ is.count; intervals = h.left_box is.intervals }
 
-pub right_box : CutsHaveHalves → (b : Block) (box : List Interval) (k c : ℕ) → IsHalvedAt box k c → IsBoxOf b box
+pub right_box : {by : List Interval} → CutsHaveHalves → (b : Block) (box : List Interval) (k c : ℕ) → IsHalvedAt by box k c
+    → IsBoxOf b box
     → IsBoxOf b (right_of k c box)
 right_box cuts b box k c at is =
     let h = halves_of cuts box k c at in
@@ -90,10 +93,11 @@ same_interval : (box : List Interval) (j k : ℕ) (u v : Interval) → j ≡ k �
     → slice_get box k ≡ Some v → u ≡ v
 same_interval box j k u v e p q = cc
 
-pub one_halving : (box : List Interval) (j k c d : ℕ) → IsHalvedAt box j c → IsHalvedAt box k d → (j ≡ k) × (c ≡ d)
-one_halving box j k c d p q =
-    let e = one_widest box j k p.interval q.interval p.widest q.widest in
-    let same = same_interval box j k p.interval q.interval e p.widest.is_at q.widest.is_at in
+pub one_halving : {by : List Interval} → (box : List Interval) (j k c d : ℕ) → IsHalvedAt by box j c
+    → IsHalvedAt by box k d → (j ≡ k) × (c ≡ d)
+one_halving {by} box j k c d p q =
+    let e = one_widest by j k p.interval q.interval p.widest q.widest in
+    let same = same_interval box j k p.interval q.interval e p.is_at q.is_at in
     (e, p.middle ∙ ap middle_of same ∙ sym q.middle)
 
 -- ---- cells
@@ -111,11 +115,12 @@ cell_at (n ∷ ns) zero v e =
     subst (λ (u : Interval). (u.from ≡ u.to) × (slice_get (n ∷ ns) 0 ≡ Some u.from)) same (refl, refl)
 cell_at (n ∷ ns) (suc k) v e = cell_at ns k v e
 
-pub cell_not_halved : (box : List Interval) (bytes : List ℕ) (k c : ℕ) → box ≡ cell_of bytes → IsHalvedAt box k c → ⊥
+pub cell_not_halved : {by : List Interval} → (box : List Interval) (bytes : List ℕ) (k c : ℕ) → box ≡ cell_of bytes
+    → IsHalvedAt by box k c → ⊥
 cell_not_halved box bytes k c e at =
     let v = at.interval in
     let here : slice_get (cell_of bytes) k ≡ Some v =
-    subst (λ (x : List Interval). slice_get x k ≡ Some v) e at.widest.is_at in
+    subst (λ (x : List Interval). slice_get x k ≡ Some v) e at.is_at in
     let same = (cell_at bytes k v here).0 in
     let more = at.more in
     absurd (omega arith)
@@ -166,13 +171,13 @@ parts_fewer (w ∷ ws) zero c v e f t =
 parts_fewer (w ∷ ws) (suc k) c v e f t = let rest = parts_fewer ws k c v e f t in
     (omega (arith, rest.0), omega (arith, rest.1))
 
-pub halves_fewer : (box : List Interval) (k c : ℕ) → IsHalvedAt box k c
+pub halves_fewer : {by : List Interval} → (box : List Interval) (k c : ℕ) → IsHalvedAt by box k c
     → (cuts_of (left_of k c box) < cuts_of box) × (cuts_of (right_of k c box) < cuts_of box)
 halves_fewer box k c at =
     let v = at.interval in
     let m = middle_inside v.from v.to at.more in
     let e = at.middle in
-    parts_fewer box k c v at.widest.is_at (omega (arith, m.0, e)) (omega (arith, m.1, e))
+    parts_fewer box k c v at.is_at (omega (arith, m.0, e)) (omega (arith, m.1, e))
 
 -- ---- a box of single bytes
 
@@ -193,6 +198,23 @@ cell_is box k v is w e = single box (λ j u eu.
         let here : u ≡ (record { from = u.from; to = u.from }) = ap
         (λ (n : ℕ). let x : Interval = record { from = u.from; to = n } in x) (sym first) in
         ap₂ (λ (x : Interval) (xs : List Interval). x ∷ xs) here rest
+
+-- what a narrowed box has of more bytes than one the box has
+pub narrowed_at : (b : Block) (box : List Interval) (i : ℕ) (vs : List Interval) (k : ℕ) (v : Interval)
+    → slice_get (narrowed_from b box i vs) k ≡ Some v → v.from < v.to → slice_get vs k ≡ Some v
+narrowed_at b box i [] k v e l = absurd (let z : ⊥ = cc in z)
+narrowed_at b box i (w ∷ vs) zero v e l = by_bool (matters b box i) e
+  where
+    by_bool : (c : Bool) → (let o : Option Interval = Some (if c then w else record { from = w.from; to = w.from }) in
+        o ≡ Some v) → slice_get (w ∷ vs) 0 ≡ Some v
+    by_bool true e = e
+    by_bool false e =
+        let one : Interval = record { from = w.from; to = w.from } in
+        let same : one ≡ v = cc in
+        let from = ap (λ (u : Interval). u.from) same in
+        let to = ap (λ (u : Interval). u.to) same in
+        absurd (omega arith)
+narrowed_at b box i (w ∷ vs) (suc k) v e l = narrowed_at b box (i + 1) vs k v e l
 
 -- ---- how a tree grows by the nodes of a box
 
@@ -241,11 +263,11 @@ rises_on b h target o x ps qs old mid new p q =
           q.some;
     }
 
-module _ (kind : CertKind) (b : Block) (h target : ℕ) (box : List Interval) (found : FoundLeaf)
-    (leaf_is : IsFoundLeaf kind b h target box found) where
+module _ (kind : CertKind) (b : Block) (h : ℕ) (targets : List ℕ) (box : List Interval) (found : FoundLeaf)
+    (leaf_is : IsFoundLeaf kind b h targets box found) where
   raised_one : (k : ℕ) (x : Output) (old new : ℕ) → slice_get b.outputs k ≡ Some x
       → new ≡ max old (slice_index found.bounds k)
-      → RisesTo b h target (k + 1) x (part_of box found.form ∷ []) old new
+      → RisesTo b h (slice_index targets k) (k + 1) x (part_of box found.form ∷ []) old new
   raised_one k x old new ex e =
       let part = part_of box found.form in
       let n = slice_index found.bounds k in
@@ -270,12 +292,12 @@ module _ (kind : CertKind) (b : Block) (h target : ℕ) (box : List Interval) (f
       → new.nodes.items ≡ old.nodes.items ++ Leaf found.form ∷ []
       → AreRaised found.bounds old.errors.items new.errors.items → new.leaves ≡ old.leaves + 1
       → old.leaves < 4096
-      → Grows kind b h target box old new
+      → Grows kind b h targets box old new
   grows_leaf old new count nodes raised more few = record {
     added = Leaf found.form ∷ [];
     parts = part_of box found.form ∷ [];
     nodes = nodes;
-    halves = subst (λ m. Halves kind b h target box old.leaves (Leaf found.form ∷ []) m) (sym more)
+    halves = subst (λ m. Halves kind b h targets box old.leaves (Leaf found.form ∷ []) m) (sym more)
         (halved_leaf box old.leaves found.form leaf_is.settled few);
     tree = λ rest. leaf box found.form rest;
     good = All-one (IsNode kind (length b.outputs)) (Leaf found.form) leaf_is.good;
@@ -309,23 +331,23 @@ split_tree box k c ls rs rest ps qs cut l r =
     (subst (λ j. IsTree (right_of j c box) (rs ++ rest) qs rest) place r)
 
 pub split_node : (kind : CertKind) (b : Block) (box : List Interval) (k c : ℕ) → length b.inputs ≤ 8 → IsBoxOf b box
-    → (at : IsHalvedAt box k c)
+    → {by : List Interval} → (at : IsHalvedAt by box k c)
     → c ≤ 255 → IsNode kind (length b.outputs) (Split (k + 1) c)
 split_node kind b box k c few is at small =
-    let inside = slice_get_within box k at.interval at.widest.is_at in
+    let inside = slice_get_within box k at.interval at.is_at in
     let count = is.count in
     record { some = omega arith; few = omega arith; byte = small }
 
 pub grows_split : CutsHaveHalves
-    → (kind : CertKind) (b : Block) (h target : ℕ) (box : List Interval) (k c : ℕ) (old pushed mid new : Tree)
+    → (kind : CertKind) (b : Block) (h : ℕ) (targets : List ℕ) (box : List Interval) (k c : ℕ) (old pushed mid new : Tree)
     → length b.inputs ≤ 8
     → IsBoxOf b box
-    → IsToCut kind b h target box k c → c ≤ 255
+    → IsToCut kind b h targets box k c → c ≤ 255
     → pushed.nodes.items ≡ old.nodes.items ++ Split (k + 1) c ∷ [] → pushed.errors ≡ old.errors
     → pushed.leaves ≡ old.leaves
-    → Grows kind b h target (left_of k c box) pushed mid → Grows kind b h target (right_of k c box) mid new
-    → Grows kind b h target box old new
-grows_split cuts kind b h target box k c old pushed mid new few is cuttable small nodes errors leaves l r =
+    → Grows kind b h targets (left_of k c box) pushed mid → Grows kind b h targets (right_of k c box) mid new
+    → Grows kind b h targets box old new
+grows_split cuts kind b h targets box k c old pushed mid new few is cuttable small nodes errors leaves l r =
     let at = cuttable.halved in
     let cut = (halves_of cuts box k c at).cut in
     record {
@@ -334,16 +356,16 @@ grows_split cuts kind b h target box k c old pushed mid new few is cuttable smal
       nodes = split_nodes old.nodes.items pushed.nodes.items mid.nodes.items new.nodes.items l.added r.added
           (Split (k + 1) c) nodes l.nodes r.nodes;
       halves = halved_split box k c old.leaves mid.leaves new.leaves l.added r.added cuttable
-          (subst (λ n. Halves kind b h target (left_of k c box) n l.added mid.leaves) leaves l.halves) r.halves;
+          (subst (λ n. Halves kind b h targets (left_of k c box) n l.added mid.leaves) leaves l.halves) r.halves;
       tree = λ rest. split_tree box k c l.added r.added rest l.parts r.parts cut (l.tree (r.added ++ rest))
           (r.tree rest);
       good = All-cons (IsNode kind (length b.outputs)) (Split (k + 1) c) (l.added ++ r.added)
           (split_node kind b box k c few is at small)
           (All-append (IsNode kind (length b.outputs)) l.added r.added l.good r.good);
       count = r.count ∙ l.count ∙ ap (λ (v : Vec ℕ). length v.items) errors;
-      errors = λ j x e. rises_on b h target (j + 1) x l.parts r.parts (slice_index old.errors.items j)
+      errors = λ j x e. rises_on b h (slice_index targets j) (j + 1) x l.parts r.parts (slice_index old.errors.items j)
           (slice_index mid.errors.items j) (slice_index new.errors.items j)
-          (subst (λ (v : Vec ℕ). RisesTo b h target (j + 1) x l.parts (slice_index v.items j)
-          (slice_index mid.errors.items j)) errors (l.errors j x e))
+          (subst (λ (v : Vec ℕ). RisesTo b h (slice_index targets j) (j + 1) x l.parts
+          (slice_index v.items j) (slice_index mid.errors.items j)) errors (l.errors j x e))
           (r.errors j x e);
     }

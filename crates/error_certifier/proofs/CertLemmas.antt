@@ -4,7 +4,7 @@ use Rattle.std.proofs.Common.{replicate, Some, refl, sym, ap, ◌∙◌, subst, 
 use Rattle.std.specs.Prelude.{slice_get, slice_index, All}
 use Rattle.std.specs.List.{Any}
 use Rattle.std.proofs.lemmas.List.{append-nil, length-replicate}
-use Rattle.std.proofs.lemmas.Option.{slice_get-get_or, get_or_from_slice_get}
+use Rattle.std.proofs.lemmas.Option.{slice_get_within, slice_get-get_or, get_or_from_slice_get}
 use Rattle.fz_list.proofs.Algebra.{some_at}
 use Rattle.fuzzy_meaning.specs.declared.{block.Block.Block, block.Output.Output}
 use Rattle.fuzzy_meaning.specs.Blocks.{IsValid, output_at}
@@ -16,7 +16,8 @@ use Rattle.box_tree.specs.Laws.{OpenBoxesGoOn}
 use Rattle.cert_check.specs.Trees.{Part, IsTree, leaf, split, whole}
 use Rattle.cert_check.specs.Acceptance.{HasBound, IsGreatestBound, IsAccepted}
 use Rattle.error_certifier.specs.{declared.halving.Tree.Tree, Trees.RisesTo, Trees.Grows}
-use Rattle.error_certifier.specs.Halving.{Halves, leaf as halved_leaf, split as halved_split, IsHalving}
+use Rattle.error_certifier.specs.{Targets.AreTargets, Laws.AreWithin}
+use Rattle.error_certifier.specs.Halving.{Halves, leaf as halved_leaf, split as halved_split, IsHalvingFor}
 
 -- ---- nodes that are one tree
 
@@ -26,20 +27,20 @@ leaf_count-append (Split i c ∷ xs) ys = leaf_count-append xs ys
 leaf_count-append (Leaf form ∷ xs) ys = let r = leaf_count-append xs ys in omega arith
 
 pub halved_open : OpenBoxesGoOn
-    → (kind : CertKind) (b : Block) (h target : ℕ) (box : List Interval) (n m : ℕ) (nodes : List Node)
-    → Halves kind b h target box n nodes m → (i : ℕ) → open_from (suc i) nodes ≡ Some i
-halved_open on kind b h target _ _ _ _ (halved_leaf box n form w few) i = refl
-halved_open on kind b h target _ _ _ _ (halved_split box k c n m r left right cut l t) i =
-    on (suc (suc i)) (suc i) left right (halved_open on kind b h target _ n m left l (suc i))
-    ∙ halved_open on kind b h target _ m r right t i
+    → (kind : CertKind) (b : Block) (h : ℕ) (targets : List ℕ) (box : List Interval) (n m : ℕ) (nodes : List Node)
+    → Halves kind b h targets box n nodes m → (i : ℕ) → open_from (suc i) nodes ≡ Some i
+halved_open on kind b h targets _ _ _ _ (halved_leaf box n form w few) i = refl
+halved_open on kind b h targets _ _ _ _ (halved_split box k c n m r left right cut l t) i =
+    on (suc (suc i)) (suc i) left right (halved_open on kind b h targets _ n m left l (suc i))
+    ∙ halved_open on kind b h targets _ m r right t i
 
-pub halved_leaves : (kind : CertKind) (b : Block) (h target : ℕ) (box : List Interval) (n m : ℕ) (nodes : List Node)
-    → Halves kind b h target box n nodes m
+pub halved_leaves : (kind : CertKind) (b : Block) (h : ℕ) (targets : List ℕ) (box : List Interval) (n m : ℕ) (nodes : List Node)
+    → Halves kind b h targets box n nodes m
     → (leaf_count nodes + n ≡ m) × (m ≤ 4096)
-halved_leaves kind b h target _ _ _ _ (halved_leaf box n form w few) = (omega arith, omega arith)
-halved_leaves kind b h target _ _ _ _ (halved_split box k c n m r left right cut l t) =
-    let p = halved_leaves kind b h target _ n m left l in
-    let q = halved_leaves kind b h target _ m r right t in
+halved_leaves kind b h targets _ _ _ _ (halved_leaf box n form w few) = (omega arith, omega arith)
+halved_leaves kind b h targets _ _ _ _ (halved_split box k c n m r left right cut l t) =
+    let p = halved_leaves kind b h targets _ n m left l in
+    let q = halved_leaves kind b h targets _ m r right t in
     let p0 = p.0 in
     let q0 = q.0 in
     let sum = leaf_count-append left right in
@@ -81,10 +82,11 @@ greatest_of b h target o x parts old e some zero_before r = record {
       r.some;
 }
 
-module _ (kind : CertKind) (b : Block) (h target : ℕ) (old new : Tree) (cert : Cert) (valid : IsValid b)
+module _ (kind : CertKind) (b : Block) (h : ℕ) (targets : List ℕ) (old new : Tree) (cert : Cert) (valid : IsValid b)
+    (targets_are : AreTargets b targets)
     (no_nodes : old.nodes.items ≡ [])
     (zeros : old.errors.items ≡ replicate (length b.outputs) 0)
-    (no_leaves : old.leaves ≡ 0) (g : Grows kind b h target (whole b) old new) (claims : cert.claims ≡ new.errors.items)
+    (no_leaves : old.leaves ≡ 0) (g : Grows kind b h targets (whole b) old new) (claims : cert.claims ≡ new.errors.items)
     (nodes : cert.nodes ≡ new.nodes.items) where
   count : length cert.claims ≡ length b.outputs
   count = ap length claims ∙ g.count ∙ ap length zeros ∙ length-replicate (length b.outputs) 0
@@ -95,9 +97,9 @@ module _ (kind : CertKind) (b : Block) (h target : ℕ) (old new : Tree) (cert :
   zero_at : (k : ℕ) → slice_index old.errors.items k ≡ 0
   zero_at k = ap (λ (xs : List ℕ). slice_index xs k) zeros ∙ no_error (length b.outputs) k
 
-  halved : Halves kind b h target (whole b) 0 cert.nodes new.leaves
-  halved = subst (λ (xs : List Node). Halves kind b h target (whole b) 0 xs new.leaves) all_added
-      (subst (λ n. Halves kind b h target (whole b) n g.added new.leaves) no_leaves g.halves)
+  halved : Halves kind b h targets (whole b) 0 cert.nodes new.leaves
+  halved = subst (λ (xs : List Node). Halves kind b h targets (whole b) 0 xs new.leaves) all_added
+      (subst (λ n. Halves kind b h targets (whole b) n g.added new.leaves) no_leaves g.halves)
 
   tree : IsTree (whole b) cert.nodes g.parts []
   tree = subst (λ (xs : List Node). IsTree (whole b) xs g.parts []) (append-nil g.added ∙ all_added) (g.tree [])
@@ -110,6 +112,7 @@ module _ (kind : CertKind) (b : Block) (h target : ℕ) (old new : Tree) (cert :
   greatest o x e from ex ee =
       let number : o - 1 + 1 ≡ o = omega arith in
       let r = g.errors (o - 1) x ex in
+      let target = slice_index targets (o - 1) in
       let rises : RisesTo b h target o x g.parts (slice_index old.errors.items (o - 1)) e =
       subst (λ j. RisesTo b h target j x g.parts (slice_index old.errors.items (o - 1)) e) number
       (subst (λ n. RisesTo b h target (o - 1 + 1) x g.parts (slice_index old.errors.items (o - 1)) n)
@@ -127,23 +130,23 @@ module _ (kind : CertKind) (b : Block) (h target : ℕ) (old new : Tree) (cert :
     claimed = λ k e c p q. one_value cert.claims k e c p q;
   }
 
-  pub is_halving : IsHalving kind b h target cert
-  is_halving = record { leaves = new.leaves; nodes = halved; claims = accepted }
+  pub is_halving : IsHalvingFor kind b h targets cert
+  is_halving = record { targets_are = targets_are; leaves = new.leaves; nodes = halved; claims = accepted }
 
-  pub claims_within : All (λ e. e ≤ target) cert.claims
-  claims_within k d l =
+  pub claims_within : AreWithin targets cert.claims
+  claims_within k e is =
       let c = count in
-      let inside : k < length b.outputs = omega arith in
+      let inside : k < length b.outputs = omega (arith, slice_get_within cert.claims k e is) in
       let x = some_at b.outputs k inside in
       let r = g.errors k x.0 x.1 in
       let z = zero_at k in
-      let e = error_at k (get_or cert.claims k d) (slice_get-get_or cert.claims k d l) in
+      let at = error_at k e is in
       let most = r.within (omega arith) in
       omega arith
 
-  pub is_cert : OpenBoxesGoOn → target ≤ 1000000 → IsCert kind cert
-  is_cert on small =
-      let leaves = halved_leaves kind b h target (whole b) 0 new.leaves cert.nodes halved in
+  pub is_cert : OpenBoxesGoOn → IsCert kind cert
+  is_cert on =
+      let leaves = halved_leaves kind b h targets (whole b) 0 new.leaves cert.nodes halved in
       let leaves0 = leaves.0 in
       let leaves1 = leaves.1 in
       let c = count in
@@ -153,10 +156,13 @@ module _ (kind : CertKind) (b : Block) (h target : ℕ) (old new : Tree) (cert :
         claims = record {
           some = omega arith;
           few = omega arith;
-          millionths = λ k d l. (let w = claims_within k d l in omega arith);
+          millionths = λ k d l.
+              let w = claims_within k (get_or cert.claims k d) (slice_get-get_or cert.claims k d l) in
+              let small = targets_are.millionths k 0 (let t = targets_are.count in omega arith) in
+              omega arith;
         };
         nodes = subst (λ n. All (IsNode kind n) cert.nodes) (sym count)
             (subst (λ (xs : List Node). All (IsNode kind (length b.outputs)) xs) all_added g.good);
-        tree = halved_open on kind b h target (whole b) 0 new.leaves cert.nodes halved 0;
+        tree = halved_open on kind b h targets (whole b) 0 new.leaves cert.nodes halved 0;
         few_leaves = omega arith;
       }

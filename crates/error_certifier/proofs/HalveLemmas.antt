@@ -18,7 +18,8 @@ use Rattle.box_tree.specs.declared.cert.Node.TheVariants.{Split, Leaf}
 use Rattle.box_tree.specs.{declared.cert.LeafForm.TheVariants.Pairs, declared.cert.CertKind.CertKind}
 use Rattle.box_tree.specs.{declared.cert.LeafForm.LeafForm, declared.cert.Node.Node, declared.cert.Cert.Cert}
 use Rattle.box_tree.specs.Certificates.{IsPair}
-use Rattle.cell_bounds.specs.CellBounds.{IsCellsBound, IsFirstCellAbove, cell_count, IsCellCount}
+use Rattle.cell_bounds.specs.CellBounds.{IsCellsBound, IsFirstCellAbove, cell_count, IsCellCount, StandForAll}
+use Rattle.error_bound.specs.Matters.{narrowed}
 use Rattle.cell_bounds.specs.{Claims.CountsAreLeast, Claims.IsCountAt, Claims.IsCompared, declared.claims.Claim.Claim}
 use Rattle.cell_bounds.specs.{declared.claims.Claim.TheVariants.Pair, Walks.AreAtMost, Cells.cell_of}
 use Rattle.cert_check.specs.BoxLaws.{CutsHaveHalves, LeavesAreAround, IsFormOf, IsNodeOf}
@@ -26,13 +27,13 @@ use Rattle.cert_check.specs.{Trees.part_of, Trees.whole, Trees.left_of, Trees.ri
 use Rattle.cert_check.specs.Acceptance.{HasBound, claim_at}
 use Rattle.error_certifier.specs.Halving.{IsWithinTarget, IsFirstAbove, IsAbove, IsWidest, IsHalvedAt, middle_of}
 use Rattle.error_certifier.specs.Trees.{IsBestPair, AreBestPairs, AreTightBounds, IsFoundLeaf, IsTreeFor, IsSplit}
-use Rattle.error_certifier.specs.Laws.{IsComparable, IsLeastError, IsOutOfReach, SaysOutOfReach, CellsAreOutOfReach}
+use Rattle.error_certifier.specs.Laws.{IsComparable, IsLeastError, IsOutOfReach, SaysOutOfReachFor, CellsAreOutOfReach}
 use Rattle.error_certifier.specs.declared.certifier.NotReached.TheVariants.{Cell, LeafLimit, Memory}
-use Rattle.error_certifier.specs.Halving.{IsToCut, Stops, cell, limit, in_left, in_right, IsStuck}
+use Rattle.error_certifier.specs.Halving.{counted, halving, outputs, IsToCut, Stops, cell, limit, in_left, in_right, IsStuck}
 use Rattle.error_certifier.specs.{declared.certifier.NotReached.NotReached, declared.leaves.FoundLeaf.FoundLeaf}
-use Rattle.error_certifier.specs.{declared.halving.Tree.Tree, Trees.Grows}
+use Rattle.error_certifier.specs.{declared.halving.Tree.Tree, Trees.Grows, Targets.AreTargets}
 use Rattle.error_certifier.proofs.BoxLemmas.{whole_box, left_box, right_box, halves_fewer, middle_inside, cell_is}
-use Rattle.error_certifier.proofs.BoxLemmas.{one_cell, grows_leaf, grows_split, bytes_count, cell_small}
+use Rattle.error_certifier.proofs.BoxLemmas.{narrowed_at, one_cell, grows_leaf, grows_split, bytes_count, cell_small}
 use Rattle.error_bound.specs.declared.boxes.Leaf as the
 use Rattle.box_tree.specs.declared.cert.LeafForm.TheVariants as form
 use Rattle.cell_bounds.specs.declared.claims.Claim.TheVariants as claim
@@ -72,13 +73,13 @@ slice_get-last : {X : Type 0} (xs : List X) (y : X) → slice_get (xs ++ y ∷ [
 slice_get-last [] y = refl
 slice_get-last (w ∷ ws) y = slice_get-last ws y
 
-module _ (b : Block) (h target : ℕ) (box : List Interval) (old new : List (ℕ × ℕ)) (bounds : List ℕ) (p : ℕ × ℕ)
+module _ (b : Block) (h : ℕ) (targets : List ℕ) (box : List Interval) (old new : List (ℕ × ℕ)) (bounds : List ℕ) (p : ℕ × ℕ)
     (n o : ℕ) (pairs : new ≡ old ++ p ∷ []) (places : length bounds ≡ 4) (few : o < 4) where
   abbrev raised : List ℕ
   raised = slice_set bounds o n
 
-  pair_before : (k : ℕ) (x : Output) → k < o → IsBestPair b h target box k x old bounds
-      → IsBestPair b h target box k x new raised
+  pair_before : (k : ℕ) (x : Output) → k < o → IsBestPair b h targets box k x old bounds
+      → IsBestPair b h targets box k x new raised
   pair_before k x l best = record {
     pair = best.pair;
     bound = best.bound;
@@ -89,8 +90,8 @@ module _ (b : Block) (h target : ℕ) (box : List Interval) (old new : List (ℕ
   }
 
   pair_last : (x : Output) → length old ≡ o
-      → IsWithinTarget b h target box (o + 1) x (record { rule = p.0; k = p.1 }) n
-      → IsBestPair b h target box o x new raised
+      → IsWithinTarget b h (slice_index targets o) box (o + 1) x (record { rule = p.0; k = p.1 }) n
+      → IsBestPair b h targets box o x new raised
   pair_last x ep within = record {
     pair = p;
     bound = n;
@@ -101,25 +102,25 @@ module _ (b : Block) (h target : ℕ) (box : List Interval) (old new : List (ℕ
   }
 
   pub pairs_more : length old ≡ o
-      → ((k : ℕ) (x : Output) → k < o → slice_get b.outputs k ≡ Some x → IsBestPair b h target box k x old bounds)
+      → ((k : ℕ) (x : Output) → k < o → slice_get b.outputs k ≡ Some x → IsBestPair b h targets box k x old bounds)
       → ((x : Output) → slice_get b.outputs o ≡ Some x
-      → IsWithinTarget b h target box (o + 1) x (record { rule = p.0; k = p.1 }) n)
-      → (k : ℕ) (x : Output) → k < o + 1 → slice_get b.outputs k ≡ Some x → IsBestPair b h target box k x new raised
+      → IsWithinTarget b h (slice_index targets o) box (o + 1) x (record { rule = p.0; k = p.1 }) n)
+      → (k : ℕ) (x : Output) → k < o + 1 → slice_get b.outputs k ≡ Some x → IsBestPair b h targets box k x new raised
   pairs_more ep before here k x l e = ⊎_elim
       (λ (g : k < o). pair_before k x g (before k x g e))
       (λ (g : o ≤ k).
       let same : o ≡ k = omega arith in
-      subst (λ j. IsBestPair b h target box j x new raised) same
+      subst (λ j. IsBestPair b h targets box j x new raised) same
       (pair_last x ep (here x (subst (λ j. slice_get b.outputs j ≡ Some x) (sym same) e))))
       (cases_lt k o)
 
--- the outputs before are within the target, and the next is above it
-pub above_behind : (b : Block) (h target : ℕ) (box : List Interval) (pairs : List (ℕ × ℕ)) (bounds : List ℕ) (o n : ℕ)
+-- the outputs before are within the targets, and the next is above it
+pub above_behind : (b : Block) (h : ℕ) (targets : List ℕ) (box : List Interval) (pairs : List (ℕ × ℕ)) (bounds : List ℕ) (o n : ℕ)
     → o < length b.outputs
-    → ((k : ℕ) (x : Output) → k < o → slice_get b.outputs k ≡ Some x → IsBestPair b h target box k x pairs bounds)
-    → target < n → ((x : Output) → slice_get b.outputs o ≡ Some x → IsBestBound b box (o + 1) x h n)
-    → IsFirstAbove Named b h target box o n
-above_behind b h target box pairs bounds o n inside before above here =
+    → ((k : ℕ) (x : Output) → k < o → slice_get b.outputs k ≡ Some x → IsBestPair b h targets box k x pairs bounds)
+    → slice_index targets o < n → ((x : Output) → slice_get b.outputs o ≡ Some x → IsBestBound b box (o + 1) x h n)
+    → IsFirstAbove Named b h targets box o n
+above_behind b h targets box pairs bounds o n inside before above here =
     let x = some_at b.outputs o inside in
     record {
       output = x.0;
@@ -144,15 +145,15 @@ pair_good pairs p all one = All-append IsPair pairs (p ∷ []) all (λ k d l. fi
 
 -- ---- tight Bounds
 
--- the tight Bound of the output at a place, within the target
-abbrev pub IsTightAt : Block → ℕ → ℕ → List Interval → ℕ → Output → ℕ → Type 0
-IsTightAt b h target box k x n = IsTightBound b box (k + 1) x h n × (n ≤ target)
+-- the tight Bound of the output at a place, within the targets
+abbrev pub IsTightAt : Block → ℕ → List ℕ → List Interval → ℕ → Output → ℕ → Type 0
+IsTightAt b h targets box k x n = IsTightBound b box (k + 1) x h n × (n ≤ slice_index targets k)
 
-module _ (b : Block) (h target : ℕ) (box : List Interval) (bounds : List ℕ) (o : ℕ)
-    (before : AreFilled (IsTightAt b h target box) b.outputs bounds o) where
-  pub tight_above : (n : ℕ) → o < length b.outputs → target < n
+module _ (b : Block) (h : ℕ) (targets : List ℕ) (box : List Interval) (bounds : List ℕ) (o : ℕ)
+    (before : AreFilled (IsTightAt b h targets box) b.outputs bounds o) where
+  pub tight_above : (n : ℕ) → o < length b.outputs → slice_index targets o < n
       → IfSome (output_at b (o + 1)) (λ x. IsTightCount b box (o + 1) x h n)
-      → IsFirstAbove Tight b h target box o n
+      → IsFirstAbove Tight b h targets box o n
   tight_above n inside above here =
       let x = some_at b.outputs o inside in
       record {
@@ -163,16 +164,16 @@ module _ (b : Block) (h target : ℕ) (box : List Interval) (bounds : List ℕ) 
         before = λ k y l e. let m = before k y l e in (m.0, of_bound m.2.0, m.2.1);
       }
 
-  pub tight_all : length b.outputs ≤ o → AreTightBounds b h target box bounds
+  pub tight_all : length b.outputs ≤ o → AreTightBounds b h targets box bounds
   tight_all all k x e =
       let inside = slice_get_within b.outputs k x e in
       let m = before k x (omega (arith, inside)) e in
-      subst (λ n. IsTightAt b h target box k x n) (sym (get_or_from_slice_get bounds k m.0 0 m.1)) m.2
+      subst (λ n. IsTightAt b h targets box k x n) (sym (get_or_from_slice_get bounds k m.0 0 m.1)) m.2
 
 -- ---- a leaf that names them
-module _ (hold : BestLeavesHold) (b : Block) (h target : ℕ) (box : List Interval) (pairs : ArrayVec (ℕ × ℕ))
-    (bounds : List ℕ) (best : AreBestPairs b h target box pairs.items bounds) where
-  pub named_found : IsFoundLeaf Named b h target box
+module _ (hold : BestLeavesHold) (b : Block) (h : ℕ) (targets : List ℕ) (box : List Interval) (pairs : ArrayVec (ℕ × ℕ))
+    (bounds : List ℕ) (best : AreBestPairs b h targets box pairs.items bounds) where
+  pub named_found : IsFoundLeaf Named b h targets box
       (record { form = Pairs pairs; bounds = bounds })
   named_found = record {
     settled = record {
@@ -226,39 +227,39 @@ if_err P Q (Err e) p f = f e p
 
 -- ---- places
 
--- of the widest interval
-pub IsWidest-place : {b : Block} {box : List Interval} {k : ℕ} {v : Interval} → IsValid b → IsBoxOf b box
-    → IsWidest box k v → k < 8
-IsWidest-place {b} {box} {k} {v} valid is widest =
-    omega (arith, slice_get_within box k v widest.is_at, is.count, valid.few_inputs)
+-- of an interval
+pub interval-place : {b : Block} {box : List Interval} {k : ℕ} {v : Interval} → IsValid b → IsBoxOf b box
+    → slice_get box k ≡ Some v → k < 8
+interval-place {b} {box} {k} {v} valid is at =
+    omega (arith, slice_get_within box k v at, is.count, valid.few_inputs)
 
 -- ---- a box that is a leaf
 
-module _ {kind : CertKind} {b : Block} {h target : ℕ} {box : List Interval} {found : FoundLeaf}
-    (leaf_is : IsFoundLeaf kind b h target box found) where
+module _ {kind : CertKind} {b : Block} {h : ℕ} {targets : List ℕ} {box : List Interval} {found : FoundLeaf}
+    (leaf_is : IsFoundLeaf kind b h targets box found) where
   pub Grows-leaf : {T : Type 0} (old new : Tree) (r : Result T NotReached) → IsTreeFor b old
       → OnOk r (new.nodes.items ≡ old.nodes.items ++ Leaf found.form ∷ [])
       → OnOk r (AreRaised found.bounds old.errors.items new.errors.items)
       → OnOk r (new.leaves ≡ old.leaves + 1) → OnOk r (old.leaves < 4096)
-      → OnOk r (Grows kind b h target box old new)
+      → OnOk r (Grows kind b h targets box old new)
   Grows-leaf old new r tree nodes errors more few =
-      on_ok_four r nodes errors more few (grows_leaf kind b h target box found leaf_is old new tree.errors)
+      on_ok_four r nodes errors more few (grows_leaf kind b h targets box found leaf_is old new tree.errors)
 
   pub Stops-leaf : {T : Type 0} (r : Result T NotReached) (n : ℕ)
       → IfErr r (λ stop. stop ≢ Memory → (stop ≡ LeafLimit) × (4096 ≤ n))
-      → IfErr r (λ stop. stop ≢ Memory → Stops kind b h target box n stop)
+      → IfErr r (λ stop. stop ≢ Memory → Stops kind b h targets box n stop)
   Stops-leaf r n full = if_err (λ stop. stop ≢ Memory → (stop ≡ LeafLimit) × (4096 ≤ n))
-      (λ stop. stop ≢ Memory → Stops kind b h target box n stop) r full
+      (λ stop. stop ≢ Memory → Stops kind b h targets box n stop) r full
       (λ stop f at.
       let p = f at in
-      subst (λ (s : NotReached). Stops kind b h target box n s) (sym p.0)
+      subst (λ (s : NotReached). Stops kind b h targets box n s) (sym p.0)
       (limit box n found.form leaf_is.settled p.1))
 
 -- a tight one
-pub tight_found : (b : Block) (h target : ℕ) (box : List Interval) (bounds : List ℕ)
-    → AreTightBounds b h target box bounds
-    → IsFoundLeaf Tight b h target box (record { form = form.Tight; bounds = bounds })
-tight_found b h target box bounds are = record {
+pub tight_found : (b : Block) (h : ℕ) (targets : List ℕ) (box : List Interval) (bounds : List ℕ)
+    → AreTightBounds b h targets box bounds
+    → IsFoundLeaf Tight b h targets box (record { form = form.Tight; bounds = bounds })
+tight_found b h targets box bounds are = record {
   settled = λ k x e. let at = are k x e in (slice_index bounds k, at.0, at.1);
   good = tt;
   bounds = λ k x e. record { claim = claim.Tight; claim_is = refl; allowed = tt; bound_is = (are k x e).0 };
@@ -266,12 +267,13 @@ tight_found b h target box bounds are = record {
 }
 
 -- one of cells
-pub cells_found : (b : Block) (h target : ℕ) (box : List Interval) (bounds : List ℕ) → IsValid b
-    → IsAbove Tight b h target box → cell_count box ≤ 64
+pub cells_found : (b : Block) (h : ℕ) (targets : List ℕ) (box : List Interval) (bounds : List ℕ)
+    → AreTargets b targets
+    → IsAbove Tight b h targets box → cell_count (narrowed b box) ≤ 64 → StandForAll b h box
     → ((k : ℕ) → k < length b.outputs → IfSome (output_at b (k + 1))
-    (λ x. IsCellsBound b box (k + 1) x h (slice_index bounds k)))
-    → AreAtMost target bounds → IsFoundLeaf Tight b h target box (record { form = form.Cells; bounds = bounds })
-cells_found b h target box bounds valid above few are small = record {
+    (λ x. IsCellsBound b (narrowed b box) (k + 1) x h (slice_index bounds k)))
+    → AreAtMost targets bounds → IsFoundLeaf Tight b h targets box (record { form = form.Cells; bounds = bounds })
+cells_found b h targets box bounds targets_are above few stand are small = record {
   settled = (above, few, λ k x e. (slice_index bounds k, at k x e, within k (slice_get_within b.outputs k x e)));
   good = tt;
   bounds = λ k x e. record { claim = claim.Cells; claim_is = refl; allowed = few; bound_is = at k x e };
@@ -279,58 +281,89 @@ cells_found b h target box bounds valid above few are small = record {
 }
   where
     at : (k : ℕ) (x : Output) → slice_get b.outputs k ≡ Some x → IsCellsBound b box (k + 1) x h (slice_index bounds k)
-    at k x e = at_place b k x (λ y. IsCellsBound b box (k + 1) y h (slice_index bounds k)) e
-        (are k (slice_get_within b.outputs k x e))
+    at k x e =
+        let place : k + 1 - 1 ≡ k = omega arith in
+        let number : output_at b (k + 1) ≡ Some x = subst (λ j. slice_get b.outputs j ≡ Some x) (sym place) e in
+        stand.bound (k + 1) x (slice_index bounds k) number
+        (at_place b k x (λ y. IsCellsBound b (narrowed b box) (k + 1) y h (slice_index bounds k)) e
+        (are k (slice_get_within b.outputs k x e)))
 
-    within : (k : ℕ) → k < length b.outputs → slice_index bounds k ≤ target
-    within k l = let outputs = valid.few_outputs in small k (omega (arith, l, outputs))
+    within : (k : ℕ) → k < length b.outputs → slice_index bounds k ≤ slice_index targets k
+    within k l = small k (omega (arith, l, targets_are.count))
 
 -- ---- one that is none
 
-pub named_stuck : {b : Block} {h target : ℕ} {box : List Interval} {k : ℕ} {v : Interval} {output above : ℕ}
+pub named_stuck : {b : Block} {h : ℕ} {targets : List ℕ} {box : List Interval} {k : ℕ} {v : Interval} {output above : ℕ}
     → IsBoxOf b box → IsWidest box k v → v.from ≡ v.to → (n : ℕ) (bytes : ArrayVec ℕ)
-    → bytes.items ≡ map (λ (u : Interval). u.from) box → IsFirstAbove Named b h target box output above
-    → Stops Named b h target box n (Cell bytes (output + 1) above)
-named_stuck {b} {h} {target} {box} {k} {v} {output} {above} is widest single n bytes low first =
+    → bytes.items ≡ map (λ (u : Interval). u.from) box → IsFirstAbove Named b h targets box output above
+    → Stops Named b h targets box n (Cell bytes (output + 1) above)
+named_stuck {b} {h} {targets} {box} {k} {v} {output} {above} is widest single n bytes low first =
     cell box n bytes (output + 1) above
     (cell_is box k v is.intervals widest single ∙ ap cell_of (sym low), output, refl, first)
 
-pub cells_stuck : (b : Block) (h target : ℕ) (box : List Interval) → IsAbove Tight b h target box
-    → cell_count box ≤ 64 → (bytes : ArrayVec ℕ) (o n : ℕ)
-    → IsFirstCellAbove b h target 1 (length b.outputs) box bytes.items o n
-    → (m : ℕ) → Stops Tight b h target box m (Cell bytes o n)
-cells_stuck b h target box above few bytes o n first m = cell box m bytes o n (above, few, first)
+pub cells_stuck : (b : Block) (h : ℕ) (targets : List ℕ) (box : List Interval) → IsAbove Tight b h targets box
+    → cell_count (narrowed b box) ≤ 64 → StandForAll b h box → (bytes : ArrayVec ℕ) (o n : ℕ)
+    → IsFirstCellAbove b h targets 1 (length b.outputs) (narrowed b box) bytes.items o n
+    → (m : ℕ) → Stops Tight b h targets box m (Cell bytes o n)
+cells_stuck b h targets box above few stand bytes o n first m =
+    cell box m bytes o n (above, few, stand.first targets 1 (length b.outputs) bytes.items o n first)
 
-pub cells_split : (b : Block) (h target : ℕ) (box : List Interval) → IsBoxOf b box → IsAbove Tight b h target box
-    → (cell_count box ≤ 64 → ⊥) → IsSplit Tight b h target box
-cells_split b h target box is above many = record {
+pub cells_split : (b : Block) (h : ℕ) (targets : List ℕ) (box : List Interval) (k : ℕ) (v : Interval)
+    → IsBox (narrowed b box) → IsAbove Tight b h targets box → (cell_count (narrowed b box) ≤ 64 → ⊥)
+    → IsWidest (narrowed b box) k v → IsSplit Tight b h targets box k v
+cells_split b h targets box k v is above many widest = record {
   above = above;
   large = omega (arith, many);
-  wide = λ k v widest. ⊎_elim
+  is_at = narrowed_at b box 1 box k v widest.is_at wide;
+  widest = widest;
+  wide = wide;
+}
+  where
+    wide : v.from < v.to
+    wide = ⊎_elim
+        (λ (l : v.from < v.to). l)
+        (λ (l : v.to ≤ v.from).
+        let order = (is.some k v widest.is_at).0 in
+        let cell = cell_is (narrowed b box) k v is widest (omega arith) in
+        let one = ap cell_count cell ∙ one_cell (map (λ (u : Interval). u.from) (narrowed b box)) in
+        absurd (many (omega (arith, one))))
+        (cases_lt v.from v.to)
+
+pub named_split : (b : Block) (h : ℕ) (targets : List ℕ) (box : List Interval) (k n place : ℕ) (v : Interval)
+    → IsBox box → IsFirstAbove Named b h targets box place n → IsWidest box k v → (v.from ≡ v.to → ⊥)
+    → IsSplit Named b h targets box k v
+named_split b h targets box k n place v is first widest more = record {
+  above = (place, n, first);
+  large = tt;
+  is_at = widest.is_at;
+  widest = widest;
+  wide = ⊎_elim
       (λ (l : v.from < v.to). l)
-      (λ (l : v.to ≤ v.from).
-      let order = (is.intervals.some k v widest.is_at).0 in
-      let cell = cell_is box k v is.intervals widest (omega arith) in
-      let one = ap cell_count cell ∙ one_cell (map (λ (u : Interval). u.from) box) in
-      absurd (many (omega (arith, one))))
+      (λ (l : v.to ≤ v.from). let order = (is.some k v widest.is_at).0 in absurd (more (omega arith)))
       (cases_lt v.from v.to);
 }
 
--- ---- a box that is cut in the middle of its widest interval
+-- ---- a box that is cut in the middle of an interval
 
-module _ {kind : CertKind} {b : Block} {h target : ℕ} {box : List Interval} {k c : ℕ} {v : Interval}
-    (is : IsBoxOf b box) (widest : IsWidest box k v) (large : IsSplit kind b h target box) (middle : c ≡ middle_of v)
+module _ {kind : CertKind} {b : Block} {h : ℕ} {targets : List ℕ} {box : List Interval} {k c : ℕ} {v : Interval}
+    (is : IsBoxOf b box) (large : IsSplit kind b h targets box k v) (middle : c ≡ middle_of v)
   where
-    halved_at : IsHalvedAt box k c
-    halved_at = record { interval = v; widest = widest; more = large.wide k v widest; middle = middle }
+    halved_at : IsHalvedAt (counted kind b box) box k c
+    halved_at = record {
+      interval = v;
+      is_at = large.is_at;
+      widest = large.widest;
+      more = large.wide;
+      middle = middle;
+    }
 
-    cuttable : IsToCut kind b h target box k c
+    cuttable : IsToCut kind b h targets box k c
     cuttable = record { above = large.above; large = large.large; halved = halved_at }
 
     cut_small : c ≤ 255
     cut_small =
-        let small = (is.intervals.some k v widest.is_at).1 in
-        let inside = (middle_inside v.from v.to (large.wide k v widest)).1 in
+        let small = (is.intervals.some k v large.is_at).1 in
+        let inside = (middle_inside v.from v.to large.wide).1 in
         omega arith
 
     -- its halves are boxes that can be cut fewer times
@@ -347,36 +380,36 @@ module _ {kind : CertKind} {b : Block} {h target : ℕ} {box : List Interval} {k
 
     module _ {left : List Interval} (left_is : left ≡ left_of k c box) where
       -- halving stops where that of the left half does
-      pub Stops-left : {n : ℕ} {stop : NotReached} → Stops kind b h target left n stop
-          → Stops kind b h target box n stop
+      pub Stops-left : {n : ℕ} {stop : NotReached} → Stops kind b h targets left n stop
+          → Stops kind b h targets box n stop
       Stops-left {n} {stop} stops = in_left box k c n stop cuttable
-          (subst (λ (x : List Interval). Stops kind b h target x n stop) left_is stops)
+          (subst (λ (x : List Interval). Stops kind b h targets x n stop) left_is stops)
 
       -- where the left half's tree has grown, it is up to the right half
       module _ {right : List Interval} (right_is : right ≡ right_of k c box) (old mid : Tree) (nodes : Vec Node)
-          (grows : Grows kind b h target left (record { nodes = nodes; errors = old.errors; leaves = old.leaves }) mid)
+          (grows : Grows kind b h targets left (record { nodes = nodes; errors = old.errors; leaves = old.leaves }) mid)
         where
           abbrev pushed : Tree
           pushed = record { nodes = nodes; errors = old.errors; leaves = old.leaves }
 
-          grows_left : Grows kind b h target (left_of k c box) pushed mid
-          grows_left = subst (λ (x : List Interval). Grows kind b h target x pushed mid) left_is grows
+          grows_left : Grows kind b h targets (left_of k c box) pushed mid
+          grows_left = subst (λ (x : List Interval). Grows kind b h targets x pushed mid) left_is grows
 
           pub Grows-halves : {T : Type 0} (new : Tree) (r : Result T NotReached) → CutsHaveHalves → IsValid b
-              → nodes.items ≡ old.nodes.items ++ Split (k + 1) c ∷ [] → OnOk r (Grows kind b h target right mid new)
-              → OnOk r (Grows kind b h target box old new)
+              → nodes.items ≡ old.nodes.items ++ Split (k + 1) c ∷ [] → OnOk r (Grows kind b h targets right mid new)
+              → OnOk r (Grows kind b h targets box old new)
           Grows-halves new r cuts valid nodes_are grown = on_ok r grown
-              (λ g. grows_split cuts kind b h target box k c old pushed mid new valid.few_inputs is cuttable cut_small
+              (λ g. grows_split cuts kind b h targets box k c old pushed mid new valid.few_inputs is cuttable cut_small
               nodes_are refl refl grows_left
-              (subst (λ (x : List Interval). Grows kind b h target x mid new) right_is g))
+              (subst (λ (x : List Interval). Grows kind b h targets x mid new) right_is g))
 
           pub Stops-right : {T : Type 0} (r : Result T NotReached)
-              → IfErr r (λ stop. stop ≢ Memory → Stops kind b h target right mid.leaves stop)
-              → IfErr r (λ stop. stop ≢ Memory → Stops kind b h target box old.leaves stop)
-          Stops-right r stops = if_err (λ stop. stop ≢ Memory → Stops kind b h target right mid.leaves stop)
-              (λ stop. stop ≢ Memory → Stops kind b h target box old.leaves stop) r stops
+              → IfErr r (λ stop. stop ≢ Memory → Stops kind b h targets right mid.leaves stop)
+              → IfErr r (λ stop. stop ≢ Memory → Stops kind b h targets box old.leaves stop)
+          Stops-right r stops = if_err (λ stop. stop ≢ Memory → Stops kind b h targets right mid.leaves stop)
+              (λ stop. stop ≢ Memory → Stops kind b h targets box old.leaves stop) r stops
               (λ stop f found. in_right box k c old.leaves mid.leaves grows_left.added stop cuttable grows_left.halves
-              (subst (λ (x : List Interval). Stops kind b h target x mid.leaves stop) right_is (f found)))
+              (subst (λ (x : List Interval). Stops kind b h targets x mid.leaves stop) right_is (f found)))
 
 -- ---- all bytes
 
@@ -384,14 +417,14 @@ pub box_for : (a b : Block) (box : List Interval) → a ≡ b → box ≡ whole 
 box_for a b box e f =
     subst (λ (y : Block). IsBoxOf y box) (sym e) (subst (λ (x : List Interval). IsBoxOf b x) (sym f) (whole_box b))
 
-pub grows_for : (j k : CertKind) (a b : Block) (g h s t : ℕ) (box : List Interval) (old new : Tree) → j ≡ k → a ≡ b
+pub grows_for : (j k : CertKind) (a b : Block) (g h : ℕ) (s t : List ℕ) (box : List Interval) (old new : Tree) → j ≡ k → a ≡ b
     → g ≡ h → s ≡ t → box ≡ whole b
     → Grows j a g s box old new → Grows k b h t (whole b) old new
 grows_for j k a b g h s t box old new ek ea eg es ebox grows =
     subst (λ (i : CertKind). Grows i b h t (whole b) old new) ek
     (subst (λ (x : List Interval). Grows j b h t x old new) ebox
     (subst (λ (y : Block). Grows j y h t box old new) ea
-    (subst (λ n. Grows j a n t box old new) eg (subst (λ n. Grows j a g n box old new) es grows))))
+    (subst (λ n. Grows j a n t box old new) eg (subst (λ (ts : List ℕ). Grows j a g ts box old new) es grows))))
 
 pub tree_for : (a b : Block) (tree : Tree) (n : ℕ) → a ≡ b → tree.errors.items ≡ replicate n 0 → n ≡ length b.outputs
     → tree.leaves ≡ 0 → IsTreeFor a tree
@@ -400,7 +433,7 @@ tree_for a b tree n e zeros count leaves = record {
   leaves = omega arith;
 }
 
--- ---- a cell above the target is above it for every certificate that it is compared with
+-- ---- a cell above the targets is above it for every certificate that it is compared with
 
 at_most : (n m e : ℕ) → n ≤ m → m ≤ e → n ≤ e
 at_most n m e h k = omega arith
@@ -430,7 +463,7 @@ lies_small box bytes is lie k d l =
     let to = within.1 in
     omega arith
 
-module _ (around : LeavesAreAround) (least : CountsAreLeast) (cuts : CutsHaveHalves) (b : Block) (h target : ℕ)
+module _ (around : LeavesAreAround) (least : CountsAreLeast) (cuts : CutsHaveHalves) (b : Block) (h : ℕ) (targets : List ℕ)
     (valid : IsValid b) (parts : 1 ≤ h) where
   compared : (k : CertKind) (cert : Cert) (f : LeafForm) (j : ℕ) (c : Claim) → IsComparable k cert
       → ((i : CertKind) → All (IsNodeOf i) cert.nodes → IsFormOf i f) → claim_at f j ≡ Some c → IsCompared k c
@@ -449,7 +482,7 @@ module _ (around : LeavesAreAround) (least : CountsAreLeast) (cuts : CutsHaveHal
       at_most n l.bound e lower l.within
 
   stuck_least : (k : CertKind) (box : List Interval) (bytes : List ℕ) (o n : ℕ) → IsBoxOf b box
-      → IsStuck k b h target box bytes o n → IsOutOfReach k b h target o n
+      → IsStuck k b h targets box bytes o n → IsOutOfReach k b h targets o n
   stuck_least Named box bytes o n is (single, k, number, a) =
       let at : IsBoxOf b (cell_of bytes) = subst (IsBoxOf b) single is in
       let place : k ≡ k + 1 - 1 = omega arith in
@@ -457,9 +490,9 @@ module _ (around : LeavesAreAround) (least : CountsAreLeast) (cuts : CutsHaveHal
       let out : output_at b (k + 1) ≡ Some x = subst (λ j. slice_get b.outputs j ≡ Some x) place a.output_is in
       let count : IsCountAt Named b bytes (k + 1) x h n =
       subst (λ (y : List Interval). IsBestBound b y (k + 1) x h n) single a.bound in
-      subst (λ j. IsOutOfReach Named b h target j n) (sym number)
+      subst (λ j. IsOutOfReach Named b h targets j n) (sym number)
       (record {
-        above = a.above;
+        above = subst (λ j. slice_index targets j < n) place a.above;
         least = least_error Named bytes (k + 1) x n (bytes_count b bytes at) (cell_small bytes at.intervals)
             (omega arith) out count;
       })
@@ -474,7 +507,7 @@ module _ (around : LeavesAreAround) (least : CountsAreLeast) (cuts : CutsHaveHal
       }
 
   out_of_reach : (k : CertKind) (box : List Interval) (n : ℕ) (stop : NotReached) → IsBoxOf b box
-      → Stops k b h target box n stop → SaysOutOfReach k b h target stop
+      → Stops k b h targets box n stop → SaysOutOfReachFor k b h targets stop
   out_of_reach k _ _ _ is (cell box n bytes o above stuck) = stuck_least k box bytes.items o above is stuck
   out_of_reach k _ _ _ is (limit box n form w many) = tt
   out_of_reach k _ _ _ is (in_left box i c n stop cut inner) =
@@ -483,5 +516,6 @@ module _ (around : LeavesAreAround) (least : CountsAreLeast) (cuts : CutsHaveHal
       out_of_reach k (right_of i c box) m stop (right_box cuts b box i c cut.halved is) inner
 
 pub cells_out_of_reach : LeavesAreAround → CountsAreLeast → CutsHaveHalves → CellsAreOutOfReach
-cells_out_of_reach around least cuts k b h target stop valid parts stops =
-    out_of_reach around least cuts b h target valid parts k (whole b) 0 stop (whole_box b) stops
+cells_out_of_reach around least cuts k b h targets _ valid parts (outputs other) = tt
+cells_out_of_reach around least cuts k b h targets stop valid parts (halving _ count stops) =
+    out_of_reach around least cuts b h targets valid parts k (whole b) 0 stop (whole_box b) stops

@@ -18,10 +18,12 @@ use Rattle.cell_bounds.specs.{CellBounds.of_none, CellBounds.of_bound as of_cell
 use Rattle.cell_bounds.specs.Claims.{IsBoxCount, BoxCountsAreOne}
 use Rattle.cert_check.specs.{Trees.whole, Trees.left_of, Trees.right_of, Trees.IsTree, Laws.ErrorsAreDetermined}
 use Rattle.cert_check.specs.{BoxLaws.CutsHaveHalves, Acceptance.IsAccepted}
+use Rattle.cell_bounds.specs.CellBounds.{number_of}
 use Rattle.error_certifier.specs.Halving.{IsFirstAbove, IsAbove, AreWithinTarget, IsTightWithin, AreCellsWithin}
+use Rattle.error_certifier.specs.Halving.{halving, outputs}
 use Rattle.error_certifier.specs.Halving.{IsSettled, IsStuck, IsToCut, Halves, leaf, split, Stops, cell, limit}
 use Rattle.error_certifier.specs.{declared.certifier.NotReached.TheVariants.Cell, Halving.in_left, Halving.in_right}
-use Rattle.error_certifier.specs.{declared.certifier.NotReached.NotReached, Laws.AnswersAreOne}
+use Rattle.error_certifier.specs.{declared.certifier.NotReached.NotReached, Laws.AnswersForTargetsAreOne}
 use Rattle.error_certifier.proofs.BoxLemmas.{same_items, left_box, right_box, whole_box, one_halving, cell_bytes}
 use Rattle.error_certifier.proofs.{BoxLemmas.cell_not_halved, HalveLemmas.IfSome-at}
 use Rattle.error_bound.specs.declared.boxes.Leaf as the
@@ -61,11 +63,11 @@ ordered (m ∷ ms) (n ∷ ns) e = ⊎_elim
     (cases_lt m n)
 
 module _ (best_one : BestLeavesAreOne) (counts_one : BoxCountsAreOne) (cells_one : CellCountsAreOne) (kind : CertKind)
-    (b : Block) (h target : ℕ) (valid : IsValid b) where
-  -- ---- one first output above the target
+    (b : Block) (h : ℕ) (targets : List ℕ) (valid : IsValid b) where
+  -- ---- one first output above its target
 
-  not_before : (box : List Interval) (k j n m : ℕ) → IsBoxOf b box → IsFirstAbove kind b h target box k n
-      → IsFirstAbove kind b h target box j m → k < j → ⊥
+  not_before : (box : List Interval) (k j n m : ℕ) → IsBoxOf b box → IsFirstAbove kind b h targets box k n
+      → IsFirstAbove kind b h targets box j m → k < j → ⊥
   not_before box k j n m is p q l =
       let other = q.before k p.output l p.output_is in
       let e = counts_one kind b box (k + 1) p.output h n other.0 valid is.count p.bound other.1 in
@@ -73,8 +75,8 @@ module _ (best_one : BestLeavesAreOne) (counts_one : BoxCountsAreOne) (cells_one
       let within = other.2 in
       absurd (omega arith)
 
-  same_place : (box : List Interval) (k n m : ℕ) → IsBoxOf b box → IsFirstAbove kind b h target box k n
-      → IsFirstAbove kind b h target box k m → n ≡ m
+  same_place : (box : List Interval) (k n m : ℕ) → IsBoxOf b box → IsFirstAbove kind b h targets box k n
+      → IsFirstAbove kind b h targets box k m → n ≡ m
   same_place box k n m is p q =
       let p_is = p.output_is in
       let q_is = q.output_is in
@@ -83,24 +85,24 @@ module _ (best_one : BestLeavesAreOne) (counts_one : BoxCountsAreOne) (cells_one
       subst (λ (x : Output). IsBoxCount kind b box (k + 1) x h m) same q.bound in
       counts_one kind b box (k + 1) p.output h n m valid is.count p.bound moved
 
-  one_above : (box : List Interval) (k j n m : ℕ) → IsBoxOf b box → IsFirstAbove kind b h target box k n
-      → IsFirstAbove kind b h target box j m → (k ≡ j) × (n ≡ m)
+  one_above : (box : List Interval) (k j n m : ℕ) → IsBoxOf b box → IsFirstAbove kind b h targets box k n
+      → IsFirstAbove kind b h targets box j m → (k ≡ j) × (n ≡ m)
   one_above box k j n m is p q = ⊎_elim
       (λ (l : k < j). absurd (not_before box k j n m is p q l))
       (λ (l : j ≤ k). ⊎_elim
       (λ (g : j < k). absurd (not_before box j k m n is q p g))
       (λ (g : k ≤ j).
       let e : k ≡ j = omega arith in
-      (e, same_place box k n m is p (subst (λ i. IsFirstAbove kind b h target box i m) (sym e) q)))
+      (e, same_place box k n m is p (subst (λ i. IsFirstAbove kind b h targets box i m) (sym e) q)))
       (cases_lt j k))
       (cases_lt k j)
 
 -- ---- of the named kind
 
 module _ (best_one : BestLeavesAreOne) (counts_one : BoxCountsAreOne) (cells_one : CellCountsAreOne) (b : Block)
-    (h target : ℕ) (valid : IsValid b) where
+    (h : ℕ) (targets : List ℕ) (valid : IsValid b) where
   pairs_not_above : (box : List Interval) (pairs : List (ℕ × ℕ)) → IsBoxOf b box
-      → AreWithinTarget b h target box pairs → IsAbove Named b h target box → ⊥
+      → AreWithinTarget b h targets box pairs → IsAbove Named b h targets box → ⊥
   pairs_not_above box pairs is w (k, n, a) =
       let here = w.each k a.output a.output_is in
       let leaf = here.3 in
@@ -115,8 +117,8 @@ module _ (best_one : BestLeavesAreOne) (counts_one : BoxCountsAreOne) (cells_one
       → p ≡ q
   one_pair p q e = ap (λ (l : the.Leaf). (l.rule, l.k)) e
 
-  one_list : (box : List Interval) (ps qs : List (ℕ × ℕ)) → AreWithinTarget b h target box ps
-      → AreWithinTarget b h target box qs → ps ≡ qs
+  one_list : (box : List Interval) (ps qs : List (ℕ × ℕ)) → AreWithinTarget b h targets box ps
+      → AreWithinTarget b h targets box qs → ps ≡ qs
   one_list box ps qs p q =
       let p_count = p.count in
       let q_count = q.count in
@@ -132,8 +134,8 @@ module _ (best_one : BestLeavesAreOne) (counts_one : BoxCountsAreOne) (cells_one
 
   -- ---- of the tight kind
 
-  tight_not_above : (box : List Interval) → IsBoxOf b box → IsTightWithin b h target box
-      → IsAbove Tight b h target box → ⊥
+  tight_not_above : (box : List Interval) → IsBoxOf b box → IsTightWithin b h targets box
+      → IsAbove Tight b h targets box → ⊥
   tight_not_above box is w (k, n, a) =
       let here = w k a.output a.output_is in
       let e = counts_one Tight b box (k + 1) a.output h n here.0 valid is.count a.bound (of_bound here.1) in
@@ -141,22 +143,22 @@ module _ (best_one : BestLeavesAreOne) (counts_one : BoxCountsAreOne) (cells_one
       let within = here.2 in
       absurd (omega arith)
 
-  -- a count above the target is that of no cell within it
-  not_within : (bytes : List ℕ) (o : ℕ) (x : Output) (n : ℕ) → IsCellCount b (cell_of bytes) o x h n → target < n
-      → IsCellWithin b bytes o x h target → ⊥
+  -- a count above the output's target is that of no cell within it
+  not_within : (bytes : List ℕ) (o : ℕ) (x : Output) (n : ℕ) → IsCellCount b (cell_of bytes) o x h n
+      → number_of targets o < n → IsCellWithin b bytes o x h (number_of targets o) → ⊥
   not_within bytes o x n (of_cell_bound bound small) above (m, has, within) =
       let least = bound.least m has in
       absurd (omega arith)
   not_within bytes o x n (of_none none is) above (m, has, within) = none m has
 
   abbrev IsFirst : List Interval → List ℕ → ℕ → ℕ → Type 0
-  IsFirst box bytes o n = IsFirstCellAbove b h target 1 (length b.outputs) box bytes o n
+  IsFirst box bytes o n = IsFirstCellAbove b h targets 1 (length b.outputs) box bytes o n
 
   -- the output of a number
   output_of : (o : ℕ) → 1 ≤ o → o ≤ length b.outputs → (x : Output) × (output_at b o ≡ Some x)
   output_of o from to = some_at b.outputs (o - 1) (omega arith)
 
-  cells_not_above : (box : List Interval) → AreCellsWithin b h target box → (bytes : List ℕ) (o n : ℕ)
+  cells_not_above : (box : List Interval) → AreCellsWithin b h targets box → (bytes : List ℕ) (o n : ℕ)
       → IsFirst box bytes o n → ⊥
   cells_not_above box w bytes o n a =
       let from = a.from in
@@ -164,9 +166,10 @@ module _ (best_one : BestLeavesAreOne) (counts_one : BoxCountsAreOne) (cells_one
       let number : o - 1 + 1 ≡ o = omega arith in
       let here = w (o - 1) x.0 x.1 in
       let cells = here.1.within bytes a.inside in
-      let within : IsCellWithin b bytes (o - 1 + 1) x.0 h target = (cells.0, cells.1, below cells.2 here.2) in
+      let within : IsCellWithin b bytes (o - 1 + 1) x.0 h (number_of targets o) =
+      (cells.0, cells.1, below cells.2 here.2) in
       not_within bytes o x.0 n (IfSome-at (λ y. IsCellCount b (cell_of bytes) o y h n) x.1 a.count) a.above
-      (subst (λ j. IsCellWithin b bytes j x.0 h target) number within)
+      (subst (λ j. IsCellWithin b bytes j x.0 h (number_of targets o)) number within)
     where
       below : {p q r : ℕ} → p ≤ q → q ≤ r → p ≤ r
       below p q = omega arith
@@ -176,14 +179,14 @@ module _ (best_one : BestLeavesAreOne) (counts_one : BoxCountsAreOne) (cells_one
   cell_not_before box ms ns o p n m a c l =
       let x = output_of o a.from a.to in
       not_within ms o x.0 n (IfSome-at (λ y. IsCellCount b (cell_of ms) o y h n) x.1 a.count) a.above
-      (IfSome-at (λ y. IsCellWithin b ms o y h target) x.1 (c.cells_before ms a.inside l o a.from a.to))
+      (IfSome-at (λ y. IsCellWithin b ms o y h (number_of targets o)) x.1 (c.cells_before ms a.inside l o a.from a.to))
 
   output_not_before : (box : List Interval) (bytes : List ℕ) (o p n m : ℕ) → IsFirst box bytes o n
       → IsFirst box bytes p m → o < p → ⊥
   output_not_before box bytes o p n m a c l =
       let x = output_of o a.from a.to in
       not_within bytes o x.0 n (IfSome-at (λ y. IsCellCount b (cell_of bytes) o y h n) x.1 a.count) a.above
-      (IfSome-at (λ y. IsCellWithin b bytes o y h target) x.1 (c.outputs_before o a.from l))
+      (IfSome-at (λ y. IsCellWithin b bytes o y h (number_of targets o)) x.1 (c.outputs_before o a.from l))
 
   one_output : (box : List Interval) (bytes : List ℕ) (o p n m : ℕ) → IsFirst box bytes o n → IsFirst box bytes p m
       → (o ≡ p) × (n ≡ m)
@@ -219,7 +222,7 @@ module _ (best_one : BestLeavesAreOne) (counts_one : BoxCountsAreOne) (cells_one
   -- ---- a box is a leaf of one form, stuck at one cell, or cut
 
   one_form : (kind : CertKind) (box : List Interval) (f g : LeafForm) → IsBoxOf b box
-      → IsSettled kind b h target box f → IsSettled kind b h target box g → f ≡ g
+      → IsSettled kind b h targets box f → IsSettled kind b h targets box g → f ≡ g
   one_form Named box (form.Pairs ps) (form.Pairs qs) is w v =
       ap (λ (p : ArrayVec (ℕ × ℕ)). form.Pairs p) (same_vector ps qs (one_list box ps.items qs.items w v))
   one_form Named box (form.Pairs ps) form.Tight is w v = absurd v
@@ -235,7 +238,7 @@ module _ (best_one : BestLeavesAreOne) (counts_one : BoxCountsAreOne) (cells_one
   one_form Tight box form.Cells form.Cells is w v = refl
 
   settled_not_cut : (kind : CertKind) (box : List Interval) (f : LeafForm) (k c : ℕ) → IsBoxOf b box
-      → IsSettled kind b h target box f → IsToCut kind b h target box k c → ⊥
+      → IsSettled kind b h targets box f → IsToCut kind b h targets box k c → ⊥
   settled_not_cut Named box (form.Pairs ps) k c is w cut = pairs_not_above box ps.items is w cut.above
   settled_not_cut Named box form.Tight k c is w cut = w
   settled_not_cut Named box form.Cells k c is w cut = w
@@ -247,7 +250,7 @@ module _ (best_one : BestLeavesAreOne) (counts_one : BoxCountsAreOne) (cells_one
       absurd (omega arith)
 
   settled_not_stuck : (kind : CertKind) (box : List Interval) (f : LeafForm) (bytes : List ℕ) (o n : ℕ) → IsBoxOf b box
-      → IsSettled kind b h target box f → IsStuck kind b h target box bytes o n → ⊥
+      → IsSettled kind b h targets box f → IsStuck kind b h targets box bytes o n → ⊥
   settled_not_stuck Named box (form.Pairs ps) bytes o n is w (single, k, number, a) =
       pairs_not_above box ps.items is w (k, n, a)
   settled_not_stuck Named box form.Tight bytes o n is w stuck = w
@@ -257,7 +260,7 @@ module _ (best_one : BestLeavesAreOne) (counts_one : BoxCountsAreOne) (cells_one
   settled_not_stuck Tight box form.Cells bytes o n is w stuck = cells_not_above box w.2 bytes o n stuck.2
 
   stuck_not_cut : (kind : CertKind) (box : List Interval) (bytes : List ℕ) (o n k c : ℕ)
-      → IsStuck kind b h target box bytes o n → IsToCut kind b h target box k c → ⊥
+      → IsStuck kind b h targets box bytes o n → IsToCut kind b h targets box k c → ⊥
   stuck_not_cut Named box bytes o n k c stuck cut = cell_not_halved box bytes k c stuck.0 cut.halved
   stuck_not_cut Tight box bytes o n k c stuck cut =
       let few = stuck.1 in
@@ -265,9 +268,9 @@ module _ (best_one : BestLeavesAreOne) (counts_one : BoxCountsAreOne) (cells_one
       absurd (omega arith)
 
   one_stuck : (kind : CertKind) (box : List Interval) (ms ns : List ℕ) (o p n m : ℕ) → IsBoxOf b box
-      → IsStuck kind b h target box ms o n → IsStuck kind b h target box ns p m → (ms ≡ ns) × (o ≡ p) × (n ≡ m)
+      → IsStuck kind b h targets box ms o n → IsStuck kind b h targets box ns p m → (ms ≡ ns) × (o ≡ p) × (n ≡ m)
   one_stuck Named box ms ns o p n m is (single, k, number, a) (also, j, other, c) =
-      let same = one_above best_one counts_one cells_one Named b h target valid box k j n m is a c in (
+      let same = one_above best_one counts_one cells_one Named b h targets valid box k j n m is a c in (
         sym (cell_bytes ms) ∙ ap lows (sym single ∙ also) ∙ cell_bytes ns,
         number ∙ ap (λ i. i + 1) same.0 ∙ sym other,
         same.1,
@@ -289,26 +292,26 @@ module _ (best_one : BestLeavesAreOne) (counts_one : BoxCountsAreOne) (cells_one
   same_split k j c d ls ks rs ts e f g i = cc
 
   module _ (cuts : CutsHaveHalves) (kind : CertKind) where
-    moved_settled : (box other : List Interval) (f : LeafForm) → box ≡ other → IsSettled kind b h target other f
-        → IsSettled kind b h target box f
-    moved_settled box other f e w = subst (λ (x : List Interval). IsSettled kind b h target x f) (sym e) w
+    moved_settled : (box other : List Interval) (f : LeafForm) → box ≡ other → IsSettled kind b h targets other f
+        → IsSettled kind b h targets box f
+    moved_settled box other f e w = subst (λ (x : List Interval). IsSettled kind b h targets x f) (sym e) w
 
     moved_stuck : (box other : List Interval) (bytes : List ℕ) (o n : ℕ) → box ≡ other
-        → IsStuck kind b h target other bytes o n → IsStuck kind b h target box bytes o n
-    moved_stuck box other bytes o n e s = subst (λ (x : List Interval). IsStuck kind b h target x bytes o n) (sym e) s
+        → IsStuck kind b h targets other bytes o n → IsStuck kind b h targets box bytes o n
+    moved_stuck box other bytes o n e s = subst (λ (x : List Interval). IsStuck kind b h targets x bytes o n) (sym e) s
 
-    moved_cut : (box other : List Interval) (k c : ℕ) → box ≡ other → IsToCut kind b h target other k c
-        → IsToCut kind b h target box k c
-    moved_cut box other k c e cut = subst (λ (x : List Interval). IsToCut kind b h target x k c) (sym e) cut
+    moved_cut : (box other : List Interval) (k c : ℕ) → box ≡ other → IsToCut kind b h targets other k c
+        → IsToCut kind b h targets box k c
+    moved_cut box other k c e cut = subst (λ (x : List Interval). IsToCut kind b h targets x k c) (sym e) cut
 
     -- two boxes that are one and are cut are cut at one place
-    one_cut : (box other : List Interval) (k j c d : ℕ) → box ≡ other → IsToCut kind b h target box k c
-        → IsToCut kind b h target other j d → (k ≡ j) × (c ≡ d)
+    one_cut : (box other : List Interval) (k j c d : ℕ) → box ≡ other → IsToCut kind b h targets box k c
+        → IsToCut kind b h targets other j d → (k ≡ j) × (c ≡ d)
     one_cut box other k j c d e p q = one_halving box k j c d p.halved (moved_cut box other j d e q).halved
 
     one_tree : (box other : List Interval) (n o m r : ℕ) (ns ks : List Node) → IsBoxOf b box
-        → Halves kind b h target box n ns m
-        → Halves kind b h target other o ks r
+        → Halves kind b h targets box n ns m
+        → Halves kind b h targets other o ks r
         → box ≡ other → n ≡ o → (ns ≡ ks) × (m ≡ r)
     one_tree _ _ _ _ _ _ _ _ is (leaf box n p w few) (leaf other o q v also) e f =
         let same = one_form kind box p q is w (moved_settled box other q e v) in
@@ -328,7 +331,7 @@ module _ (best_one : BestLeavesAreOne) (counts_one : BoxCountsAreOne) (cells_one
         (same_split k j c d left left' right right' same.0 same.1 lower.0 upper.0, upper.1)
 
     no_stop : (box other : List Interval) (n o m : ℕ) (ns : List Node) (s : NotReached) → IsBoxOf b box
-        → Halves kind b h target box n ns m → Stops kind b h target other o s
+        → Halves kind b h targets box n ns m → Stops kind b h targets other o s
         → box ≡ other → n ≡ o → ⊥
     no_stop _ _ _ _ _ _ _ is (leaf box n p w few) (cell other o bytes out up stuck) e f =
         settled_not_stuck kind box p bytes.items out up is w (moved_stuck box other bytes.items out up e stuck)
@@ -355,7 +358,7 @@ module _ (best_one : BestLeavesAreOne) (counts_one : BoxCountsAreOne) (cells_one
         (same_right box other k j c d e same.0 same.1) lower.1
 
     one_stop : (box other : List Interval) (n o : ℕ) (s t : NotReached) → IsBoxOf b box
-        → Stops kind b h target box n s → Stops kind b h target other o t → box ≡ other → n ≡ o → s ≡ t
+        → Stops kind b h targets box n s → Stops kind b h targets other o t → box ≡ other → n ≡ o → s ≡ t
     one_stop _ _ _ _ _ _ is (cell box n bytes out up stuck) (cell other o bytes' out' up' stuck') e f =
         let same = one_stuck kind box bytes.items bytes'.items out out' up up' is stuck
         (moved_stuck box other bytes'.items out' up' e stuck') in
@@ -454,22 +457,33 @@ one_claims errors_one b h es fs ns ks valid e p q =
     (claiming b h fs cs ks ks refl q count (right_at_most es fs))
 
 pub one_answer : ErrorsAreDetermined → BestLeavesAreOne → BoxCountsAreOne → CellCountsAreOne → CutsHaveHalves
-    → AnswersAreOne
-one_answer errors_one best_one counts_one cells_one cuts kind b h target (Ok p) (Ok q) valid x y =
+    → AnswersForTargetsAreOne
+one_answer errors_one best_one counts_one cells_one cuts kind b h targets (Ok p) (Ok q) valid x y =
     let nodes =
-    (one_tree best_one counts_one cells_one b h target valid cuts kind (whole b) (whole b) 0 0 x.leaves y.leaves
+    (one_tree best_one counts_one cells_one b h targets valid cuts kind (whole b) (whole b) 0 0 x.leaves y.leaves
     p.nodes q.nodes (whole_box b) x.nodes y.nodes refl refl).0 in
     let claims = one_claims errors_one b h p.claims q.claims p.nodes q.nodes valid nodes x.claims y.claims in
     let same : p ≡ q = ap₂ (λ (cs : List ℕ) (ns : List Node). let c : Cert = record { claims = cs; nodes = ns } in c)
     claims nodes in
     ap (λ (c : Cert). let r : Result Cert NotReached = Ok c in r) same
-one_answer errors_one best_one counts_one cells_one cuts kind b h target (Ok p) (Err t) valid x y =
-    absurd (no_stop best_one counts_one cells_one b h target valid cuts kind (whole b) (whole b) 0 0 x.leaves p.nodes t
+one_answer errors_one best_one counts_one cells_one cuts kind b h targets (Ok p) (Err t) valid x (halving _ count y) =
+    absurd (no_stop best_one counts_one cells_one b h targets valid cuts kind (whole b) (whole b) 0 0 x.leaves p.nodes t
     (whole_box b) x.nodes y refl refl)
-one_answer errors_one best_one counts_one cells_one cuts kind b h target (Err s) (Ok q) valid x y =
-    absurd (no_stop best_one counts_one cells_one b h target valid cuts kind (whole b) (whole b) 0 0 y.leaves q.nodes s
+one_answer errors_one best_one counts_one cells_one cuts kind b h targets (Ok p) (Err _) valid x (outputs other) =
+    absurd (other x.targets_are.count)
+one_answer errors_one best_one counts_one cells_one cuts kind b h targets (Err _) (Ok q) valid (outputs other) y =
+    absurd (other y.targets_are.count)
+one_answer errors_one best_one counts_one cells_one cuts kind b h targets (Err s) (Ok q) valid (halving _ count x) y =
+    absurd (no_stop best_one counts_one cells_one b h targets valid cuts kind (whole b) (whole b) 0 0 y.leaves q.nodes s
     (whole_box b) y.nodes x refl refl)
-one_answer errors_one best_one counts_one cells_one cuts kind b h target (Err s) (Err t) valid x y =
-    let same = one_stop best_one counts_one cells_one b h target valid cuts kind (whole b) (whole b) 0 0 s t
+one_answer errors_one best_one counts_one cells_one cuts kind b h targets (Err _) (Err _) valid (outputs _) (outputs _) =
+    refl
+one_answer errors_one best_one counts_one cells_one cuts kind b h targets (Err _) (Err t) valid (outputs other)
+    (halving _ count y) = absurd (other count)
+one_answer errors_one best_one counts_one cells_one cuts kind b h targets (Err s) (Err _) valid (halving _ count x)
+    (outputs other) = absurd (other count)
+one_answer errors_one best_one counts_one cells_one cuts kind b h targets (Err s) (Err t) valid (halving _ count x)
+    (halving _ same_count y) =
+    let same = one_stop best_one counts_one cells_one b h targets valid cuts kind (whole b) (whole b) 0 0 s t
     (whole_box b) x y refl refl in
     ap (λ (n : NotReached). let r : Result Cert NotReached = Err n in r) same

@@ -1,9 +1,9 @@
--- The certificate of a halving is a good one, within its target.
+-- The certificate of a halving is a good one, within its targets.
 use Rattle.std.proofs.Common.{◌≡◌, ℕ, ◌+◌, ◌-◌, ◌*◌, ◌<◌, ◌≤◌, List, [], ◌∷◌, ◌++◌, length, get_or}
 use Rattle.std.proofs.Common.{Option, Some, None, Bool, true, false, cond, refl, sym, ap, ◌∙◌, subst, arith}
 use Rattle.std.proofs.Common.{append_assoc}
 use Rattle.std.proofs.lemmas.List.{append-nil}
-use Rattle.std.specs.Prelude.{slice_get, All, ◌==◌}
+use Rattle.std.specs.Prelude.{slice_index, slice_get, All, ◌==◌}
 use Rattle.std.specs.List.{AllByRecursion}
 use Rattle.std.specs.Option.{option_map, option_map_or}
 use Rattle.std.proofs.lemmas.Option.{slice_get_within, slice_get-get_or, get_or_from_slice_get}
@@ -26,43 +26,13 @@ use Rattle.cell_bounds.specs.{declared.claims.Claim.Claim, Claims.HasClaimBound,
 use Rattle.cert_check.specs.{Trees.Part, Trees.IsTree, Trees.leaf, Trees.split, Trees.whole, Trees.left_of}
 use Rattle.cert_check.specs.{Trees.right_of, BoxLaws.CutsHaveHalves}
 use Rattle.cert_check.specs.Acceptance.{IsAccepted, IsGreatestBound, claim_at}
-use Rattle.error_certifier.specs.Halving.{Halves, leaf as halved_leaf, split as halved_split, IsHalving, IsSettled}
-use Rattle.error_certifier.specs.{Halving.IsAbove}
+use Rattle.error_certifier.specs.Halving.{Halves, leaf as halved_leaf, split as halved_split, IsHalvingFor, IsSettled}
+use Rattle.error_certifier.specs.Laws.{AreWithin}
 use Rattle.error_certifier.proofs.BoxLemmas.{whole_box, left_box, right_box, split_node, middle_inside}
 use Rattle.error_certifier.proofs.CertLemmas.{halved_open, halved_leaves}
 use Rattle.error_bound.specs.declared.boxes.Leaf as the
 use Rattle.box_tree.specs.declared.cert.LeafForm.TheVariants as form
 use Rattle.cell_bounds.specs.declared.claims.Claim.TheVariants as claim
-
--- ---- no Bound is above the whole range
-
-silent_small : (x : Output) → silent_bound x ≤ 1000000
-silent_small x = by_default x.default
-  where
-    by_default : (d : Option Dec)
-        → option_map_or (λ d. in_millionths (over (offset x d) (255 * distance x.lo x.hi))) d 0 ≤ 1000000
-    by_default None = omega arith
-    by_default (Some d) = omega arith
-
-bound_small : (b : Block) (box : List Interval) (o : ℕ) (x : Output) (h : ℕ) (l : the.Leaf) (n : ℕ)
-    → IsBound b box o x h l n → n ≤ 1000000
-bound_small b box o x h l n is =
-    subst (λ m. m ≤ 1000000) (sym is.is) (of_test (l.k == 0))
-  where
-    of_test : (t : Bool)
-        → cond t (silent_bound x) (strong_bound x h (errors_from b is.errors o 1 x.singletons) l.k) ≤ 1000000
-    of_test true = silent_small x
-    of_test false = omega arith
-
-above_small : TightBoundsAreSmall → (b : Block) (box : List Interval) (h target : ℕ) → IsAbove Tight b h target box
-    → target ≤ 1000000
-above_small small b box h target (k, n, first) =
-    let n_to = counted n first.bound in
-    omega (arith, first.above, n_to)
-  where
-    counted : (n : ℕ) → IsTightCount b box (k + 1) first.output h n → n ≤ 1000001
-    counted n (of_bound t) = omega (arith, small b box (k + 1) first.output h n t)
-    counted n (of_none quiet unsure is) = omega (arith, is)
 
 -- ---- leaves
 
@@ -89,10 +59,10 @@ abbrev HasBounds : Block → ℕ → Part → Type 0
 HasBounds b h p = (k : ℕ) (x : Output) → slice_get b.outputs k ≡ Some x
     → (c : Claim) × (n : ℕ) × (claim_at p.form k ≡ Some c) × HasClaimBound b p.box (k + 1) x h c n
 
-leaf_good : (kind : CertKind) (b : Block) (h target : ℕ) (box : List Interval) (f : LeafForm) → IsValid b
-    → IsSettled kind b h target box f → HasBounds b h (record { box = box; form = f })
+leaf_good : (kind : CertKind) (b : Block) (h : ℕ) (targets : List ℕ) (box : List Interval) (f : LeafForm) → IsValid b
+    → IsSettled kind b h targets box f → HasBounds b h (record { box = box; form = f })
     → IsLeaf kind (length b.outputs) f
-leaf_good Named b h target box (form.Pairs pairs) valid settled bounds = (
+leaf_good Named b h targets box (form.Pairs pairs) valid settled bounds = (
   settled.count,
   λ k d l.
       let count = settled.count in
@@ -104,26 +74,27 @@ leaf_good Named b h target box (form.Pairs pairs) valid settled bounds = (
       subst (λ (c : Claim). HasClaimBound b box (k + 1) x.0 h c said.1) same said.3 in
       pair_held b box (k + 1) (record { rule = p.0; k = p.1 }) valid named.0,
 )
-leaf_good Named b h target box form.Tight valid settled bounds = absurd settled
-leaf_good Named b h target box form.Cells valid settled bounds = absurd settled
-leaf_good Tight b h target box (form.Pairs pairs) valid settled bounds = absurd settled
-leaf_good Tight b h target box form.Tight valid settled bounds = tt
-leaf_good Tight b h target box form.Cells valid settled bounds = tt
+leaf_good Named b h targets box form.Tight valid settled bounds = absurd settled
+leaf_good Named b h targets box form.Cells valid settled bounds = absurd settled
+leaf_good Tight b h targets box (form.Pairs pairs) valid settled bounds = absurd settled
+leaf_good Tight b h targets box form.Tight valid settled bounds = tt
+leaf_good Tight b h targets box form.Cells valid settled bounds = tt
 
-module _ (one : ClaimBoundsAreOne) (small : TightBoundsAreSmall) (b : Block) (h target : ℕ) (valid : IsValid b) where
+module _ (one : ClaimBoundsAreOne) (b : Block) (h : ℕ) (targets : List ℕ) (valid : IsValid b) where
   -- of one claim
-  one_within : (box : List Interval) (o : ℕ) (x : Output) (c d : Claim) (n e : ℕ) → length box ≡ length b.inputs
-      → HasClaimBound b box o x h c n → n ≤ target → HasClaimBound b box o x h d e → d ≡ c → e ≤ target
-  one_within box o x c d n e count has within other same =
+  one_within : (box : List Interval) (o : ℕ) (x : Output) (c d : Claim) (n e target : ℕ)
+      → length box ≡ length b.inputs → HasClaimBound b box o x h c n → n ≤ target → HasClaimBound b box o x h d e
+      → d ≡ c → e ≤ target
+  one_within box o x c d n e target count has within other same =
       let again = one b box o x h c n e valid count has
       (subst (λ (y : Claim). HasClaimBound b box o x h y e) same other) in
       omega (arith, again, within)
 
   -- the Bound of what a settled leaf says
   leaf_within : (kind : CertKind) (box : List Interval) (f : LeafForm) → IsBoxOf b box
-      → IsSettled kind b h target box f
+      → IsSettled kind b h targets box f
       → (k : ℕ) (x : Output) → slice_get b.outputs k ≡ Some x → (c : Claim) (e : ℕ) → claim_at f k ≡ Some c
-      → HasClaimBound b box (k + 1) x h c e → (e ≤ target) × (e ≤ 1000000)
+      → HasClaimBound b box (k + 1) x h c e → e ≤ slice_index targets k
   leaf_within Named box (form.Pairs pairs) is settled k x out c e at has =
       let best = settled.each k x out in
       let leaf_is : the.Leaf = record { rule = best.0.0; k = best.0.1 } in
@@ -131,21 +102,18 @@ module _ (one : ClaimBoundsAreOne) (small : TightBoundsAreSmall) (b : Block) (h 
       let here : HasClaimBound b box (k + 1) x h (claim.Pair leaf_is) e =
       subst (λ (y : Claim). HasClaimBound b box (k + 1) x h y e) same has in
       let again = one b box (k + 1) x h (claim.Pair leaf_is) best.1 e valid is.count (here.0, best.3.bound) here in
-      (omega (arith, again, best.3.within), bound_small b box (k + 1) x h leaf_is e here.1)
+      omega (arith, again, best.3.within)
   leaf_within Named box form.Tight is settled k x out c e at has = absurd settled
   leaf_within Named box form.Cells is settled k x out c e at has = absurd settled
   leaf_within Tight box (form.Pairs pairs) is settled k x out c e at has = absurd settled
   leaf_within Tight box form.Tight is settled k x out c e at has =
       let best = settled k x out in
-      let same : c ≡ claim.Tight = cc in (
-        one_within box (k + 1) x claim.Tight c best.0 e is.count best.1 best.2 has same,
-        small b box (k + 1) x h e (subst (λ (y : Claim). HasClaimBound b box (k + 1) x h y e) same has),
-      )
+      let same : c ≡ claim.Tight = cc in
+      one_within box (k + 1) x claim.Tight c best.0 e (slice_index targets k) is.count best.1 best.2 has same
   leaf_within Tight box form.Cells is settled k x out c e at has =
       let best = settled.2 k x out in
       let same : c ≡ claim.Cells = cc in
-      let within = one_within box (k + 1) x claim.Cells c best.0 e is.count best.1 best.2 has same in
-      (within, omega (arith, within, above_small small b box h target settled.0))
+      one_within box (k + 1) x claim.Cells c best.0 e (slice_index targets k) is.count best.1 best.2 has same
 
 -- ---- the nodes of a halving and the leaves of its tree
 
@@ -157,9 +125,9 @@ back : {X : Type 0} (P : X → Type 0) (xs ys : List X) → AllByRecursion P (xs
 back P [] ys all = all
 back P (x ∷ xs) ys all = back P xs ys all.1
 
-module _ (cuts : CutsHaveHalves) (kind : CertKind) (b : Block) (h target : ℕ) (valid : IsValid b) where
+module _ (cuts : CutsHaveHalves) (kind : CertKind) (b : Block) (h : ℕ) (targets : List ℕ) (valid : IsValid b) where
   abbrev IsGood : Part → Type 0
-  IsGood p = IsBoxOf b p.box × IsSettled kind b h target p.box p.form
+  IsGood p = IsBoxOf b p.box × IsSettled kind b h targets p.box p.form
 
   abbrev IsGoodNode : Node → Type 0
   IsGoodNode = IsNode kind (length b.outputs)
@@ -168,18 +136,18 @@ module _ (cuts : CutsHaveHalves) (kind : CertKind) (b : Block) (h target : ℕ) 
   AreGood parts rest more nodes = All IsGood parts × (rest ≡ more) × All IsGoodNode nodes
 
   told : (box around : List Interval) (n m : ℕ) (nodes all more rest : List Node) (parts : List Part)
-      → Halves kind b h target box n nodes m → IsTree around all parts rest → around ≡ box → all ≡ nodes ++ more
+      → Halves kind b h targets box n nodes m → IsTree around all parts rest → around ≡ box → all ≡ nodes ++ more
       → IsBoxOf b box → AllByRecursion (HasBounds b h) parts
       → AreGood parts rest more nodes
   told _ _ _ _ _ _ more _ _ (halved_leaf box n f settled few) (leaf around g rest) same nodes is bounds =
       let form_is : g ≡ f = cc in
       let rest_is : rest ≡ more = cc in
-      let there : IsSettled kind b h target around g =
-      subst (λ (y : List Interval). IsSettled kind b h target y g) (sym same)
-      (subst (λ (y : LeafForm). IsSettled kind b h target box y) (sym form_is) settled) in
+      let there : IsSettled kind b h targets around g =
+      subst (λ (y : List Interval). IsSettled kind b h targets y g) (sym same)
+      (subst (λ (y : LeafForm). IsSettled kind b h targets box y) (sym form_is) settled) in
       let good : IsLeaf kind (length b.outputs) f =
       subst (λ (y : LeafForm). IsLeaf kind (length b.outputs) y) form_is
-      (leaf_good kind b h target around g valid there bounds.0) in (
+      (leaf_good kind b h targets around g valid there bounds.0) in (
         All-from_recursion IsGood (record { box = around; form = g } ∷ [])
             ((subst (IsBoxOf b) (sym same) is, there), tt),
         rest_is,
@@ -198,7 +166,7 @@ module _ (cuts : CutsHaveHalves) (kind : CertKind) (b : Block) (h target : ℕ) 
       let lower : left_of (i - 1) d around ≡ left_of k c box = cc in
       let upper : right_of (i - 1) d around ≡ right_of k c box = cc in
       let at = cut.halved in
-      let top = (is.intervals.some k at.interval at.widest.is_at).1 in
+      let top = (is.intervals.some k at.interval at.is_at).1 in
       let inside = (middle_inside at.interval.from at.interval.to at.more).1 in
       let byte : c ≤ 255 = omega (arith, top, inside, at.middle) in
       let first = told (left_of k c box) (left_of (i - 1) d around) n m left nodes (right ++ more) mid ps l u lower
@@ -215,8 +183,8 @@ module _ (cuts : CutsHaveHalves) (kind : CertKind) (b : Block) (h target : ℕ) 
 
 -- ---- the certificate
 
-module _ (cuts : CutsHaveHalves) (one : ClaimBoundsAreOne) (small : TightBoundsAreSmall) (open_on : OpenBoxesGoOn)
-    (kind : CertKind) (b : Block) (h target : ℕ) (cert : Cert) (valid : IsValid b) (is : IsHalving kind b h target cert)
+module _ (cuts : CutsHaveHalves) (one : ClaimBoundsAreOne) (open_on : OpenBoxesGoOn)
+    (kind : CertKind) (b : Block) (h : ℕ) (targets : List ℕ) (cert : Cert) (valid : IsValid b) (is : IsHalvingFor kind b h targets cert)
   where
     accepted : IsAccepted b h cert cert.claims
     accepted = is.claims
@@ -245,50 +213,54 @@ module _ (cuts : CutsHaveHalves) (one : ClaimBoundsAreOne) (small : TightBoundsA
           has.bound_is,
         )
 
-    all : AreGood cuts kind b h target valid accepted.parts [] [] cert.nodes
-    all = told cuts kind b h target valid (whole b) (whole b) 0 is.leaves cert.nodes cert.nodes [] [] accepted.parts
+    all : AreGood cuts kind b h targets valid accepted.parts [] [] cert.nodes
+    all = told cuts kind b h targets valid (whole b) (whole b) 0 is.leaves cert.nodes cert.nodes [] [] accepted.parts
         is.nodes accepted.tree refl (sym (append-nil cert.nodes)) (whole_box b)
         (recursion_from_All (HasBounds b h) accepted.parts bounds)
 
     claim_within : (k : ℕ) (x : Output) → slice_get b.outputs k ≡ Some x
-        → (e : ℕ) × (slice_get cert.claims k ≡ Some e) × (e ≤ target) × (e ≤ 1000000)
+        → (e : ℕ) × (slice_get cert.claims k ≡ Some e) × (e ≤ slice_index targets k)
     claim_within k x out =
         let found = error_at k x out in
         let some = found.1.some in
         let at = some.0 in
         let part = some.1 in
-        let good : IsGood cuts kind b h target valid part =
-        subst (IsGood cuts kind b h target valid) some.3 (all.0 at part some.2) in
+        let good : IsGood cuts kind b h targets valid part =
+        subst (IsGood cuts kind b h targets valid) some.3 (all.0 at part some.2) in
         let has = some.4 in
         let place : k + 1 - 1 ≡ k = omega arith in
-        let within = leaf_within one small b h target valid kind part.box part.form good.0 good.1 k x out has.claim
+        let within = leaf_within one b h targets valid kind part.box part.form good.0 good.1 k x out has.claim
         found.0 (subst (λ j. claim_at part.form j ≡ Some has.claim) place has.claim_is) has.bound_is in
-        (found.0, found.2, within.0, within.1)
+        (found.0, found.2, within)
 
-    claims_within : (k d : ℕ) → k < length cert.claims
-        → (get_or cert.claims k d ≤ target) × (get_or cert.claims k d ≤ 1000000)
-    claims_within k d l =
+    claims_within : AreWithin targets cert.claims
+    claims_within k e at =
         let count = accepted.claims_count in
-        let x = some_at b.outputs k (omega (arith, l, count)) in
+        let x = some_at b.outputs k (omega (arith, slice_get_within cert.claims k e at, count)) in
         let found = claim_within k x.0 x.1 in
-        let same = get_or_from_slice_get cert.claims k found.0 d found.1 in
-        (omega (arith, same, found.2), omega (arith, same, found.3))
+        let found_is = found.1 in
+        let same : found.0 ≡ e = cc in
+        omega (arith, same, found.2)
 
-    pub within_target : IsCert kind cert × All (λ error. error ≤ target) cert.claims
-    within_target =
+    pub within_targets : IsCert kind cert × AreWithin targets cert.claims
+    within_targets =
         let count = accepted.claims_count in
         let some = valid.some_output in
         let few = valid.few_outputs in
-        let leaves = halved_leaves kind b h target (whole b) 0 is.leaves cert.nodes is.nodes in (
+        let leaves = halved_leaves kind b h targets (whole b) 0 is.leaves cert.nodes is.nodes in (
           record {
             claims = record {
               some = omega (arith, count, some);
               few = omega (arith, count, few);
-              millionths = λ k d l. (claims_within k d l).1;
+              millionths = λ k d l.
+                  let w = claims_within k (get_or cert.claims k d) (slice_get-get_or cert.claims k d l) in
+                  let top = is.targets_are.millionths k 0
+                  (omega (arith, l, accepted.claims_count, is.targets_are.count)) in
+                  omega (arith, w, top);
             };
             nodes = subst (λ n. All (IsNode kind n) cert.nodes) (sym count) all.2;
-            tree = halved_open open_on kind b h target (whole b) 0 is.leaves cert.nodes is.nodes 0;
+            tree = halved_open open_on kind b h targets (whole b) 0 is.leaves cert.nodes is.nodes 0;
             few_leaves = omega (arith, leaves.0, leaves.1);
           },
-          λ k d l. (claims_within k d l).0,
+          claims_within,
         )

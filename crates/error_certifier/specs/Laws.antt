@@ -1,30 +1,36 @@
 -- What holds of every halving.
 -- Beside the promise.
-use Rattle.std.specs.Prelude.{◌≡◌, ℕ, ◌-◌, ◌<◌, ◌≤◌, List, All, Some, slice_get, Result, Ok, Err}
+use Rattle.std.specs.Prelude.{◌≡◌, ℕ, ◌-◌, ◌<◌, ◌≤◌, List, All, Some, slice_get, slice_index, Result, Ok, Err}
 use Rattle.fuzzy_meaning.specs.{declared.block.Block.Block, Blocks.IsValid}
 use Rattle.box_tree.specs.declared.cert.CertKind.{CertKind}
 use Rattle.box_tree.specs.declared.cert.CertKind.TheVariants as kind
 use Rattle.box_tree.specs.{Certificates.IsCert, declared.cert.Cert.Cert}
+use Rattle.cell_bounds.specs.CellBounds.{number_of}
 use Rattle.cert_check.specs.{Acceptance.IsAccepted, BoxLaws.IsNodeOf}
-use Rattle.error_certifier.specs.{declared.certifier.NotReached.NotReached, Halving.IsHalving, Halving.StopsAt}
-use Rattle.error_certifier.specs.declared.certifier.NotReached.TheVariants.{Cell, LeafLimit, Memory}
+use Rattle.error_certifier.specs.{declared.certifier.NotReached.NotReached, Halving.IsHalvingFor, Halving.StopsFor}
+use Rattle.error_certifier.specs.Halving.{IsHalving, StopsAt, one_for_all}
+use Rattle.error_certifier.specs.declared.certifier.NotReached.TheVariants.{Cell, LeafLimit, Memory, Outputs}
 
 -- the certificate of the halving, or why it stops
-abbrev pub IsAnswer : CertKind → Block → ℕ → ℕ → Result Cert NotReached → Type 0
-IsAnswer k b h target (Ok cert) = IsHalving k b h target cert
-IsAnswer k b h target (Err stop) = StopsAt k b h target stop
+abbrev pub IsAnswerFor : CertKind → Block → ℕ → List ℕ → Result Cert NotReached → Type 0
+IsAnswerFor k b h targets (Ok cert) = IsHalvingFor k b h targets cert
+IsAnswerFor k b h targets (Err stop) = StopsFor k b h targets stop
 
--- a block has at most one answer for a target
-abbrev pub AnswersAreOne : Type 0
-AnswersAreOne =
-    (k : CertKind) (b : Block) (h target : ℕ) (x y : Result Cert NotReached) → IsValid b
-    → IsAnswer k b h target x → IsAnswer k b h target y → x ≡ y
+-- a block has at most one answer for its targets
+abbrev pub AnswersForTargetsAreOne : Type 0
+AnswersForTargetsAreOne =
+    (k : CertKind) (b : Block) (h : ℕ) (targets : List ℕ) (x y : Result Cert NotReached) → IsValid b
+    → IsAnswerFor k b h targets x → IsAnswerFor k b h targets y → x ≡ y
 
--- the certificate of a halving is one of its kind, and claims no error above the target
-abbrev pub HalvingsAreWithinTheirTarget : Type 0
-HalvingsAreWithinTheirTarget =
-    (k : CertKind) (b : Block) (h target : ℕ) (cert : Cert) → IsValid b → IsHalving k b h target cert
-    → IsCert k cert × All (λ error. error ≤ target) cert.claims
+-- each error is at most its output's target
+abbrev pub AreWithin : List ℕ → List ℕ → Type 0
+AreWithin targets errors = (k e : ℕ) → slice_get errors k ≡ Some e → e ≤ slice_index targets k
+
+-- the certificate of a halving is one of its kind, and claims no error above its target
+abbrev pub HalvingsAreWithinTheirTargets : Type 0
+HalvingsAreWithinTheirTargets =
+    (k : CertKind) (b : Block) (h : ℕ) (targets : List ℕ) (cert : Cert) → IsValid b → IsHalvingFor k b h targets cert
+    → IsCert k cert × AreWithin targets cert.claims
 
 -- the certificates that a stop speaks of: of the named kind those that name rules, of the tight kind all
 abbrev pub IsComparable : CertKind → Cert → Type 0
@@ -38,17 +44,37 @@ IsLeastError k b h o n =
     → slice_get errors (o - 1) ≡ Some e → n ≤ e
 
 -- a cell at which halving stops is out of reach for every such certificate
-pub record IsOutOfReach (k : CertKind) (b : Block) (h target o n : ℕ) : Type 0 where
-  pub above : target < n
+pub record IsOutOfReach (k : CertKind) (b : Block) (h : ℕ) (targets : List ℕ) (o n : ℕ) : Type 0 where
+  pub above : number_of targets o < n
   pub least : IsLeastError k b h o n
 
 -- what a stop says of other certificates: a limit says nothing
-abbrev pub SaysOutOfReach : CertKind → Block → ℕ → ℕ → NotReached → Type 0
-SaysOutOfReach k b h target (Cell bytes o n) = IsOutOfReach k b h target o n
-SaysOutOfReach k b h target LeafLimit = Unit {0}
-SaysOutOfReach k b h target Memory = Unit {0}
+abbrev pub SaysOutOfReachFor : CertKind → Block → ℕ → List ℕ → NotReached → Type 0
+SaysOutOfReachFor k b h targets (Cell bytes o n) = IsOutOfReach k b h targets o n
+SaysOutOfReachFor k b h targets LeafLimit = Unit {0}
+SaysOutOfReachFor k b h targets Memory = Unit {0}
+SaysOutOfReachFor k b h targets (Outputs given outputs) = Unit {0}
 
 abbrev pub CellsAreOutOfReach : Type 0
 CellsAreOutOfReach =
-    (k : CertKind) (b : Block) (h target : ℕ) (stop : NotReached) → IsValid b → 1 ≤ h → StopsAt k b h target stop
-    → SaysOutOfReach k b h target stop
+    (k : CertKind) (b : Block) (h : ℕ) (targets : List ℕ) (stop : NotReached) → IsValid b → 1 ≤ h → StopsFor k b h targets stop
+    → SaysOutOfReachFor k b h targets stop
+
+-- ---- with one target for all outputs
+
+abbrev pub SaysOutOfReach : CertKind → Block → ℕ → ℕ → NotReached → Type 0
+SaysOutOfReach k b h target stop = SaysOutOfReachFor k b h (one_for_all b target) stop
+
+abbrev pub IsAnswer : CertKind → Block → ℕ → ℕ → Result Cert NotReached → Type 0
+IsAnswer k b h target answer = IsAnswerFor k b h (one_for_all b target) answer
+
+abbrev pub AnswersAreOne : Type 0
+AnswersAreOne =
+    (k : CertKind) (b : Block) (h target : ℕ) (x y : Result Cert NotReached) → IsValid b
+    → IsAnswer k b h target x → IsAnswer k b h target y → x ≡ y
+
+-- the certificate of a halving is one of its kind, and claims no error above the target
+abbrev pub HalvingsAreWithinTheirTarget : Type 0
+HalvingsAreWithinTheirTarget =
+    (k : CertKind) (b : Block) (h target : ℕ) (cert : Cert) → IsValid b → IsHalving k b h target cert
+    → IsCert k cert × All (λ error. error ≤ target) cert.claims

@@ -1,3 +1,4 @@
+pub mod Targets
 pub mod Halving
 pub mod Trees
 pub mod Laws

@@ -7,49 +7,60 @@ use Rattle.error_bound.specs.{declared.boxes.Interval.Interval, Reaches.IsBlockT
 use Rattle.box_tree.specs.declared.{cert.CertKind.CertKind, cert.Node.Node}
 use Rattle.box_tree.specs.Certificates.{IsPair, IsLeaf, IsNode}
 use Rattle.cert_check.specs.{Trees.Part, Trees.part_of, Trees.IsTree, Acceptance.HasBound, Walks.AreBounds}
+use Rattle.error_certifier.specs.Targets.{AreTargets}
 use Rattle.error_certifier.specs.declared.{leaves.FoundLeaf.FoundLeaf, halving.Task.Task, halving.Tree.Tree}
-use Rattle.error_certifier.specs.Halving.{IsWithinTarget, IsSettled, IsAbove, IsLarge, IsWidest, Halves}
+use Rattle.error_certifier.specs.declared.leaves.Piece.{Piece}
+use Rattle.error_certifier.specs.declared.leaves.Piece.TheVariants as piece
+use Rattle.error_certifier.specs.Halving.{IsWithinTarget, IsSettled, IsAbove, IsLarge, IsWidest, Halves, counted}
 
--- the pair and the Bound at a place are those of the output's best leaf, which is within the target
-pub record IsBestPair (b : Block) (h target : ℕ) (box : List Interval) (k : ℕ) (x : Output) (pairs : List (ℕ × ℕ))
+-- the pair and the Bound at a place are those of the output's best leaf, which is within its target
+pub record IsBestPair (b : Block) (h : ℕ) (targets : List ℕ) (box : List Interval) (k : ℕ) (x : Output) (pairs : List (ℕ × ℕ))
     (bounds : List ℕ) : Type 0 where
   pub pair : ℕ × ℕ
   pub bound : ℕ
   pub pair_is : slice_get pairs k ≡ Some pair
   pub bound_is : slice_get bounds k ≡ Some bound
-  pub within : IsWithinTarget b h target box (k + 1) x (record { rule = pair.0; k = pair.1 }) bound
+  pub within : IsWithinTarget b h (slice_index targets k) box (k + 1) x (record { rule = pair.0; k = pair.1 }) bound
 
 -- of each output
-pub record AreBestPairs (b : Block) (h target : ℕ) (box : List Interval) (pairs : List (ℕ × ℕ)) (bounds : List ℕ)
+pub record AreBestPairs (b : Block) (h : ℕ) (targets : List ℕ) (box : List Interval) (pairs : List (ℕ × ℕ)) (bounds : List ℕ)
     : Type 0 where
   pub count : length pairs ≡ length b.outputs
-  pub each : (k : ℕ) (x : Output) → slice_get b.outputs k ≡ Some x → IsBestPair b h target box k x pairs bounds
+  pub each : (k : ℕ) (x : Output) → slice_get b.outputs k ≡ Some x → IsBestPair b h targets box k x pairs bounds
   pub good : All IsPair pairs
 
--- these are the tight Bounds of the box, each at its output's place, all within the target
-abbrev pub AreTightBounds : Block → ℕ → ℕ → List Interval → List ℕ → Type 0
-AreTightBounds b h target box bounds =
+-- these are the tight Bounds of the box, each at its output's place, each within its target
+abbrev pub AreTightBounds : Block → ℕ → List ℕ → List Interval → List ℕ → Type 0
+AreTightBounds b h targets box bounds =
     (k : ℕ) (x : Output) → slice_get b.outputs k ≡ Some x
-    → IsTightBound b box (k + 1) x h (slice_index bounds k) × (slice_index bounds k ≤ target)
+    → IsTightBound b box (k + 1) x h (slice_index bounds k) × (slice_index bounds k ≤ slice_index targets k)
 
--- the box is a leaf of this form, with these Bounds, all within the target
-pub record IsFoundLeaf (kind : CertKind) (b : Block) (h target : ℕ) (box : List Interval) (found : FoundLeaf) : Type 0
+-- the box is a leaf of this form, with these Bounds, each within its target
+pub record IsFoundLeaf (kind : CertKind) (b : Block) (h : ℕ) (targets : List ℕ) (box : List Interval) (found : FoundLeaf) : Type 0
   where
-    pub settled : IsSettled kind b h target box found.form
+    pub settled : IsSettled kind b h targets box found.form
     pub good : IsLeaf kind (length b.outputs) found.form
     pub bounds : AreBounds b h (part_of box found.form) found.bounds
-    pub within : (k : ℕ) → k < length b.outputs → slice_index found.bounds k ≤ target
+    pub within : (k : ℕ) → k < length b.outputs → slice_index found.bounds k ≤ slice_index targets k
 
--- or it is to be cut somewhere
-pub record IsSplit (kind : CertKind) (b : Block) (h target : ℕ) (box : List Interval) : Type 0 where
-  pub above : IsAbove kind b h target box
-  pub large : IsLarge kind box
-  pub wide : (k : ℕ) (v : Interval) → IsWidest box k v → v.from < v.to
+-- or it is to be cut in the interval v, which is at place k
+pub record IsSplit (kind : CertKind) (b : Block) (h : ℕ) (targets : List ℕ) (box : List Interval) (k : ℕ) (v : Interval)
+    : Type 0 where
+  pub above : IsAbove kind b h targets box
+  pub large : IsLarge kind b box
+  pub is_at : slice_get box k ≡ Some v
+  pub widest : IsWidest (counted kind b box) k v
+  pub wide : v.from < v.to
+
+-- one of the two
+abbrev pub IsPiece : CertKind → Block → ℕ → List ℕ → List Interval → Piece → Type 0
+IsPiece kind b h targets box (piece.Leaf found) = IsFoundLeaf kind b h targets box found
+IsPiece kind b h targets box (piece.Cut place interval) = IsSplit kind b h targets box place interval
 
 pub record IsTask (task : Task) : Type 0 where
   pub valid : IsValid task.block.now
   pub table : IsBlockTable task.block.now task.table
-  pub target : task.target ≤ 1000000
+  pub targets : AreTargets task.block.now task.targets.items
   pub parts_from : 1 ≤ task.parts
   pub parts_to : task.parts ≤ 256
 
@@ -58,7 +69,7 @@ pub record IsTreeFor (b : Block) (tree : Tree) : Type 0 where
   pub errors : length tree.errors.items ≡ length b.outputs
   pub leaves : tree.leaves ≤ 4096
 
--- an output's error rises to the greatest Bound of the leaves, all within the target
+-- an output's error rises to the greatest Bound of the leaves, each within its target
 pub record RisesTo (b : Block) (h target : ℕ) (o : ℕ) (x : Output) (parts : List Part) (old new : ℕ) : Type 0 where
   pub rises : old ≤ new
   pub within : old ≤ target → new ≤ target
@@ -66,13 +77,13 @@ pub record RisesTo (b : Block) (h target : ℕ) (o : ℕ) (x : Output) (parts : 
   pub some : (new ≡ old) ⊎ Any (λ p. HasBound b o x h p new) parts
 
 -- the tree grows by a box's nodes, which are a tree over it
-pub record Grows (kind : CertKind) (b : Block) (h target : ℕ) (box : List Interval) (old new : Tree) : Type 0 where
+pub record Grows (kind : CertKind) (b : Block) (h : ℕ) (targets : List ℕ) (box : List Interval) (old new : Tree) : Type 0 where
   pub added : List Node
   pub parts : List Part
   pub nodes : new.nodes.items ≡ old.nodes.items ++ added
-  pub halves : Halves kind b h target box old.leaves added new.leaves
+  pub halves : Halves kind b h targets box old.leaves added new.leaves
   pub tree : (rest : List Node) → IsTree box (added ++ rest) parts rest
   pub good : All (IsNode kind (length b.outputs)) added
   pub count : length new.errors.items ≡ length old.errors.items
   pub errors : (k : ℕ) (x : Output) → slice_get b.outputs k ≡ Some x
-      → RisesTo b h target (k + 1) x parts (slice_index old.errors.items k) (slice_index new.errors.items k)
+      → RisesTo b h (slice_index targets k) (k + 1) x parts (slice_index old.errors.items k) (slice_index new.errors.items k)

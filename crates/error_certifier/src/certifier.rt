@@ -3,10 +3,13 @@ ghost use Rattle.std.specs.Prelude.{◌≢◌, ◌≤◌, All, IfOk, IfErr};
 ghost use Rattle.fuzzy_meaning.specs.Blocks.{IsValid};
 ghost use Rattle.box_tree.specs.{declared.cert.CertKind.TheVariants.Named, Certificates.IsCert};
 ghost use Rattle.byte_scaling.specs.Widths.{parts as parts_of};
-ghost use Rattle.error_certifier.specs.{Halving.IsHalving, Halving.StopsAt, Laws.SaysOutOfReach};
+ghost use Rattle.error_certifier.specs.{Halving.IsHalving, Halving.StopsAt, Laws.SaysOutOfReach, Laws.AreWithin};
+ghost use Rattle.error_certifier.specs.{Halving.IsHalvingFor, Halving.StopsFor, Laws.SaysOutOfReachFor};
+ghost use Rattle.error_certifier.specs.Targets.{AreTargets, targets_of};
 
 use crate::halving::{Task, Tree};
 use crate::laws::cells_are_out_of_reach;
+use crate::targets::Targets;
 use arrayvec::ArrayVec;
 use box_tree::laws::open_boxes_go_on;
 use box_tree::{Cert, CertKind};
@@ -20,7 +23,7 @@ use thiserror::Error;
 /// Why halving gives no certificate.
 #[derive(Clone, PartialEq, Eq, Debug, Drop, Error)]
 pub enum NotReached {
-    /// The bytes of a cell, one for each input, the first output, from 1, that is above the target
+    /// The bytes of a cell, one for each input, the first output, from 1, that is above its target
     /// there, and the Bound of its best leaf in millionths of its range, or 1000001 where it has none.
     /// With tight leaves it is the first such cell of a box of at most 64.
     #[error("on a cell output {1} has a Bound of {2}")]
@@ -28,13 +31,16 @@ pub enum NotReached {
     /// More than 4096 leaves would be needed. Another certificate may have fewer.
     #[error("more than 4096 leaves")]
     LeafLimit,
+    /// So many targets were given for a block of so many outputs.
+    #[error("{0} targets for {1} outputs")]
+    Outputs(u8, u8),
     /// There was no memory for the certificate, or for what boxes need of the block.
     #[error("no memory")]
     Memory,
 }
 
-/// The certificate that halving gives for a target, in millionths of each output's range, for answers
-/// that are bytes.
+/// The certificate that halving gives for one target for all outputs, in millionths of each output's range,
+/// for answers that are bytes.
 pub fn certify(alloc: Global, block: &Block, target: u32) -> Result<Cert, NotReached>
     requires block { IsValid block.now }
     requires target { target ≤ 1000000 }
@@ -60,7 +66,7 @@ pub fn certify16(alloc: Global, block: &Block, target: u32) -> Result<Cert, NotR
     certify_for(alloc, block, target, CertKind::Named, Width::Word)
 }
 
-/// The certificate of this kind that halving gives for a target, for answers of this width.
+/// The certificate of this kind that halving gives for one target for all outputs, for answers of this width.
 pub fn certify_for(
     alloc: Global,
     block: &Block,
@@ -77,30 +83,56 @@ pub fn certify_for(
         (λ stop. stop ≢ NotReached.Memory → StopsAt kind block.now (parts_of answers) target stop) }
     ensures out_of_reach { IfErr result (SaysOutOfReach kind block.now (parts_of answers) target) }
 {
-    certified(alloc, kind, block, target, answers.parts())
+    certify_each(alloc, block, &Targets::All(target), kind, answers)
 }
 
-/// The same for answers in so many parts to a byte.
+/// The same for a target for each output.
+pub fn certify_each(
+    alloc: Global,
+    block: &Block,
+    targets: &Targets,
+    kind: CertKind,
+    answers: Width,
+) -> Result<Cert, NotReached>
+    requires block { IsValid block.now }
+    requires targets { All (λ target. target ≤ 1000000) (targets_of block.now targets.now) }
+    ensures halved { IfOk result (IsHalvingFor kind block.now (parts_of answers) (targets_of block.now targets.now)) }
+    ensures within { IfOk result (λ cert. AreWithin (targets_of block.now targets.now) cert.claims) }
+    ensures cert { IfOk result (IsCert kind) }
+    ensures stops { IfErr result (λ stop. stop ≢ NotReached.Memory
+        → StopsFor kind block.now (parts_of answers) (targets_of block.now targets.now) stop) }
+    ensures out_of_reach { IfErr result
+        (SaysOutOfReachFor kind block.now (parts_of answers) (targets_of block.now targets.now)) }
+{
+    let numbers = targets.numbers(block.outputs.len());
+    if numbers.len() != block.outputs.len() {
+        return Err(NotReached::Outputs(numbers.len() as u8, block.outputs.len() as u8));
+    }
+    certified(alloc, kind, block, numbers, answers.parts())
+}
+
+/// The same for a number for each output, and for answers in so many parts to a byte.
 fn certified(
     alloc: Global,
     kind: CertKind,
     block: &Block,
-    target: u32,
+    targets: ArrayVec<u32, 4>,
     parts: u16,
 ) -> Result<Cert, NotReached>
     requires block { IsValid block.now }
-    requires target { target ≤ 1000000 }
+    requires targets { AreTargets block.now targets.items }
     requires parts_from { 1 ≤ parts }
     requires parts_to { parts ≤ 256 }
-    ensures halved { IfOk result (IsHalving kind block.now parts target) }
-    ensures within { IfOk result (λ cert. All (λ error. error ≤ target) cert.claims) }
+    ensures halved { IfOk result (IsHalvingFor kind block.now parts targets.items) }
+    ensures within { IfOk result (λ cert. AreWithin targets.items cert.claims) }
     ensures cert { IfOk result (IsCert kind) }
-    ensures stops { IfErr result (λ stop. stop ≢ NotReached.Memory → StopsAt kind block.now parts target stop) }
-    ensures out_of_reach { IfErr result (SaysOutOfReach kind block.now parts target) }
+    ensures stops { IfErr result
+        (λ stop. stop ≢ NotReached.Memory → StopsFor kind block.now parts targets.items stop) }
+    ensures out_of_reach { IfErr result (SaysOutOfReachFor kind block.now parts targets.items) }
 {
     cells_are_out_of_reach();
     open_boxes_go_on();
-    let Ok(task) = Task::new(alloc, kind, block, target, parts) else {
+    let Ok(task) = Task::new(alloc, kind, block, targets, parts) else {
         return Err(NotReached::Memory);
     };
     let Ok(mut tree) = Tree::new(alloc, block.outputs.len()) else {

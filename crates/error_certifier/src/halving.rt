@@ -1,18 +1,19 @@
 //! Halving, box by box.
 ghost use Rattle.std.specs.Prelude.{◌≡◌, ◌≢◌, ◌≤◌, ◌<◌, ◌+◌, ◌++◌, ◌∷◌, ℕ, [], length, replicate, OnOk, IfOk, IfErr};
-ghost use Rattle.std.specs.Prelude.{MatchOption};
 ghost use Rattle.fuzzy_meaning.specs.Blocks.{IsValid};
 ghost use Rattle.error_bound.specs.{Boxes.IsBoxOf, Reaches.IsTable};
 ghost use Rattle.box_tree.specs.declared.cert.CertKind.TheVariants as kind;
 ghost use Rattle.box_tree.specs.declared.cert.Node.TheVariants as node;
 ghost use Rattle.cert_check.specs.Walks.{AreRaised};
-ghost use Rattle.error_certifier.specs.Halving.{Stops, IsAbove};
-ghost use Rattle.error_certifier.specs.Trees.{IsTask, IsTreeFor, IsFoundLeaf, IsSplit, Grows};
+ghost use Rattle.error_certifier.specs.{Halving.Stops, Halving.IsAbove, Targets.AreTargets};
+ghost use Rattle.error_certifier.specs.Trees.{IsTask, IsTreeFor, IsPiece, Grows};
 
 use crate::boxes::{middle, widest};
 use crate::certifier::NotReached;
-use crate::leaves::{FoundLeaf, best_leaf, tight_bounds};
+use crate::leaves::{FoundLeaf, Piece, best_leaf, tight_bounds};
+use arrayvec::ArrayVec;
 use box_tree::{Cert, CertKind, LeafForm, Node};
+use cell_bounds::laws::narrowed_boxes_stand_for_all;
 use cell_bounds::{cells_bounds, has_few_cells, low_bytes};
 use cert_check::laws::cuts_have_halves;
 use cert_check::{halves, raise};
@@ -24,14 +25,15 @@ use std::alloc::{AllocError, Global};
 /// The most leaves that a certificate has.
 const MOST_LEAVES: u16 = 4096;
 
-/// What is halved, and for which target.
+/// What is halved, and for which targets.
 #[derive(Drop)]
 pub(crate) struct Task<'a> {
     kind: CertKind,
     block: &'a Block,
     /// What all boxes need of the block.
     pub(crate) table: BlockTable,
-    target: u32,
+    /// One for each output.
+    targets: ArrayVec<u32, 4>,
     /// How many parts an answer has to a byte.
     parts: u16,
 }
@@ -50,17 +52,17 @@ impl<'a> Task<'a> {
         alloc: Global,
         kind: CertKind,
         block: &'a Block,
-        target: u32,
+        targets: ArrayVec<u32, 4>,
         parts: u16,
     ) -> Result<Task<'a>, AllocError>
         requires block { IsValid block.now }
-        requires target { target ≤ 1000000 }
+        requires targets { AreTargets block.now targets.items }
         requires parts_from { 1 ≤ parts }
         requires parts_to { parts ≤ 256 }
         ensures task { IfOk result IsTask }
         ensures kind { IfOk result (λ task. task.kind ≡ kind) }
         ensures block { IfOk result (λ task. task.block.now ≡ block.now) }
-        ensures target { IfOk result (λ task. task.target ≡ target) }
+        ensures targets { IfOk result (λ task. task.targets.items ≡ targets.items) }
         ensures parts { IfOk result (λ task. task.parts ≡ parts) }
     {
         let table = BlockTable::new(alloc, block)?;
@@ -68,7 +70,7 @@ impl<'a> Task<'a> {
             kind,
             block,
             table,
-            target,
+            targets,
             parts,
         })
     }
@@ -87,18 +89,17 @@ impl<'a> Task<'a> {
         requires tree { IsTreeFor self.now.block.now tree.old }
         ensures table { IsTable self.now.block.now table.new }
         ensures tree { OnOk result (IsTreeFor self.now.block.now tree.new) }
-        ensures grows { OnOk result (Grows self.now.kind self.now.block.now self.now.parts self.now.target bytes.0.items
+        ensures grows { OnOk result (Grows self.now.kind self.now.block.now self.now.parts self.now.targets.items bytes.0.items
             tree.old tree.new) }
         ensures stops { IfErr result (λ stop. stop ≢ NotReached.Memory → Stops self.now.kind self.now.block.now
-            self.now.parts self.now.target bytes.0.items tree.old.leaves stop) }
+            self.now.parts self.now.targets.items bytes.0.items tree.old.leaves stop) }
     {
         cuts_have_halves();
-        match self.found(&bytes, table) {
-            Ok(Some(leaf)) => return tree.push_leaf(leaf),
-            Ok(None) => {}
+        let (place, interval) = match self.found(&bytes, table) {
+            Ok(Piece::Leaf(leaf)) => return tree.push_leaf(leaf),
+            Ok(Piece::Cut(place, interval)) => (place, interval),
             Err(stop) => return Err(stop),
-        }
-        let (place, interval) = widest(&bytes);
+        };
         let cut = middle(interval);
         if tree.nodes.push(Node::Split(place as u8 + 1, cut)).is_err() {
             return Err(NotReached::Memory);
@@ -108,17 +109,16 @@ impl<'a> Task<'a> {
         self.halve(right, table, tree)
     }
 
-    /// The leaf of a box, `None` where it is to be cut, or the cell that is above the target.
-    fn found(&self, bytes: &ByteBox, table: &mut BoxTable) -> Result<Option<FoundLeaf>, NotReached>
+    /// What becomes of a box, or the cell that is above a target.
+    fn found(&self, bytes: &ByteBox, table: &mut BoxTable) -> Result<Piece, NotReached>
         requires task { IsTask self.now }
         requires bytes { IsBoxOf self.now.block.now bytes.now.0.items }
         requires table { IsTable self.now.block.now table.old }
         ensures table { IsTable self.now.block.now table.new }
-        ensures found { IfOk result (λ found. MatchOption found
-            (IsSplit self.now.kind self.now.block.now self.now.parts self.now.target bytes.now.0.items)
-            (IsFoundLeaf self.now.kind self.now.block.now self.now.parts self.now.target bytes.now.0.items)) }
+        ensures piece { IfOk result
+            (IsPiece self.now.kind self.now.block.now self.now.parts self.now.targets.items bytes.now.0.items) }
         ensures stuck { IfErr result (λ stop. (n : ℕ) → Stops self.now.kind self.now.block.now self.now.parts
-            self.now.target bytes.now.0.items n stop) }
+            self.now.targets.items bytes.now.0.items n stop) }
     {
         table.move_to(self.block, bytes);
         match self.kind {
@@ -128,63 +128,70 @@ impl<'a> Task<'a> {
     }
 
     /// That of a table's box, for a certificate that names rules.
-    fn named_leaf(&self, table: &BoxTable) -> Result<Option<FoundLeaf>, NotReached>
+    fn named_leaf(&self, table: &BoxTable) -> Result<Piece, NotReached>
         requires task { IsTask self.now }
         requires table { IsTable self.now.block.now table.now }
-        ensures found { IfOk result (λ found. MatchOption found
-            (IsSplit kind.Named self.now.block.now self.now.parts self.now.target table.now.bytes.0.items)
-            (IsFoundLeaf kind.Named self.now.block.now self.now.parts self.now.target table.now.bytes.0.items)) }
+        ensures piece { IfOk result
+            (IsPiece kind.Named self.now.block.now self.now.parts self.now.targets.items table.now.bytes.0.items) }
         ensures stuck { IfErr result (λ stop. (n : ℕ) → Stops kind.Named self.now.block.now self.now.parts
-            self.now.target table.now.bytes.0.items n stop) }
+            self.now.targets.items table.now.bytes.0.items n stop) }
     {
-        match best_leaf(self.block, table, self.target, self.parts) {
-            Ok(leaf) => Ok(Some(leaf)),
+        match best_leaf(self.block, table, self.targets.as_slice(), self.parts) {
+            Ok(leaf) => Ok(Piece::Leaf(leaf)),
             Err(above) => {
-                let (_place, interval) = widest(&table.bytes);
+                let (place, interval) = widest(&table.bytes);
                 if interval.from == interval.to {
                     Err(NotReached::Cell(low_bytes(&table.bytes), above.place + 1, above.bound))
                 } else {
-                    Ok(None)
+                    Ok(Piece::Cut(place, interval))
                 }
             }
         }
     }
 
     /// The same for a tight certificate.
-    fn tight_leaf(&self, table: &BoxTable) -> Result<Option<FoundLeaf>, NotReached>
+    fn tight_leaf(&self, table: &BoxTable) -> Result<Piece, NotReached>
         requires task { IsTask self.now }
         requires table { IsTable self.now.block.now table.now }
-        ensures found { IfOk result (λ found. MatchOption found
-            (IsSplit kind.Tight self.now.block.now self.now.parts self.now.target table.now.bytes.0.items)
-            (IsFoundLeaf kind.Tight self.now.block.now self.now.parts self.now.target table.now.bytes.0.items)) }
+        ensures piece { IfOk result
+            (IsPiece kind.Tight self.now.block.now self.now.parts self.now.targets.items table.now.bytes.0.items) }
         ensures stuck { IfErr result (λ stop. (n : ℕ) → Stops kind.Tight self.now.block.now self.now.parts
-            self.now.target table.now.bytes.0.items n stop) }
+            self.now.targets.items table.now.bytes.0.items n stop) }
     {
-        match tight_bounds(self.block, table, self.target, self.parts) {
-            Ok(bounds) => Ok(Some(FoundLeaf {
+        match tight_bounds(self.block, table, self.targets.as_slice(), self.parts) {
+            Ok(bounds) => Ok(Piece::Leaf(FoundLeaf {
                 form: LeafForm::Tight,
                 bounds,
             })),
-            Err(_above) => self.cells_leaf(&table.bytes),
+            Err(_above) => self.cells_leaf(table),
         }
     }
 
-    /// That of a box where a tight leaf is above the target.
-    fn cells_leaf(&self, bytes: &ByteBox) -> Result<Option<FoundLeaf>, NotReached>
+    /// That of a table's box where a tight leaf is above a target.
+    fn cells_leaf(&self, table: &BoxTable) -> Result<Piece, NotReached>
         requires task { IsTask self.now }
-        requires bytes { IsBoxOf self.now.block.now bytes.now.0.items }
-        requires above { IsAbove kind.Tight self.now.block.now self.now.parts self.now.target bytes.now.0.items }
-        ensures found { IfOk result (λ found. MatchOption found
-            (IsSplit kind.Tight self.now.block.now self.now.parts self.now.target bytes.now.0.items)
-            (IsFoundLeaf kind.Tight self.now.block.now self.now.parts self.now.target bytes.now.0.items)) }
+        requires table { IsTable self.now.block.now table.now }
+        requires above { IsAbove kind.Tight self.now.block.now self.now.parts self.now.targets.items
+            table.now.bytes.0.items }
+        ensures piece { IfOk result
+            (IsPiece kind.Tight self.now.block.now self.now.parts self.now.targets.items table.now.bytes.0.items) }
         ensures stuck { IfErr result (λ stop. (n : ℕ) → Stops kind.Tight self.now.block.now self.now.parts
-            self.now.target bytes.now.0.items n stop) }
+            self.now.targets.items table.now.bytes.0.items n stop) }
     {
-        if !has_few_cells(bytes) {
-            return Ok(None);
+        narrowed_boxes_stand_for_all();
+        let narrow = table.narrowed(self.block);
+        if !has_few_cells(&narrow) {
+            let (place, interval) = widest(&narrow);
+            return Ok(Piece::Cut(place, interval));
         }
-        match cells_bounds(self.block, &self.table, bytes, self.parts, self.target) {
-            Ok(bounds) => Ok(Some(FoundLeaf {
+        match cells_bounds(
+            self.block,
+            &self.table,
+            &narrow,
+            self.parts,
+            self.targets.as_slice(),
+        ) {
+            Ok(bounds) => Ok(Piece::Leaf(FoundLeaf {
                 form: LeafForm::Cells,
                 bounds,
             })),

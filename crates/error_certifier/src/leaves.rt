@@ -1,5 +1,5 @@
 //! The leaf of a box, of either kind.
-ghost use Rattle.std.specs.Prelude.{◌≡◌, ◌≤◌, ◌<◌, ◌+◌, length, IfOk, IfErr, IfSome, Some, slice_get};
+ghost use Rattle.std.specs.Prelude.{◌≡◌, ◌≤◌, ◌<◌, ◌+◌, ℕ, length, IfOk, IfErr, IfSome, Some, slice_get, slice_index};
 ghost use Rattle.fuzzy_meaning.specs.{declared.block.Output.Output, Blocks.IsValid, Blocks.output_at};
 ghost use Rattle.error_bound.specs.{Reaches.IsTable, BestLeaves.IsBestBound, Tight.IsTightBound, Tight.IsTightCount};
 ghost use Rattle.box_tree.specs.declared.cert.CertKind.TheVariants.{Named, Tight};
@@ -10,44 +10,54 @@ ghost use Rattle.error_certifier.specs.Trees.{AreTightBounds, IsFoundLeaf};
 use arrayvec::ArrayVec;
 use box_tree::LeafForm;
 use error_bound::laws::{best_leaves_hold, faulty_leaves_fail};
-use error_bound::{BoxTable, Leaf};
+use error_bound::{BoxTable, Interval, Leaf};
 use fuzzy_meaning::Block;
 
-/// A leaf that is within the target: what its line says, and its Bound for each output at its place.
+/// A leaf that is within its targets: what its line says, and its Bound for each output at its place.
 #[derive(Drop)]
 pub(crate) struct FoundLeaf {
     pub(crate) form: LeafForm,
     pub(crate) bounds: [u32; 4],
 }
 
-/// The place of the first output whose best leaf is above the target, and that leaf's Bound.
+/// What becomes of a box.
+#[derive(Drop)]
+pub(crate) enum Piece {
+    /// A leaf.
+    Leaf(FoundLeaf),
+    /// It is to be cut in the interval at a place.
+    Cut(usize, Interval),
+}
+
+/// The place of the first output whose best leaf is above its target, and that leaf's Bound.
 #[derive(Clone, Copy)]
 pub(crate) struct Above {
     pub(crate) place: u8,
     pub(crate) bound: u32,
 }
 
-/// The leaf of a table's box that names its best leaves, if all are within the target.
+/// The leaf of a table's box that names its best leaves, if each is within its output's target.
 pub(crate) fn best_leaf(
     block: &Block,
     table: &BoxTable<'_>,
-    target: u32,
+    targets: &[u32],
     parts: u16,
 ) -> Result<FoundLeaf, Above>
     requires block { IsValid block.now }
     requires table { IsTable block.now table.now }
-    requires target { target ≤ 1000000 }
+    requires targets { length targets.now ≡ length block.now.outputs }
+    requires millionths { (k : ℕ) → slice_index targets.now k ≤ 1000000 }
     requires parts_from { 1 ≤ parts }
     requires parts_to { parts ≤ 256 }
-    ensures leaf { IfOk result (IsFoundLeaf Named block.now parts target table.now.bytes.0.items) }
+    ensures leaf { IfOk result (IsFoundLeaf Named block.now parts targets.now table.now.bytes.0.items) }
     ensures above { IfErr result
-        (λ a. IsFirstAbove Named block.now parts target table.now.bytes.0.items a.place a.bound) }
+        (λ a. IsFirstAbove Named block.now parts targets.now table.now.bytes.0.items a.place a.bound) }
 {
     best_leaves_hold();
     let mut pairs = ArrayVec::new();
     let mut bounds = [0; 4];
     for o in 0..block.outputs.len() {
-        match best_within(block, table, o as u8, target, parts) {
+        match best_within(block, table, o as u8, targets[o], parts) {
             Ok((leaf, bound)) => {
                 pairs.push((leaf.rule, leaf.k));
                 bounds[o] = bound;
@@ -66,25 +76,26 @@ pub(crate) fn best_leaf(
     })
 }
 
-/// The tight Bounds of a table's box, each at its output's place, if all are within the target.
+/// The tight Bounds of a table's box, each at its output's place, if each is within its output's target.
 pub(crate) fn tight_bounds(
     block: &Block,
     table: &BoxTable<'_>,
-    target: u32,
+    targets: &[u32],
     parts: u16,
 ) -> Result<[u32; 4], Above>
     requires block { IsValid block.now }
     requires table { IsTable block.now table.now }
-    requires target { target ≤ 1000000 }
+    requires targets { length targets.now ≡ length block.now.outputs }
+    requires millionths { (k : ℕ) → slice_index targets.now k ≤ 1000000 }
     requires parts_from { 1 ≤ parts }
     requires parts_to { parts ≤ 256 }
-    ensures bounds { IfOk result (AreTightBounds block.now parts target table.now.bytes.0.items) }
+    ensures bounds { IfOk result (AreTightBounds block.now parts targets.now table.now.bytes.0.items) }
     ensures above { IfErr result
-        (λ a. IsFirstAbove Tight block.now parts target table.now.bytes.0.items a.place a.bound) }
+        (λ a. IsFirstAbove Tight block.now parts targets.now table.now.bytes.0.items a.place a.bound) }
 {
     let mut bounds = [0; 4];
     for o in 0..block.outputs.len() {
-        match tight_within(block, table, o as u8, target, parts) {
+        match tight_within(block, table, o as u8, targets[o], parts) {
             Ok(bound) => bounds[o] = bound,
             Err(bound) => {
                 return Err(Above {
@@ -97,7 +108,7 @@ pub(crate) fn tight_bounds(
     Ok(bounds)
 }
 
-/// The tight Bound for the output at a place, if it is at most the target; else the Bound, which is
+/// The tight Bound for the output at a place, if it is at most a target; else the Bound, which is
 /// 1000001 where there is none.
 fn tight_within(
     block: &Block,
@@ -126,7 +137,7 @@ fn tight_within(
     }
 }
 
-/// The best leaf for the output at a place with its Bound, if that is at most the target; else the
+/// The best leaf for the output at a place with its Bound, if that is at most a target; else the
 /// Bound, which is 1000001 where there is no best leaf.
 fn best_within(
     block: &Block,

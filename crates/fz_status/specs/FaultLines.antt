@@ -159,12 +159,15 @@ cert_line (refusal.Text (cert.TooManyLeaves n)) = with_number (codes "cert: line
 cert_line (refusal.Text cert.Memory) = want_of_memory
 cert_line (refusal.Check f) = check_line f
 
--- halving stops at a cell, of which each byte stands behind a blank, or at the limit of leaves
+-- halving stops at a cell, of which each byte stands behind a blank, or at the limit of leaves, or another count of
+-- targets than of outputs was given
 abbrev pub not_reached_line : NotReached → List ℕ
 not_reached_line (stop.Cell bytes output bound) =
     codes "not reached: cell" ++ (flat_map behind_blank bytes.items ++ (codes " output " ++ (decimal output
     ++ (codes " bound " ++ (decimal bound ++ newline)))))
 not_reached_line stop.LeafLimit = codes "not reached: leaf limit" ++ newline
+not_reached_line (stop.Outputs given wanted) =
+    with_number (codes "not reached: outputs ") given (codes " " ++ decimal wanted)
 not_reached_line stop.Memory = want_of_memory
 
 -- ---- plans and runs

@@ -296,6 +296,9 @@ pub(crate) fn put_not_reached<F: Sink>(err: &mut F, fault: &NotReached) -> Resul
                 b" bound " Number *bound)
         }
         NotReached::LeafLimit => put_text(err, b"not reached: leaf limit"),
+        NotReached::Outputs(given, wanted) => {
+            write_line!(err; b"not reached: outputs " Number *given, b" " Number *wanted)
+        }
         NotReached::Memory => put_text(err, b"memory"),
     }
 }

@@ -1,6 +1,5 @@
-use Rattle.error_certifier.proofs.OneAnswer.{one_answer}
+use Rattle.error_certifier.specs.Halving.{one_for_all}
 use Rattle.error_certifier.proofs.laws.answers_are_one.Goals as goal
 
 pub returns : goal.returns
-returns c = one_answer c.errors_are_determined.ensures c.best_leaves_are_one.ensures c.box_counts_are_one.ensures
-    c.cell_counts_are_one.ensures c.cuts_have_halves.ensures
+returns c = λ k b h target x y. c.answers_for_targets_are_one.ensures k b h (one_for_all b target) x y

@@ -1,6 +1,9 @@
-use Rattle.error_certifier.proofs.TargetLemmas.{within_target}
+use Rattle.std.proofs.Common.{length}
+use Rattle.error_certifier.specs.Halving.{one_for_all}
+use Rattle.error_certifier.proofs.TargetLists.{within_one}
 use Rattle.error_certifier.proofs.laws.halvings_are_within_their_target.Goals as goal
 
 pub returns : goal.returns
-returns c = within_target c.cuts_have_halves.ensures c.claim_bounds_are_one.ensures c.tight_bounds_are_small.ensures
-    c.open_boxes_go_on.ensures
+returns c = λ k b h target cert valid halving.
+    let w = c.halvings_are_within_their_targets.ensures k b h (one_for_all b target) cert valid halving in
+    (w.0, within_one (length b.outputs) target cert.claims w.1)

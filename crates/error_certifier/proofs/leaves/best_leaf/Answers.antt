@@ -8,7 +8,7 @@ use Rattle.error_certifier.proofs.leaves.best_leaf.Goals as goal
 pub returns-in-Err-clause-above : goal.returns-in-Err-clause-above
 returns-in-Err-clause-above c =
     let i = c.loop-o.invariant in
-    above_behind c.args.block.now c.args.parts c.args.target c.args.table.now.bytes.0.items c.loop-o.pairs.items
+    above_behind c.args.block.now c.args.parts c.args.targets.now c.args.table.now.bytes.0.items c.loop-o.pairs.items
     c.loop-o.bounds c.loop-o.o
     c.in-Err.bound
     (omega (arith, c.loop-o-test.true, c.len-o-end.ensures)) i.each c.in-Err.ensures.above c.in-Err.ensures.bound
@@ -21,7 +21,7 @@ loop-o-preserved c =
     record {
       count = omega (arith, c.push.ensures.len, i.count);
       places = omega (arith, length-set c.loop-o.bounds c.loop-o.o c.in-Ok.bound, i.places);
-      each = pairs_more c.args.block.now c.args.parts c.args.target c.args.table.now.bytes.0.items c.loop-o.pairs.items
+      each = pairs_more c.args.block.now c.args.parts c.args.targets.now c.args.table.now.bytes.0.items c.loop-o.pairs.items
           c.push.new.self.items c.loop-o.bounds p c.in-Ok.bound c.loop-o.o c.push.ensures.items i.places
           (omega (arith, c.loop-o-test.true, c.len-o-end.ensures, few)) i.count i.each c.in-Ok.ensures.within;
       good = subst (λ (xs : List (ℕ × ℕ)). All IsPair xs) (sym c.push.ensures.items)
@@ -31,7 +31,7 @@ loop-o-preserved c =
 pub returns-clause-leaf : goal.returns-clause-leaf
 returns-clause-leaf c =
     let i = c.loop-o.invariant in
-    named_found c.best_leaves_hold.ensures c.args.block.now c.args.parts c.args.target c.args.table.now.bytes.0.items
+    named_found c.best_leaves_hold.ensures c.args.block.now c.args.parts c.args.targets.now c.args.table.now.bytes.0.items
     c.loop-o.pairs c.loop-o.bounds
     (record {
       count = omega (arith, i.count, c.loop-o-test.false, c.loop-o.auto.o-end, c.len-o-end.ensures);

@@ -10,6 +10,6 @@ invariant-loop-o l = record {
   count : length l.pairs.items ≡ l.o;
   places : length l.bounds ≡ 4;
   each : (k : ℕ) (x : Output) → k < l.o → slice_get l.block.outputs k ≡ Some x
-      → IsBestPair l.block l.parts l.target l.table.bytes.0.items k x l.pairs.items l.bounds;
+      → IsBestPair l.block l.parts l.targets l.table.bytes.0.items k x l.pairs.items l.bounds;
   good : All IsPair l.pairs.items;
 }

@@ -7,7 +7,7 @@ use Rattle.error_certifier.proofs.leaves.tight_bounds.Goals as goal
 
 pub returns-in-Err-clause-above : goal.returns-in-Err-clause-above
 returns-in-Err-clause-above c =
-    tight_above c.args.block.now c.args.parts c.args.target c.args.table.now.bytes.0.items c.loop-o.bounds c.loop-o.o
+    tight_above c.args.block.now c.args.parts c.args.targets.now c.args.table.now.bytes.0.items c.loop-o.bounds c.loop-o.o
     c.loop-o.invariant.filled c.in-Err.bound (omega (arith, c.loop-o-test.true, c.len-o-end.ensures))
     c.in-Err.ensures.above c.in-Err.ensures.count
 
@@ -21,7 +21,7 @@ loop-o-preserved c =
     let few = c.requires.block.few_outputs in
     record {
       places = omega (arith, length-set c.loop-o.bounds o n, i.places);
-      filled = AreFilled-more (IsTightAt b c.args.parts c.args.target box) b.outputs c.loop-o.bounds o n
+      filled = AreFilled-more (IsTightAt b c.args.parts c.args.targets.now box) b.outputs c.loop-o.bounds o n
           (omega (arith, c.loop-o-test.true, c.len-o-end.ensures, few, i.places)) i.filled
           (λ x e. (
             at_place b o x (λ (y : Output). IsTightBound b box (o + 1) y c.args.parts n) e c.in-Ok.ensures.bound,
@@ -31,5 +31,5 @@ loop-o-preserved c =
 
 pub returns-clause-bounds : goal.returns-clause-bounds
 returns-clause-bounds c =
-    tight_all c.args.block.now c.args.parts c.args.target c.args.table.now.bytes.0.items c.loop-o.bounds c.loop-o.o
+    tight_all c.args.block.now c.args.parts c.args.targets.now c.args.table.now.bytes.0.items c.loop-o.bounds c.loop-o.o
     c.loop-o.invariant.filled (omega (arith, c.loop-o-test.false, c.len-o-end.ensures))

@@ -6,5 +6,5 @@ use Rattle.error_certifier.proofs.leaves.tight_bounds.Given as goal
 abbrev pub invariant-loop-o : goal.invariant-loop-o
 invariant-loop-o l = record {
   places : length l.bounds ≡ 4;
-  filled : AreFilled (IsTightAt l.block l.parts l.target l.table.bytes.0.items) l.block.outputs l.bounds l.o;
+  filled : AreFilled (IsTightAt l.block l.parts l.targets l.table.bytes.0.items) l.block.outputs l.bounds l.o;
 }

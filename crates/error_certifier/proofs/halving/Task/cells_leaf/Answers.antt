@@ -1,25 +1,52 @@
+use Rattle.std.proofs.Common.{◌≡◌, ℕ, ◌≤◌, ◌+◌, ◌<◌, ◌∙◌, ap, sym, subst, List, length}
+use Rattle.std.specs.Prelude.{IfSome, slice_index}
+use Rattle.fuzzy_meaning.specs.Blocks.{output_at}
+use Rattle.error_bound.specs.{declared.boxes.Interval.Interval, Boxes.IsBox, Matters.narrowed}
+use Rattle.cell_bounds.specs.CellBounds.{IsCellsBound, IsFirstCellAbove, cell_count}
+use Rattle.cell_bounds.specs.Walks.{AreAtMost}
+use Rattle.error_certifier.specs.Halving.{IsWidest}
 use Rattle.error_certifier.proofs.HalveLemmas.{cells_found, cells_stuck, cells_split}
 use Rattle.error_certifier.proofs.halving.Task.cells_leaf.Goals as goal
 
-pub returns-then-not-has_few_cells-clause-found : goal.returns-then-not-has_few_cells-clause-found
-returns-then-not-has_few_cells-clause-found c =
+pub returns-then-not-has_few_cells-clause-piece : goal.returns-then-not-has_few_cells-clause-piece
+returns-then-not-has_few_cells-clause-piece c =
     let w = c.args.self.now in
-    cells_split w.block.now w.parts w.target c.args.bytes.now.0.items c.requires.bytes c.requires.above
+    let b = w.block.now in
+    let box = c.args.table.now.bytes.0.items in
+    let e = c.narrowed-narrow.ensures.narrowed in
+    cells_split b w.parts w.targets.items box c.widest-place.result.0 c.widest-place.result.1
+    (subst (λ (x : List Interval). IsBox x) e c.narrowed-narrow.ensures.bytes.intervals) c.requires.above
     (λ few.
-    let t = c.has_few_cells.ensures.1 few in
+    let t = c.has_few_cells.ensures.1 (subst (λ (x : List Interval). cell_count x ≤ 64) (sym e) few) in
     let f = c.if-not-has_few_cells.true in
     absurd (let z : ⊥ = cc in z))
+    (subst (λ (x : List Interval). IsWidest x c.widest-place.result.0 c.widest-place.result.1) e c.widest-place.ensures)
 
-pub returns-in-Ok-clause-found : goal.returns-in-Ok-clause-found
-returns-in-Ok-clause-found c =
+pub returns-in-Ok-clause-piece : goal.returns-in-Ok-clause-piece
+returns-in-Ok-clause-piece c =
     let w = c.args.self.now in
-    cells_found w.block.now w.parts w.target c.args.bytes.now.0.items c.in-Ok.bounds c.requires.task.valid
-    c.requires.above (c.has_few_cells.ensures.0 c.if-not-has_few_cells.false) c.in-Ok.ensures.bounds
-    c.in-Ok.ensures.within
+    let b = w.block.now in
+    let box = c.args.table.now.bytes.0.items in
+    let e = c.narrowed-narrow.ensures.narrowed in
+    cells_found b w.parts w.targets.items box c.in-Ok.bounds c.requires.task.targets c.requires.above
+    (subst (λ (x : List Interval). cell_count x ≤ 64) e (c.has_few_cells.ensures.0 c.if-not-has_few_cells.false))
+    (c.narrowed_boxes_stand_for_all.ensures b w.parts box c.requires.task.valid c.requires.table.box_is)
+    (subst (λ (x : List Interval). (k : ℕ) → k < length b.outputs → IfSome (output_at b (k + 1))
+    (λ y. IsCellsBound b x (k + 1) y w.parts (slice_index c.in-Ok.bounds k))) e c.in-Ok.ensures.bounds)
+    (subst (λ (ts : List ℕ). AreAtMost ts c.in-Ok.bounds) c.as_slice.ensures.value c.in-Ok.ensures.within)
 
 pub returns-in-Err-clause-stuck : goal.returns-in-Err-clause-stuck
 returns-in-Err-clause-stuck c =
     let w = c.args.self.now in
+    let b = w.block.now in
+    let box = c.args.table.now.bytes.0.items in
     let a = c.in-Err.above in
-    cells_stuck w.block.now w.parts w.target c.args.bytes.now.0.items c.requires.above
-    (c.has_few_cells.ensures.0 c.if-not-has_few_cells.false) a.bytes a.out a.bound c.in-Err.ensures.above
+    let e = c.narrowed-narrow.ensures.narrowed in
+    cells_stuck b w.parts w.targets.items box c.requires.above
+    (subst (λ (x : List Interval). cell_count x ≤ 64) e (c.has_few_cells.ensures.0 c.if-not-has_few_cells.false))
+    (c.narrowed_boxes_stand_for_all.ensures b w.parts box c.requires.task.valid c.requires.table.box_is)
+    a.bytes a.out a.bound
+    (subst (λ (x : List Interval). IsFirstCellAbove b w.parts w.targets.items 1 (length b.outputs) x a.bytes.items
+    a.out a.bound) e
+    (subst (λ (ts : List ℕ). IsFirstCellAbove b w.parts ts 1 (length b.outputs) c.narrowed-narrow.result.0.items
+    a.bytes.items a.out a.bound) c.as_slice.ensures.value c.in-Err.ensures.above))

@@ -1,7 +1,12 @@
+use Rattle.std.proofs.Common.{ℕ, List, subst}
+use Rattle.error_certifier.specs.Trees.{AreTightBounds}
 use Rattle.error_certifier.proofs.HalveLemmas.{tight_found}
 use Rattle.error_certifier.proofs.halving.Task.tight_leaf.Goals as goal
 
-pub returns-in-Ok-clause-found : goal.returns-in-Ok-clause-found
-returns-in-Ok-clause-found c =
+pub returns-in-Ok-clause-piece : goal.returns-in-Ok-clause-piece
+returns-in-Ok-clause-piece c =
     let w = c.args.self.now in
-    tight_found w.block.now w.parts w.target c.args.table.now.bytes.0.items c.in-Ok.bounds c.in-Ok.ensures.bounds
+    let box = c.args.table.now.bytes.0.items in
+    tight_found w.block.now w.parts w.targets.items box c.in-Ok.bounds
+    (subst (λ (ts : List ℕ). AreTightBounds w.block.now w.parts ts box c.in-Ok.bounds) c.as_slice.ensures.value
+    c.in-Ok.ensures.bounds)

@@ -1,0 +1,50 @@
+//! What the outputs' errors are to be at most.
+ghost use Rattle.std.specs.Prelude.{◌≡◌, ◌≤◌, replicate, length};
+ghost use Rattle.error_certifier.specs.Targets.{numbers_of};
+
+use arrayvec::ArrayVec;
+
+/// What the errors of a block's outputs are to be at most, in millionths of each output's range.
+#[derive(Drop)]
+pub enum Targets {
+    /// One number for all outputs.
+    All(u32),
+    /// One for each output, in order.
+    Each(ArrayVec<u32, 4>),
+}
+
+impl Targets {
+    /// The number of each of so many outputs, in order.
+    pub(crate) fn numbers(&self, outputs: usize) -> ArrayVec<u32, 4>
+        requires { outputs ≤ 4 }
+        ensures { result.items ≡ numbers_of outputs self.now }
+    {
+        match self {
+            Targets::All(number) => repeated(*number, outputs),
+            Targets::Each(numbers) => copy_of(numbers),
+        }
+    }
+}
+
+/// A number so many times.
+fn repeated(number: u32, times: usize) -> ArrayVec<u32, 4>
+    requires { times ≤ 4 }
+    ensures { result.items ≡ replicate times number }
+{
+    let mut numbers = ArrayVec::new();
+    for _time in 0..times {
+        numbers.push(number);
+    }
+    numbers
+}
+
+/// The same numbers again.
+fn copy_of(numbers: &ArrayVec<u32, 4>) -> ArrayVec<u32, 4>
+    ensures { result.items ≡ numbers.now.items }
+{
+    let mut copy = ArrayVec::new();
+    for number in numbers.as_slice() {
+        copy.push(*number);
+    }
+    copy
+}
