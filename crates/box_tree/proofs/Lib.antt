@@ -8,3 +8,5 @@ pub mod TreeLemmas
 pub mod ReadLemmas
 pub mod LawLemmas
 pub mod StopLemmas
+pub mod Searching
+pub mod JudgedLemmas

@@ -1,6 +1,6 @@
 -- What holds of every certificate's text.
 -- Beside the promise.
-use Rattle.std.specs.Prelude.{◌≡◌, ℕ, List, ◌++◌, Some}
+use Rattle.std.specs.Prelude.{◌≡◌, ◌⊎◌, ℕ, List, ◌++◌, Some}
 use Rattle.byte_scaling.specs.declared.width.Width.{Width}
 use Rattle.box_tree.specs.declared.{cert.CertKind.CertKind, cert.Node.Node}
 use Rattle.box_tree.specs.declared.{cert.Cert.Cert, cert.CertFault.CertFault}
@@ -21,6 +21,11 @@ FaultsAreOne = (k : CertKind) (v : Width) (text : List ℕ) (f g : CertFault) �
 abbrev pub CertTextsHaveNoFault : Type 0
 CertTextsHaveNoFault = (k : CertKind) (v : Width) (text : List ℕ) (cert : Cert) (f : CertFault)
     → CertText k v text cert → HasFault k v text f → ⊥
+
+-- and each text has the one or the other
+abbrev pub EachTextIsJudged : Type 0
+EachTextIsJudged = (k : CertKind) (v : Width) (text : List ℕ)
+    → ((cert : Cert) × CertText k v text cert) ⊎ ((f : CertFault) × HasFault k v text f)
 
 -- more nodes go on with the boxes that those before left open
 abbrev pub OpenBoxesGoOn : Type 0

@@ -1,5 +1,6 @@
 //! Laws of the definitions.
-ghost use Rattle.box_tree.specs.Laws.{CertsAreOne, FaultsAreOne, CertTextsHaveNoFault, OpenBoxesGoOn};
+ghost use Rattle.box_tree.specs.Laws.{CertsAreOne, CertTextsHaveNoFault, EachTextIsJudged, FaultsAreOne};
+ghost use Rattle.box_tree.specs.Laws.{OpenBoxesGoOn};
 
 /// A text has at most one certificate, of one kind and for answers of one width.
 pub fn certs_are_one()
@@ -14,6 +15,11 @@ pub fn faults_are_one()
 /// A text with a certificate has no fault.
 pub fn cert_texts_have_no_fault()
     ensures { CertTextsHaveNoFault }
+{}
+
+/// Each text has a certificate or a first fault.
+pub fn each_text_is_judged()
+    ensures { EachTextIsJudged }
 {}
 
 /// More nodes go on with the boxes that those before left open.

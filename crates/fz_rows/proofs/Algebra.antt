@@ -1,6 +1,7 @@
 -- Lists that are cut at one of their elements.
-use Rattle.std.proofs.Common.{arith, ◌≡◌, ◌<◌, ℕ, List, [], ◌∷◌, ◌++◌, length, refl, sym, ap, ◌∙◌, subst, inl, inr}
+use Rattle.std.proofs.Common.{arith, ◌≡◌, ◌<◌, ◌≤◌, ◌⊎◌, ℕ, List, [], ◌∷◌, ◌++◌, length, refl, sym, ap, ◌∙◌, subst, inl, inr}
 use Rattle.std.proofs.lemmas.Bool.{cases_lt}
+use Rattle.std.proofs.lemmas.List.{append-nil, append_assoc, length-append}
 
 -- of two cuts of a list, the element of the earlier stands before that of the later
 pub cut_within : {X : Type 0} (before : List X) (x : X) (after others : List X) (y : X) (rest : List X)
@@ -69,3 +70,24 @@ module _ {X F : Type 0} (Pass : List X → Type 0) (Fails : List X → X → F �
   one_first_failure most over xs f g (more_elements b x a cut l pass) (at_element c y d g' cut' m pass' fails') =
       absurd (none_fails_before c y d b x a g (sym cut' ∙ cut) (omega arith) fails' pass)
   one_first_failure most over xs f g (more_elements b x a cut l pass) (more_elements c y d cut' m pass') = refl
+
+-- where each element that stands behind a list that passes passes with it or fails, a list passes or fails first
+module _ {X F : Type 0} (Pass : List X → Type 0) (Fails : List X → X → F → Type 0) (most : ℕ) (over : F)
+    (judge : (before : List X) (x : X) → length before < most → Pass before
+    → Pass (before ++ x ∷ []) ⊎ ((f : F) × Fails before x f)) where
+  abbrev IsJudged : List X → Type 0
+  IsJudged xs = (Pass xs × (length xs ≤ most)) ⊎ ((f : F) × FailsFirst Pass Fails most over xs f)
+
+  judged_from : (before rest : List X) → length before ≤ most → Pass before → IsJudged (before ++ rest)
+  judged_from before [] few pass = subst IsJudged (sym (append-nil before)) (inl (pass, few))
+  judged_from before (x ∷ rest) few pass = elim (cases_lt (length before) most) [
+    | inl l ↦ elim (judge before x l pass) [
+      | inl more ↦ subst IsJudged (append_assoc before (x ∷ []) rest)
+          (judged_from (before ++ x ∷ []) rest (omega (arith, l, length-append before (x ∷ []))) more)
+      | inr fails ↦ inr (fails.0, at_element before x rest fails.0 refl l pass fails.1)
+    ]
+    | inr r ↦ inr (over, more_elements before x rest refl (omega (arith, r, few)) pass)
+  ]
+
+  pub judged : Pass [] → (xs : List X) → IsJudged xs
+  judged pass xs = judged_from [] xs (omega arith) pass

@@ -1,5 +1,5 @@
 -- The first rows of a text.
-use Rattle.std.proofs.Common.{arith, ◌≡◌, ◌⊎◌, inl, inr, ◌<◌, ◌≤◌, ◌-◌, ℕ, List, [], ◌∷◌, ◌++◌, length, map, refl, sym}
+use Rattle.std.proofs.Common.{arith, ◌≡◌, ◌⊎◌, inl, inr, ◌<◌, ◌≤◌, ◌-◌, ℕ, zero, suc, List, [], ◌∷◌, ◌++◌, length, map, refl, sym}
 use Rattle.std.proofs.Common.{◌∙◌, ap, subst, Bor}
 use Rattle.std.proofs.lemmas.Bool.{false≢true}
 use Rattle.std.proofs.lemmas.List.{map-append}
@@ -11,7 +11,8 @@ use Rattle.csv.specs.declared.error.ErrorKind.TheVariants as kind
 use Rattle.csv.specs.declared.parser.State.{State}
 use Rattle.csv.specs.declared.parser.State.TheVariants as st
 use Rattle.csv.specs.declared.reader.Reader.{Reader}
-use Rattle.fz_rows.specs.{FirstRows.AreFirstRows, FirstRows.Fields, FirstRows.is_want_of_memory, Laws.FirstRowsAreOne}
+use Rattle.fz_rows.specs.{FirstRows.AreFirstRows, FirstRows.Fields, FirstRows.is_want_of_memory, Laws.EachTextHasFirstRows}
+use Rattle.fz_rows.specs.Laws.{FirstRowsAreOne}
 
 some_none : {X : Type 0} {o : Option X} {x : X} → o ≡ Some x → o ≡ None → ⊥
 some_none {X} {o} {x} some none = let bad : Some x ≡ None = sym some ∙ none in cc
@@ -55,6 +56,45 @@ one_list_of k s s2 s3 xs ys zs (r ∷ rows) (r' ∷ rows') cut few enough cut' f
 pub one_list : FirstRowsAreOne
 one_list text rows others first other =
     one_list_of 10001 _ _ _ _ _ _ rows others first.cut first.few first.enough other.cut other.few other.enough
+
+-- the first rows from a state on: all of them, or k of more
+record FirstRowsFrom (k : ℕ) (s : State) (xs : List ℕ) : Type 0 where
+  rows : List Fields
+  state : State
+  rest : List ℕ
+  cut : Reached default_config s xs rows state rest
+  few : length rows ≤ k
+  enough : AreEnough k state rest rows
+
+first_rows_behind : (k : ℕ) (s : State) (xs : List ℕ) (o : Option Read) → next_record default_config s [] [] xs ≡ o
+    → ((p : Read) → FirstRowsFrom k p.1 p.2) → FirstRowsFrom (suc k) s xs
+unfolding Reached
+first_rows_behind k s xs None none behind =
+    record { rows = []; state = s; rest = xs; cut = (refl, refl); few = omega arith; enough = inl none }
+first_rows_behind k s xs (Some p) some behind =
+    let more = behind p in
+    record {
+      rows = p.0 ∷ more.rows;
+      state = more.state;
+      rest = more.rest;
+      cut = (p, some, refl, more.cut);
+      few = omega (arith, more.few);
+      enough = elim more.enough [ inl none ↦ inl none | inr full ↦ inr (omega (arith, full)) ];
+    }
+
+first_rows_from : (k : ℕ) (s : State) (xs : List ℕ) → FirstRowsFrom k s xs
+unfolding Reached
+first_rows_from zero s xs =
+    record { rows = []; state = s; rest = xs; cut = (refl, refl); few = omega arith; enough = inr refl }
+first_rows_from (suc k) s xs =
+    first_rows_behind k s xs (next_record default_config s [] [] xs) refl (λ p. first_rows_from k p.1 p.2)
+
+pub first_rows : EachTextHasFirstRows
+first_rows text =
+    let first = first_rows_from 10001 st.StartRecord (strip_bom text) in (
+      first.rows,
+      record { state = first.state; rest = first.rest; cut = first.cut; few = first.few; enough = first.enough },
+    )
 
 -- what a reader has given of a text is these rows, and what it has left is the rest
 abbrev pub HasRead : List ℕ → Reader (Bor (List ℕ)) → List Fields → Type 0

@@ -25,7 +25,7 @@ same_some {X} {o} {x} {y} one other = let e : Some x ≡ Some y = sym one ∙ ot
 
 -- ---- a row spells one entry
 
-numbers_one : (fields : Fields) (s m t n : ℕ) → HasNumbers fields s m → HasNumbers fields t n → (s ≡ t) × (m ≡ n)
+pub numbers_one : (fields : Fields) (s m t n : ℕ) → HasNumbers fields s m → HasNumbers fields t n → (s ≡ t) × (m ≡ n)
 numbers_one fields s m t n one other =
     let same : one.first_text ∷ one.second_text ∷ one.pairs ≡ other.first_text ∷ other.second_text ∷ other.pairs =
     sym one.fields_are ∙ other.fields_are in

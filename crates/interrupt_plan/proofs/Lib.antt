@@ -6,3 +6,5 @@ pub mod ByteLemmas
 pub mod LevelLemmas
 pub mod ApartLemmas
 pub mod UpsetLemmas
+pub mod JudgedLemmas
+pub mod JudgedUpsets

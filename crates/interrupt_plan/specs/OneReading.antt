@@ -1,6 +1,6 @@
--- A text spells entries or has a first fault, not both, and of each it has one.
+-- A text spells entries or has a first fault, and of these it has one and only one.
 -- Beside the promise.
-use Rattle.std.specs.Prelude.{◌≡◌, ℕ, List}
+use Rattle.std.specs.Prelude.{◌≡◌, ◌⊎◌, ℕ, List}
 use Rattle.interrupt_plan.specs.{Levels.LevelsHaveFault, Levels.SpellsLevels, Plans.HasFault, Plans.Spells}
 use Rattle.interrupt_plan.specs.declared.{PlanFault.PlanFault, levels.Level.Level, Post.Post, Request.Request}
 use Rattle.interrupt_plan.specs.declared.upsets.{Upset.Upset, UpsetFault.UpsetFault}
@@ -55,3 +55,20 @@ SpelledLevelsAreOne = (fast : ℕ) (text : List ℕ) (levels others : List Level
 abbrev pub SpelledUpsetsAreOne : Type 0
 SpelledUpsetsAreOne = (image : List (ℕ × ℕ)) (text : List ℕ) (upsets others : List Upset)
     → SpellsUpsets image text upsets → SpellsUpsets image text others → upsets ≡ others
+
+-- Each text spells a plan or has a first fault, and so with posts, with levels, and with upsets of an image.
+abbrev pub EachPlanTextIsJudged : Type 0
+EachPlanTextIsJudged = (text : List ℕ)
+    → ((plan : List Request) × Spells text plan) ⊎ ((fault : PlanFault) × HasFault text fault)
+
+abbrev pub EachPostsTextIsJudged : Type 0
+EachPostsTextIsJudged = (samples : ℕ) (text : List ℕ)
+    → ((posts : List Post) × SpellsPosts samples text posts) ⊎ ((fault : PlanFault) × PostsHaveFault samples text fault)
+
+abbrev pub EachLevelsTextIsJudged : Type 0
+EachLevelsTextIsJudged = (fast : ℕ) (text : List ℕ)
+    → ((levels : List Level) × SpellsLevels fast text levels) ⊎ ((fault : PlanFault) × LevelsHaveFault fast text fault)
+
+abbrev pub EachUpsetsTextIsJudged : Type 0
+EachUpsetsTextIsJudged = (image : List (ℕ × ℕ)) (text : List ℕ)
+    → ((upsets : List Upset) × SpellsUpsets image text upsets) ⊎ ((fault : UpsetFault) × HasUpsetFault image text fault)

@@ -1,4 +1,6 @@
 //! Laws of plans, each the contract of a function that does nothing.
+ghost use Rattle.interrupt_plan.specs.OneReading.{EachLevelsTextIsJudged, EachPlanTextIsJudged, EachPostsTextIsJudged};
+ghost use Rattle.interrupt_plan.specs.OneReading.{EachUpsetsTextIsJudged};
 ghost use Rattle.interrupt_plan.specs.OneReading.{LevelFaultsAreOne, PlanFaultsAreOne, PostFaultsAreOne};
 ghost use Rattle.interrupt_plan.specs.OneReading.{SpelledLevelsHaveNoFault, SpelledPlansHaveNoFault};
 ghost use Rattle.interrupt_plan.specs.OneReading.{SpelledLevelsAreOne, SpelledPlansAreOne, SpelledPostsAreOne};
@@ -51,4 +53,14 @@ pub fn spelled_entries_are_one()
     ensures upsets { SpelledUpsetsAreOne }
 {
     fz_rows::laws::first_rows_are_one();
+}
+
+/// Each text spells a plan or has a first fault, and so with posts, with levels, and with upsets of an image.
+pub fn each_text_is_judged()
+    ensures plans { EachPlanTextIsJudged }
+    ensures posts { EachPostsTextIsJudged }
+    ensures levels { EachLevelsTextIsJudged }
+    ensures upsets { EachUpsetsTextIsJudged }
+{
+    fz_rows::laws::each_text_has_first_rows();
 }

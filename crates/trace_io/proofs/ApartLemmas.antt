@@ -117,10 +117,10 @@ one_row_fault inputs n row f g (outside values i count are first) (outside other
     (subst (λ (vs : List Dec). IsFirstOutside inputs vs j) same first'))
 
 module _ (inputs : List Input) where
-  abbrev Pass : List Fields → Type 0
+  abbrev pub Pass : List Fields → Type 0
   Pass rows = (samples : List Sample) × SpellSamples inputs rows samples
 
-  abbrev Fails : List Fields → Fields → TraceFault → Type 0
+  abbrev pub Fails : List Fields → Fields → TraceFault → Type 0
   Fails before row fault = RowFails inputs (length before + 1) row fault
 
   fails_apart : (before : List Fields) (row : Fields) (after : List Fields) (fault : TraceFault)

@@ -146,7 +146,7 @@ module _ (inputs : List Input) (values : List Dec) (i : ℕ) (x : Input) (d0 : D
 
 -- ---- samples
 
-spell-snoc : (inputs : List Input) (rs : List Fields) (ss : List Sample) (r : Fields) (s : Sample)
+pub spell-snoc : (inputs : List Input) (rs : List Fields) (ss : List Sample) (r : Fields) (s : Sample)
     → SpellSamples inputs rs ss
     → SpellsSample inputs r s → SpellSamples inputs (rs ++ r ∷ []) (ss ++ s ∷ [])
 spell-snoc inputs [] [] r s so_far here = (here, tt)

@@ -1,6 +1,6 @@
--- A text is a trace or has a first fault, not both, and it has one.
+-- A text is a trace or has a first fault, and of these it has one and only one.
 -- Beside the promise.
-use Rattle.std.specs.Prelude.{◌≡◌, ℕ, List}
+use Rattle.std.specs.Prelude.{◌≡◌, ◌⊎◌, ℕ, List}
 use Rattle.fuzzy_meaning.specs.declared.block.Input.{Input}
 use Rattle.trace_io.specs.Traces.{HasFault, Spells}
 use Rattle.trace_io.specs.declared.{sample.Sample.Sample, sample.TraceFault.TraceFault}
@@ -14,3 +14,8 @@ SpelledTracesHaveNoFault = (inputs : List Input) (text : List ℕ) (samples : Li
 abbrev pub FirstFaultsAreOne : Type 0
 FirstFaultsAreOne = (inputs : List Input) (text : List ℕ) (fault other : TraceFault) → HasFault inputs text fault
     → HasFault inputs text other → fault ≡ other
+
+-- Each text spells samples or has a first fault.
+abbrev pub EachTextIsJudged : Type 0
+EachTextIsJudged = (inputs : List Input) (text : List ℕ)
+    → ((samples : List Sample) × Spells inputs text samples) ⊎ ((fault : TraceFault) × HasFault inputs text fault)
