@@ -1,10 +1,12 @@
 -- The runs of a list of samples go along with the runs without interrupts.
 use Rattle.std.proofs.Common.{◌≡◌, ℕ, suc, Bool, false, ◌&&◌, List, [], ◌∷◌, refl, ap₂, arith}
+use Rattle.std.specs.Prelude.{All}
+use Rattle.std.proofs.lemmas.List.Elements.{All-cons}
 use Rattle.cpu12_parts.specs.State.{State}
 use Rattle.cpu12_emul.specs.Simulation.{Marks}
 use Rattle.run_law.specs.Forms.{Form, Ran, run_from, RowSeen, row_of, rows_from}
 use Rattle.run_law.specs.Uninterrupted.{uninterrupted}
-use Rattle.run_law.specs.Following.{onto, Follows, expected_row, AllFollow, RunsFollow}
+use Rattle.run_law.specs.Following.{onto, IsOwned, Follows, expected_row, AllFollow, RunsFollow}
 use Rattle.run_law.proofs.{Grounds.Ground, Samples.run_follows_whole}
 
 one_row : {S A B : Type 0} (marks : Marks) (open_to : ℕ → Bool) (f : Form S A B) (P : State → Type 0)
@@ -32,6 +34,9 @@ one_row {S = S} {A = A} {B = B} marks open_to f P Good Own gr done asks most k n
       taken = ap₂ (λ (i : List A) (is : List (List A)). i ∷ is) b.taken more.taken;
       told = (b.told, more.told);
       simulates = (b.simulates, more.simulates);
+      boundaries = ap₂ (λ (i : ℕ) (is : List ℕ). i ∷ is) b.boundaries more.boundaries;
+      owns = All-cons (λ (ws : List State). All (IsOwned Own) ws) r.states
+          (rows_from f most asks (suc k) rest (f.leave x r.state)).states b.owns more.owns;
       last = more.last;
       own = more.own;
     }
@@ -41,7 +46,17 @@ pub runs_follow : (S A B : Type 0) (marks : Marks) (open_to : ℕ → Bool) (f :
     → RunsFollow marks open_to f P Good Own
 unfolding rows_from
 runs_follow S A B marks open_to f P Good Own gr asks ok done k most [] [] w s le gives go l own =
-    record { arrived = refl; rows_are = refl; taken = refl; told = tt; simulates = tt; last = l; own = own }
+    record {
+      arrived = refl;
+      rows_are = refl;
+      taken = refl;
+      told = tt;
+      simulates = tt;
+      boundaries = refl;
+      owns = λ j ws lt. absurd (omega arith);
+      last = l;
+      own = own;
+    }
 runs_follow S A B marks open_to f P Good Own gr asks ok done k most (n ∷ ns) [] w s le gives go l own = absurd go
 runs_follow S A B marks open_to f P Good Own gr asks ok done k most [] (x ∷ rest) w s le gives go l own = absurd go
 runs_follow S A B marks open_to f P Good Own gr asks ok done k most (n ∷ ns) (x ∷ rest) w s le gives go l own =

@@ -2,16 +2,18 @@
 use Rattle.std.proofs.Common.{◌≡◌, ℕ, zero, suc, ◌+◌, ◌<◌, ◌≤◌, Bool, true, false, not, ◌&&◌, nat_le, List, [], ◌∷◌}
 use Rattle.std.proofs.Common.{◌++◌, refl, ap, ap₂, sym, ◌∙◌, subst}
 use Rattle.std.proofs.Common.{arith, inl}
-use Rattle.std.specs.Prelude.{if◌then◌else◌}
+use Rattle.std.specs.Prelude.{All, if◌then◌else◌, length}
 use Rattle.std.proofs.lemmas.Bool.Decides.{nat_tests}
 use Rattle.std.proofs.lemmas.List.{map-append}
+use Rattle.std.proofs.lemmas.List.Elements.{All-cons}
 use Rattle.cpu12_parts.specs.State.{State}
 use Rattle.cpu12_emul.specs.{declared.ends.Stepped.Stepped, Step.next_of, Step.is_part}
 use Rattle.cpu12_emul.specs.{Take.FrameSeen, Take.may_interrupt, Simulation.Same, Simulation.Marks}
 use Rattle.run_law.specs.Forms.{Form, Taking, Ran, takes, one_if, is_empty, ended, before_rest, then_rest, run_from}
 use Rattle.run_law.specs.Uninterrupted.{stepped, state_by, uninterrupted, counted, is_inside, taken_at}
 use Rattle.run_law.specs.Soundness.{Before, AllSimulate, AllGood, Ascend}
-use Rattle.run_law.specs.Following.{onto, asked, IsToldIn, IsToldAt, EachTold, Completes, Follows, RunFollows}
+use Rattle.run_law.specs.Following.{onto, asked, IsToldIn, IsToldAt, EachTold, IsOwned, Completes, Follows}
+use Rattle.run_law.specs.Following.{RunFollows}
 use Rattle.run_law.proofs.{Grounds.Ground, Steps.StepFollows, Steps.step_follows}
 use Rattle.run_law.proofs.Takes.{simulates_loosely, settled_first}
 use Rattle.run_law.proofs.Boundaries.{Boundary, boundary, drop_due, taken_here, frames_here}
@@ -28,6 +30,8 @@ record Along {S A B : Type 0} (marks : Marks) (open_to : ℕ → Bool) (f : Form
   arrived : ran.arrived ≡ true
   last : Same open_to ran.state (uninterrupted f.flags n s)
   simulates : AllSimulate marks open_to f.flags ran.states s
+  boundaries : length ran.states ≡ suc n
+  owns : All (IsOwned Own) ran.states
   instrs : ran.instrs ≡ counted f.flags n s
   steps : ran.steps ≡ n
   resumed : ran.resumed ≡ resumed_along f.flags at m inside n qs s
@@ -108,6 +112,8 @@ at_end marks open_to f Own Told done at fuel m inside qs w s l e own = record {
   arrived = refl;
   last = l;
   simulates = (inl l, tt);
+  boundaries = refl;
+  owns = All-cons (IsOwned Own) w [] (done, own) (λ k d lt. absurd (omega arith));
   instrs = refl;
   steps = refl;
   resumed = refl;
@@ -149,6 +155,8 @@ one_more {S = S} {A = A} {B = B} marks open_to f Own Told done at n fuel m insid
       arrived = r.arrived;
       last = r.last;
       simulates = (b.simulates, r.simulates);
+      boundaries = ap suc r.boundaries;
+      owns = All-cons (IsOwned Own) t.state r.ran.states (onto t.told done, b.own) r.owns;
       instrs = ap₂ (λ (k : Stepped) (i : ℕ). one_if (not (is_part k)) + i) g.kind r.instrs;
       steps = ap suc r.steps;
       resumed = ap₂ (λ (fs : List (ℕ × FrameSeen)) (i : ℕ). one_if (inside && not (is_empty fs)) + i) frames
@@ -250,6 +258,8 @@ run_follows S A B marks open_to f P Good Own gr done m n all most qs w s le good
       left = r.left ∙ left_whole at m n all qs go.sum up;
       told = r.told;
       simulates = r.simulates;
+      boundaries = r.boundaries;
+      owns = r.owns;
       last = subst (λ (u : State). Same open_to r.ran.state u)
           (uninterrupted_more f.flags m n s ∙ ap (λ (k : ℕ). uninterrupted f.flags k s) go.sum) r.last;
       own = r.own;

@@ -14,7 +14,7 @@ use Rattle.cpu12_emul.specs.Simulation.{Same, Marks, OnStackOnly, OnStackOrNone,
 use Rattle.cpu12_emul.specs.Simulation.{HasRoom, IsShownStep}
 use Rattle.cpu12_emul.proofs.Algebra.{pushed_marked, marked_off}
 use Rattle.run_law.specs.Forms.{Form, taken, told}
-use Rattle.run_law.specs.Soundness.{below_sums, Begins, AreLeft, Quiet}
+use Rattle.run_law.specs.Soundness.{below_sums, Begins, AreLeft, Quiet, HandlersBegin}
 use Rattle.run_law.specs.{Uninterrupted.expected_frame, Following.IsToldIn, Steps.MachineLaws}
 use Rattle.run_law.proofs.Grounds.{Ground}
 
@@ -254,6 +254,12 @@ taken_any laws marks open_to first w s a k (inl l) = elim (temps_cases s.temps) 
     | inr off ↦ taken_off laws marks open_to first w s k l.0 off
   ]
 ]
+
+pub handlers_begin : MachineLaws → HandlersBegin
+unfolding Settled
+handlers_begin laws marks open_to w s a k (inl l) =
+    let t = taken_any laws marks open_to true w s a k (inl (l, inl refl)) in t.begins
+handlers_begin laws marks open_to w s a k (inr l) = let t = taken_parked laws marks open_to w s a k l in t.begins
 
 -- one interrupt
 pub record Took {S A B : Type 0} (marks : Marks) (open_to : ℕ → Bool) (f : Form S A B)

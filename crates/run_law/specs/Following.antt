@@ -1,6 +1,7 @@
 -- The law on runs: a run under requests follows the run without interrupts, for a sample and for a list of samples.
 -- Beside the promise.
-use Rattle.std.specs.Prelude.{◌≡◌, ℕ, suc, ◌+◌, ◌<◌, ◌≤◌, Bool, true, false, List, [], ◌∷◌, All, map}
+use Rattle.std.specs.Prelude.{◌≡◌, ℕ, suc, ◌+◌, ◌<◌, ◌≤◌, Bool, true, false, List, [], ◌∷◌, All, length}
+use Rattle.std.specs.Prelude.{map}
 use Rattle.cpu12_parts.specs.State.{State}
 use Rattle.run_law.specs.Forms.{Form, Ran, run_from, RowSeen, Rows, rows_from}
 use Rattle.run_law.specs.Uninterrupted.{uninterrupted, counted, is_inside, taken_at, taken_before, left_from}
@@ -38,6 +39,10 @@ abbrev pub EachTold : {C : Type 0} → (List C → C → Type 0) → List C → 
 EachTold Told done [] = Unit {0}
 EachTold Told done (t ∷ ts) = Told done t × EachTold Told (t ∷ done) ts
 
+-- what handlers own stands in a state, after some requests
+abbrev pub IsOwned : {C : Type 0} → (List C → State → Type 0) → State → Type 0
+IsOwned {C = C} Own w = (ts : List C) × Own ts w
+
 -- From boundary m of the run without interrupts n steps lead to boundary `all`, the form's end; P holds before each.
 pub record Completes {S A B : Type 0} (P : State → Type 0) (f : Form S A B) (m n all : ℕ) (s : State) : Type 0 where
   pub sum : m + n ≡ all
@@ -46,7 +51,7 @@ pub record Completes {S A B : Type 0} (P : State → Type 0) (f : Form S A B) (m
   pub ended : f.ends all (uninterrupted f.flags all s) ≡ true
 
 -- A run r from boundary m on, after these requests were done, follows the run without interrupts from s, which ends at
--- boundary `all` after n steps more.
+-- boundary `all` after n steps more. It has one boundary more than steps, and at each stands what handlers own.
 pub record Follows {S A B : Type 0} (marks : Marks) (open_to : ℕ → Bool) (f : Form S A B)
     (Own : List (A × B) → State → Type 0) (done : List (A × B)) (m n all : ℕ) (qs : List A) (s : State)
     (r : Ran A B) : Type 0 where
@@ -59,6 +64,8 @@ pub record Follows {S A B : Type 0} (marks : Marks) (open_to : ℕ → Bool) (f 
   pub told : EachTold (IsToldAt open_to f Own all s) done r.told
   pub left : r.left ≡ left_from (taken_at f.flags f.moment all s) all qs
   pub simulates : AllSimulate marks open_to f.flags r.states (uninterrupted f.flags m s)
+  pub boundaries : length r.states ≡ suc n
+  pub owns : All (IsOwned Own) r.states
   pub last : Same open_to r.state (uninterrupted f.flags all s)
   pub own : Own (onto r.told done) r.state
 
@@ -149,6 +156,8 @@ pub record AllFollow {S A B : Type 0} (marks : Marks) (open_to : ℕ → Bool) (
   pub taken : map (λ ts. asked ts) all.told ≡ expected_taken f asks k ns samples s
   pub told : RowsTold open_to f Own done all.told ns samples s
   pub simulates : RowsSimulate marks open_to f ns samples all.states s
+  pub boundaries : map (λ ws. length ws) all.states ≡ map (λ n. suc n) ns
+  pub owns : All (λ ws. All (IsOwned Own) ws) all.states
   pub last : Same open_to all.state (last_uninterrupted f ns samples s)
   pub own : Own (all_onto all.told done) all.state
 

@@ -102,3 +102,9 @@ abbrev pub WritesAreQuiet : Type 0
 WritesAreQuiet =
     (marks : Marks) (open_to : ℕ → Bool) (ws : List Write) (v s : State) → LeavesStack open_to → AreOpen open_to ws
     → HasRoom s → Begins open_to v s → Quiet marks open_to (framed ws v) v s
+
+-- Wherever an interrupt has room its handler begins, as it does where the run without interrupts is there.
+abbrev pub HandlersBegin : Type 0
+HandlersBegin =
+    (marks : Marks) (open_to : ℕ → Bool) (w s : State) → LeavesStack open_to → HasRoom s → Simulates marks open_to w s
+    → Begins open_to (suspended wav w) s

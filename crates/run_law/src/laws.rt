@@ -4,7 +4,7 @@ ghost use Rattle.cpu12_isa.specs.Agreement.{WritesAgree};
 ghost use Rattle.cpu12_parts.specs.State.{State};
 ghost use Rattle.cpu12_emul.specs.Simulation.{Marks};
 ghost use Rattle.run_law.specs.{Forms.Form, Following.RunFollows, Following.RunsFollow};
-ghost use Rattle.run_law.specs.Soundness.{Sound, SumsFitBelow, WritesAreQuiet};
+ghost use Rattle.run_law.specs.Soundness.{HandlersBegin, Sound, SumsFitBelow, WritesAreQuiet};
 ghost use Rattle.run_law.specs.{Moments.TakenAtFirstOpen, Moments.TakenAtOnce, Steps.MachineLaws, Steps.StepLaws};
 
 use cpu12_emul::laws::{
@@ -64,6 +64,13 @@ fn machine_laws()
     frame_is_on_stack();
     stack_is_hidden();
     wav_suspends();
+}
+
+/// In each state that simulates one in which an interrupt has room a handler begins.
+pub fn handlers_begin()
+    ensures { HandlersBegin }
+{
+    machine_laws();
 }
 
 /// The run of one sample, from any boundary on, follows the run without interrupts, and each handler tells
