@@ -1,8 +1,5 @@
-pub mod Stretches
 pub mod Stretching
-pub mod PlainSteps
-pub mod PartSteps
-pub mod SumSteps
-pub mod WholeSteps
+pub mod Within
+pub mod Spared
 pub mod Serving
 pub mod PortBytes

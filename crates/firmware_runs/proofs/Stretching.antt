@@ -3,7 +3,10 @@ use Rattle.std.proofs.Common.{◌≡◌, ℕ, suc, ◌+◌, List, [], ◌∷◌,
 use Rattle.cpu12_parts.specs.{State.State, Executions.Execution, Executions.all_steps}
 use Rattle.run_law.proofs.Algebra.{Stretch, no_stretch, joined}
 use Rattle.firmware_runs.specs.Instructions.{AreSteps}
-use Rattle.firmware_runs.proofs.Stretches.{OneInstruction}
+
+-- One whole instruction leads from s to t by d steps more than one, and P holds at each state before t.
+abbrev pub OneInstruction : (State → Type 0) → ℕ → ℕ → State → State → Type 0
+OneInstruction P flags d s t = Stretch P flags (suc d) 1 s t
 
 one_behind : (P : State → Type 0) (flags : ℕ) (ds : List ℕ) (s t : State) → Execution (OneInstruction P flags) ds s t
     → Stretch P flags (all_steps ds) (length ds) s t

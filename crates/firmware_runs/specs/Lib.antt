@@ -1,3 +1,4 @@
 pub mod Facts
 pub mod Instructions
+pub mod Within
 pub mod Ports

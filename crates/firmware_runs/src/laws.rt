@@ -1,8 +1,18 @@
 //! The laws of whole instructions, and of what is given and answered.
-ghost use Rattle.firmware_runs.specs.{Instructions.InstructionsAreSteps, Ports.AnswersAreValues, Ports.GivenIsPut};
+ghost use Rattle.firmware_runs.specs.{Instructions.InstructionsAreSteps, Within.InstructionStaysWithin};
+ghost use Rattle.firmware_runs.specs.Ports.{AnswersAreValues, GivenIsPut};
 
 use run_forms::laws::plain_is_one_step;
 use run_law::laws::step_laws;
+
+/// A whole instruction that leaves SP no lower is steps, one of which counts: each reads no byte that is hidden
+/// from the instruction and writes none that it keeps, and leaves I, and is shown to handlers to which no
+/// other byte is open.
+pub fn instruction_stays_within()
+    ensures { InstructionStaysWithin }
+{
+    step_laws();
+}
 
 /// Whole instructions on a sample, at each of which an interrupt may come, are steps: as many count as
 /// there are instructions, and before each step, also inside REV, REVW and WAV, the state keeps the

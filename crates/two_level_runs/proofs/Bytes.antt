@@ -1,13 +1,12 @@
 -- Under interrupts memory stays one of bytes.
 use Rattle.two_level_runs.proofs.Words.{[], ◌++◌, ◌<◌, ◌^◌, ◌∷◌, ◌≡◌, All, ap, AreBytes, AreSumsReady, arith, Begins}
 use Rattle.two_level_runs.proofs.Words.{Bool, BytesStay, FitsRegs, FitsState, FitsTemps, FitsWrites, frame_bytes}
-use Rattle.two_level_runs.proofs.Words.{framed, Free, given, HasRoom, inl, inr, List, MemoryMap, Next, OnStack}
+use Rattle.two_level_runs.proofs.Words.{framed, Free, given, HasRoom, inl, inr, IsOff, List, MemoryMap, Next, OnStack}
 use Rattle.two_level_runs.proofs.Words.{OnStackOrNone, placed, plus, refl, Regs, Running, Simulates, State, state_by}
 use Rattle.two_level_runs.proofs.Words.{StepFits, stepped, subst, suc, suspended, sym, Temps, wav, ℕ}
 use Rattle.cpu12_parts.specs.{Parts.sum_bytes, Inside.PushesRunning, Inside.PushesNone}
 use Rattle.cpu12_emul.specs.{Simulation.IsShownStep, Simulation.StepKeeps}
 use Rattle.run_law.specs.{Soundness.SumsFitBelow}
-use Rattle.two_level_runs.proofs.Beginnings.{off_fits}
 
 -- the laws of lower crates
 pub record BytesLaws : Type 0 where
@@ -52,6 +51,10 @@ ready_fits : (open_to : ℕ → Bool) (s : State) (t : Temps) → AreSumsReady o
 ready_fits open_to s Free h = tt
 ready_fits open_to s OnStack h = tt
 ready_fits open_to s (Running p w) h = (h.0, h.1)
+
+off_fits : (t : Temps) → IsOff t → FitsTemps t
+off_fits t (inl e) = subst FitsTemps (sym e) tt
+off_fits t (inr e) = subst FitsTemps (sym e) tt
 
 -- a state that simulates one before a shown step fits
 simulating_fits : (open_to : ℕ → Bool) (flags : ℕ) (w s : State) → IsShownStep open_to flags s

@@ -5,11 +5,11 @@ use Rattle.two_level_runs.proofs.Words.{false, fast_map, fast_run, FastRunsFollo
 use Rattle.two_level_runs.proofs.Words.{is_hidden, is_open_inside, IsFastState, LeavesStack, length, List, max}
 use Rattle.two_level_runs.proofs.Words.{may_interrupt, nat_lt, nat_tests, None, plus, refl, Regs, Same, Sound, State}
 use Rattle.two_level_runs.proofs.Words.{subst, suc, sym, taken_at, true, uninterrupted, WritesAgree, WritesAreQuiet}
-use Rattle.two_level_runs.proofs.Words.{zero, ℕ}
+use Rattle.two_level_runs.proofs.Words.{inl, inr, zero, ℕ, ◌⊎◌}
 use Rattle.cpu12_emul.specs.{Simulation.OnStackOnly}
 use Rattle.run_law.specs.{Uninterrupted.first_open, Following.RunFollows, Following.Follows}
 use Rattle.two_level_runs.specs.{Runs.fast_form, Inside.AnyMoment, Inside.HoldsBytes, Inside.Inside}
-use Rattle.two_level_runs.proofs.Frames.{HasFrameRoom, frames_fit, frames_below}
+use Rattle.two_level_runs.proofs.Frames.{HasFrameRoom, frames_fit, frames_below, low_all}
 use Rattle.two_level_runs.proofs.Bytes.{BytesLaws, step_bytes, push_bytes, begins_fits, take_bytes}
 
 -- the outputs are shown
@@ -123,12 +123,13 @@ fast_runs_follow laws law b image flags most bytes before inner s t hf few fits 
         (let p : IsFastState image flags s.regs.sp (uninterrupted flags j s) = holds j l in
         let e = p.stack in grind (arith, nat_tests))
 
+    up : (uninterrupted flags (suc r.further) s).regs.sp ≡ plus s.regs.sp 9
+    up = ap (λ (u : State). u.regs.sp) r.goes ∙ ap (λ (k : Regs). k.sp) r.regs
+
     ended : nat_lt s.regs.sp (uninterrupted flags (suc r.further) s).regs.sp ≡ true
     ended =
         (let first = r.first in
         let room = first.room in
-        let up : (uninterrupted flags (suc r.further) s).regs.sp ≡ plus s.regs.sp 9 =
-        ap (λ (u : State). u.regs.sp) r.goes ∙ ap (λ (k : Regs). k.sp) r.regs in
         let higher : s.regs.sp < (uninterrupted flags (suc r.further) s).regs.sp = omega (arith, up, room.1) in
         grind (arith, nat_tests))
 
@@ -149,9 +150,21 @@ fast_runs_follow laws law b image flags most bytes before inner s t hf few fits 
         let fast = p.room in
         (omega (arith, p.stack, fast.0), omega (arith, p.stack, fast.1)))
 
+    -- so behind the return too
+    room_at : (j : ℕ) → (j < suc r.further) ⊎ (j ≡ suc r.further) → HasFrameRoom (uninterrupted flags j s)
+    room_at j (inl l) = room j l
+    room_at j (inr e) =
+        (let first = r.first in
+        let fast = first.room in
+        subst (λ (k : ℕ). HasFrameRoom (uninterrupted flags k s)) (sym e)
+        (omega (arith, up, fast.0, fast.1), omega (arith, up, fast.1)))
+
     by : FollowsInside flags (length b.outputs) most inner (suc r.further) s
     by = record {
       follows = followed;
+      low = low_all OnStackOnly is_open_inside flags
+          (fast_run flags (length b.outputs) most inner s).states s followed.simulates
+          (λ j l. room_at j (let n = followed.boundaries in grind arith));
       stack = subst AreOnStack (sym followed.frames)
           (frames_fit flags (suc r.further) s (taken_at flags (λ k. k) (suc r.further) s) room inner None);
       below = subst (AreBelow s.regs.sp) (sym followed.frames)

@@ -1,8 +1,11 @@
 -- Where frames stand.
 use Rattle.two_level_runs.proofs.Words.{[], ◌+◌, ◌<◌, ◌∙◌, ◌∷◌, ◌≡◌, ◌≤◌, ap, AreBelow, AreOnStack, arith, below_sums}
 use Rattle.two_level_runs.proofs.Words.{Bool, expected_frame, false, frames_after, FrameSeen, Free, if◌then◌else◌}
-use Rattle.two_level_runs.proofs.Words.{is_new, length, List, nat_lt, OnStack, Option, plus, refl, Regs, Running}
-use Rattle.two_level_runs.proofs.Words.{Some, State, sym, taken_before, Temps, true, uninterrupted, ℕ}
+use Rattle.two_level_runs.proofs.Words.{is_new, length, List, nat_lt, OnStack, Option, plus, refl, Regs, Running, Some}
+use Rattle.two_level_runs.proofs.Words.{State, stepped, suc, sym, taken_before, Temps, true, uninterrupted, ℕ, All}
+use Rattle.two_level_runs.proofs.Words.{All-cons, inl, inr, Simulates}
+use Rattle.cpu12_emul.specs.Simulation.{Marks}
+use Rattle.run_law.specs.Soundness.{AllSimulate}
 use Rattle.cpu12_emul.specs.Take.{frame_on}
 use Rattle.std.proofs.lemmas.Bool.{ltb-true}
 
@@ -15,6 +18,20 @@ frame_fits : (first : Bool) (s : State) (t : Temps) → HasFrameRoom s
 frame_fits first s Free h = omega (arith, h.0, h.1)
 frame_fits first s OnStack h = omega (arith, h.0, h.1)
 frame_fits first s (Running p w) h = omega (arith, h.0, h.1)
+
+low_at : (marks : Marks) (open_to : ℕ → Bool) (w s : State) → Simulates marks open_to w s → HasFrameRoom s
+    → 0x1FE0 ≤ w.regs.sp
+low_at marks open_to w s (inl l) h = let e = ap (λ (r : Regs). r.sp) l.regs in omega (arith, e, h.0)
+low_at marks open_to w s (inr l) h = let e = ap (λ (r : Regs). r.sp) l.regs in omega (arith, e, h.0, h.1)
+
+-- SP of states that simulate those which have it
+pub low_all : (marks : Marks) (open_to : ℕ → Bool) (flags : ℕ) (ws : List State) (s : State)
+    → AllSimulate marks open_to flags ws s
+    → ((j : ℕ) → j < length ws → HasFrameRoom (uninterrupted flags j s)) → All (λ (w : State). 0x1FE0 ≤ w.regs.sp) ws
+low_all marks open_to flags [] s a room = λ k d lt. absurd (omega arith)
+low_all marks open_to flags (w ∷ ws) s a room =
+    All-cons (λ (u : State). 0x1FE0 ≤ u.regs.sp) w ws (low_at marks open_to w s a.0 (room 0 (omega arith)))
+    (low_all marks open_to flags ws (stepped flags s) a.1 (λ j l. room (suc j) (omega arith)))
 
 -- the frames of a run before whose steps it has stand on the stack
 pub frames_fit : {A : Type 0} (flags n : ℕ) (s : State) (moment : A → ℕ)

@@ -1,17 +1,22 @@
 -- Runs at two levels answer.
 use Rattle.two_level_runs.proofs.Words.{[], ◌∙◌, ◌≡◌, ◌≤◌, All, all_onto, ap, AreOnStack, AreTold, Byte, FactsBeside}
-use Rattle.two_level_runs.proofs.Words.{fast_most, FastSeen, FastStands, first_two, FirstAlike}
-use Rattle.two_level_runs.proofs.Words.{image_memory, is_open_to_fast, IsGoodLevel, length, Level, level_form}
-use Rattle.two_level_runs.proofs.Words.{levels_of, List, map, OnStackOrNone, Option, plan_of, RequestsAreGood, Rows}
-use Rattle.two_level_runs.proofs.Words.{rows_of_samples, RowSeen, StandsBeside, State, step_bound, subst, sym}
-use Rattle.two_level_runs.proofs.Words.{taken_by, TakenAtOnce, TwoStandBeside, ℕ}
+use Rattle.two_level_runs.proofs.Words.{fast_most, FastSeen, FastStands, first_two, FirstAlike, image_memory}
+use Rattle.two_level_runs.proofs.Words.{is_open_to_fast, IsGoodLevel, length, Level, level_form, levels_of, List, map}
+use Rattle.two_level_runs.proofs.Words.{OnStackOrNone, Option, plan_of, RequestsAreGood, Rows, rows_of_samples}
+use Rattle.two_level_runs.proofs.Words.{RowSeen, StandsBeside, State, step_bound, subst, sym, taken_by, TakenAtOnce}
+use Rattle.two_level_runs.proofs.Words.{TwoStandBeside, ℕ, AllComplete, answer_of_fast, AreInputBytes, arith, bytes_of}
 use Rattle.run_law.specs.{Following.AllFollow, Following.RunsFollow}
 use Rattle.alone_runs.specs.{Rows.first_state, Rows.firmware_rows, Answering.FirstStatesAlike}
 use Rattle.alone_runs.specs.{Answering.FirstStatesAgree}
 use Rattle.firmware_runs.specs.{Facts.FactsAlone}
 use Rattle.two_level_runs.specs.{Levels.Levels, Rows.level_parts, Rows.two_rows, Answering.fast_runs_of}
-use Rattle.two_level_runs.specs.{Answering.AnswersUnderLevels}
-use Rattle.alone_code.specs.Firmwares.{IsFirmwareOf}
+use Rattle.two_level_runs.specs.{Answering.AnswersUnderLevels, Answering.UninterruptedValues}
+use Rattle.alone_code.specs.{Firmwares.IsFirmwareOf, Uninterrupted.AreAnswersOf, Uninterrupted.FirmwareIsUninterrupted}
+use Rattle.alone_code.specs.Uninterrupted as whole
+use Rattle.alone_runs.specs.Following.{AllWait}
+use Rattle.byte_scaling.specs.declared.width.Width.{Width}
+use Rattle.std.proofs.lemmas.List.Elements.{All-map}
+use Rattle.std.proofs.lemmas.Simd.{map-map}
 use Rattle.alone_runs.specs.Answering.{AnswerBlock, AnswersUnder, AnswersUnderPlans, RunsBeside, FirmwareRunsBeside}
 use Rattle.run_forms.proofs.Algebra.{all_onto_all}
 use Rattle.alone_runs.proofs.Algebra.{all_complete}
@@ -19,8 +24,9 @@ use Rattle.two_level_runs.proofs.{Arriving.first_stands, LevelPlans.plan_good, L
 use Rattle.two_level_runs.proofs.LevelSound.{level_gives, level_sound}
 use Rattle.two_level_runs.proofs.LevelTelling.{steps_are, rows_told}
 use Rattle.two_level_runs.proofs.FastRuns.{Answer, runs_in, runs_are, all_answers, all_told, few_steps}
-use Rattle.two_level_runs.proofs.LevelRows.{SlowFacts, same_numbers, same_rows, same_taken, on_stack}
+use Rattle.two_level_runs.proofs.LevelRows.{SlowFacts, same_numbers, same_rows, same_taken, rows_low, on_stack}
 use Rattle.two_level_runs.proofs.LevelServing.{LevelLaws, Given, bounds, few_outputs}
+use Rattle.two_level_runs.proofs.Telling.{values_are_one}
 
 -- the laws of lower crates, and the law on runs
 pub record AnswerLaws : Type 0 where
@@ -32,6 +38,7 @@ pub record AnswerLaws : Type 0 where
   pub taken_at_once : TakenAtOnce
   pub answers_under_plans : AnswersUnderPlans
   pub requests_are_good : RequestsAreGood
+  pub firmware_is_uninterrupted : FirmwareIsUninterrupted
   pub runs_follow : (x : Levels)
       → RunsFollow OnStackOrNone is_open_to_fast (level_form x.flags x.two x.samples)
       (FactsBeside is_open_to_fast x.flags x.two.slow)
@@ -48,13 +55,15 @@ answers_under_levels laws two flags slow_samples samples levels hf good slow fas
           ∙ same_taken laws.taken_at_once flags two samples levels 1 runs.ns slow_samples first runs.complete
           ∙ ap (λ (rows : List (RowSeen (List ℕ))). taken_by 1 levels (map (λ (r : RowSeen (List ℕ)). r.steps) rows))
           (sym rows_of);
-      fast_numbers = subst
-          (λ (fs : List FastSeen). All (λ (f : FastSeen). (1 ≤ f.number) × (f.number ≤ length samples)) fs)
-          (sym fast_are)
-          (all_told fast two flags samples (λ f. (1 ≤ f.number) × (f.number ≤ length samples))
-          (λ before at l f h. (h.from, h.to)) [] all.told runs.ns slow_samples first told);
-      fast_answers = subst (λ (fs : List FastSeen). Answer fast two samples (λ o. 0) fs) (sym fast_are)
-          (all_answers fast two samples all.told [] own.answers).0;
+      ns = runs.ns;
+      complete = complete;
+      simulates = followed.simulates;
+      low = rows_low flags two samples runs.ns slow_samples all.states first runs.complete waits followed.simulates
+          followed.boundaries;
+      code = λ k ws lt j w l. (let o = followed.owns k ws lt j w l in let stands = o.1 in stands.code);
+      fast_numbers = numbered;
+      fast_answers = answers;
+      fast_uninterrupted = uninterrupted;
       fast_steps = subst (λ (fs : List FastSeen). All (λ (f : FastSeen). f.steps ≤ fast_most two.fast.step_bound) fs)
           (sym fast_are)
           (subst (λ (n : ℕ). All (λ (f : FastSeen). f.steps ≤ fast_most n) (runs_in all.told)) (sym bound)
@@ -123,6 +132,11 @@ answers_under_levels laws two flags slow_samples samples levels hf good slow fas
     all : Rows (List ℕ) Level (Option FastSeen)
     all = two_rows two slow_samples samples levels flags
 
+    complete : AllComplete (SlowFacts flags two) (level_form flags two samples) runs.ns slow_samples first
+    complete =
+        all_complete (SlowFacts flags two) flags two.slow (level_parts two samples) runs.ns slow_samples first
+        runs.complete
+
     followed : AllFollow OnStackOrNone is_open_to_fast (level_form flags two samples) (FastStands fast two samples) []
         (λ k. levels_of k levels) 1 runs.ns slow_samples first all
     followed =
@@ -130,8 +144,7 @@ answers_under_levels laws two flags slow_samples samples levels hf good slow fas
         (levels_are_good laws.requests_are_good (length samples) levels good) [] 1
         two.slow.step_bound runs.ns slow_samples (first_two two flags) first runs.within
         (λ k d lt. level_gives x stand.leaves _ (slow_inputs k d lt))
-        (all_complete (SlowFacts flags two) flags two.slow (level_parts two samples) runs.ns slow_samples first
-        runs.complete)
+        complete
         (laws.first_states_agree is_open_to_fast two.slow flags (image_memory two.image.bytes)
         (first_two two flags) alike)
         begins
@@ -156,6 +169,9 @@ answers_under_levels laws two flags slow_samples samples levels hf good slow fas
         first runs.complete
         under.complete
 
+    waits : AllWait flags two.slow runs.ns slow_samples first
+    waits = subst (λ (ns : List ℕ). AllWait flags two.slow ns slow_samples first) (sym numbers) under.waits
+
     rows_are : all.rows ≡ (firmware_rows two.slow slow_samples (plan_of levels) flags).rows
     rows_are =
         rows_of ∙ ap (λ (ns : List ℕ). rows_of_samples flags two.slow (plan_of levels) 1 ns slow_samples first) numbers
@@ -172,3 +188,40 @@ answers_under_levels laws two flags slow_samples samples levels hf good slow fas
 
     bound : two.fast.step_bound ≡ step_bound Byte fast
     bound = (let of_fast = bounds x in of_fast.steps)
+
+    fast_runs : List FastSeen
+    fast_runs = fast_runs_of two slow_samples samples levels flags
+
+    numbered : All (λ (f : FastSeen). (1 ≤ f.number) × (f.number ≤ length samples)) fast_runs
+    numbered =
+        subst (λ (fs : List FastSeen). All (λ (f : FastSeen). (1 ≤ f.number) × (f.number ≤ length samples)) fs)
+        (sym fast_are)
+        (all_told fast two flags samples (λ f. (1 ≤ f.number) × (f.number ≤ length samples))
+        (λ before at l f h. (h.from, h.to)) [] all.told runs.ns slow_samples first told)
+
+    answers : Answer fast two samples (λ o. 0) fast_runs
+    answers = subst (λ (fs : List FastSeen). Answer fast two samples (λ o. 0) fs) (sym fast_are)
+        (all_answers fast two samples all.told [] own.answers).0
+
+    -- the samples of the fast runs
+    given : List (List ℕ)
+    given = map (λ (f : FastSeen). bytes_of samples f.number) fast_runs
+
+    given_fit : All (AreInputBytes fast) given
+    given_fit = All-map (AreInputBytes fast) (λ (f : FastSeen). bytes_of samples f.number) fast_runs
+        (λ k f lt. (let n = numbered k f lt in inputs _ [] (omega (arith, n.0, n.1))))
+
+    uninterrupted : UninterruptedValues two.fast flags given (map (λ (f : FastSeen). f.answers) fast_runs)
+    uninterrupted =
+        (let alone = is.fast_alone in
+        let r = laws.firmware_is_uninterrupted fast two.fast vf lf alone.firmware flags given hf given_fit in
+        let byte = subst (λ (w : Width). AreAnswersOf w fast two.fast.instr_bound (λ o. 0) given r.0) alone.width
+        r.1.1 in (
+          r.0,
+          (
+            r.1.0,
+            values_are_one Byte fast two.fast.instr_bound (fast_most two.fast.instr_bound) (λ o. 0) given r.0
+                (map answer_of_fast fast_runs) byte answers
+                ∙ map-map (λ (a : whole.Answer). a.values) answer_of_fast fast_runs,
+          ),
+        ))

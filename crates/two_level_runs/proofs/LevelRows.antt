@@ -2,14 +2,15 @@
 use Rattle.two_level_runs.proofs.Words.{[], ◌<◌, ◌∙◌, ◌∷◌, ◌≡◌, ◌≤◌, ◌⊎◌, All, All-cons, AllComplete, ap, ap₂}
 use Rattle.two_level_runs.proofs.Words.{AreOnStack, arith, Before, Bool, Completes, counted, FactsBeside, false}
 use Rattle.two_level_runs.proofs.Words.{frames_of, FrameSeen, given, inl, inr, is_open_to_fast, IsStackOfOneCall}
-use Rattle.two_level_runs.proofs.Words.{Level, level_form, levels_of, List, map, may_interrupt, None, not}
-use Rattle.two_level_runs.proofs.Words.{plan_of, refl, Request, request_of, requests_of, resumed_of, rows_of_samples}
-use Rattle.two_level_runs.proofs.Words.{RowSeen, State, subst, suc, sym, taken_at, taken_before, taken_by}
-use Rattle.two_level_runs.proofs.Words.{TakenAtOnce, true, Two, uninterrupted, with_writes, ℕ}
-use Rattle.run_law.specs.Following.{expected_rows, expected_taken}
-use Rattle.firmware_runs.specs.{Ports.answers_in}
+use Rattle.two_level_runs.proofs.Words.{Level, level_form, levels_of, List, map, may_interrupt, None, not, plan_of}
+use Rattle.two_level_runs.proofs.Words.{refl, Request, request_of, requests_of, resumed_of, rows_of_samples, RowSeen}
+use Rattle.two_level_runs.proofs.Words.{State, subst, suc, sym, taken_at, taken_before, taken_by, TakenAtOnce, true}
+use Rattle.two_level_runs.proofs.Words.{Two, uninterrupted, with_writes, ℕ, cases_lt, length, OnStackOrNone}
+use Rattle.run_law.specs.Following.{expected_rows, expected_taken, RowsSimulate}
+use Rattle.alone_runs.specs.Following.{AllWait}
+use Rattle.firmware_runs.specs.{Facts.WaitsAlone, Ports.answers_in}
 use Rattle.alone_code.specs.declared.firmware.Firmware.{Firmware}
-use Rattle.two_level_runs.proofs.Frames.{HasFrameRoom, frames_fit}
+use Rattle.two_level_runs.proofs.Frames.{HasFrameRoom, frames_fit, low_all}
 use Rattle.two_level_runs.proofs.LevelPlans.{requests_are, resumed_each, frames_of_each}
 
 -- the facts before each step of the slow firmware
@@ -145,3 +146,43 @@ on_stack flags two plan k (n ∷ ns) (x ∷ rest) s h =
     (rows_of_samples flags two.slow plan (suc k) ns rest (uninterrupted flags n u))
     (frames_fit flags n u (λ (r : Request). r.moment) room (requests_of k plan) None)
     (on_stack flags two plan (suc k) ns rest (uninterrupted flags n u) h.1)
+
+-- SP is on the stack at each boundary, where the firmware waits too.
+first_waits : (flags : ℕ) (f : Firmware) (ns : List ℕ) (samples : List (List ℕ)) (s : State)
+    → AllWait flags f ns samples s → WaitsAlone f s
+first_waits flags f [] samples s h = h
+first_waits flags f (n ∷ ns) [] s h = h
+first_waits flags f (n ∷ ns) (x ∷ rest) s h = h.0
+
+pub rows_low : (flags : ℕ) (two : Two) (fast : List (List ℕ)) (ns : List ℕ) (samples : List (List ℕ))
+    (wss : List (List State)) (s : State)
+    → AllComplete (SlowFacts flags two) (with_writes flags two.slow) ns samples s
+    → AllWait flags two.slow ns samples s
+    → RowsSimulate OnStackOrNone is_open_to_fast (level_form flags two fast) ns samples wss s
+    → map (λ (ws : List State). length ws) wss ≡ map (λ (n : ℕ). suc n) ns
+    → All (λ (ws : List State). All (λ (w : State). 0x1FE0 ≤ w.regs.sp) ws) wss
+rows_low flags two fast ns samples [] s h waits a e = λ j d l. absurd (omega arith)
+rows_low flags two fast [] samples (ws ∷ wss) s h waits a e = absurd cc
+rows_low flags two fast (n ∷ ns) [] (ws ∷ wss) s h waits a e = absurd h
+rows_low flags two fast (n ∷ ns) (x ∷ rest) (ws ∷ wss) s h waits a e =
+    All-cons (λ (vs : List State). All (λ (w : State). 0x1FE0 ≤ w.regs.sp) vs) ws wss
+    (low_all OnStackOrNone is_open_to_fast flags ws u a.0 (λ j l. room j (cases_lt j n) (omega (arith, count, l))))
+    (rows_low flags two fast ns rest wss (uninterrupted flags n u) h.1 waits.1 a.1 more)
+  where
+    u : State
+    u = given two.slow.memory_map x s
+
+    count : length ws ≡ suc n
+    count = cc
+
+    more : map (λ (vs : List State). length vs) wss ≡ map (λ (k : ℕ). suc k) ns
+    more = cc
+
+    room : (j : ℕ) → (j < n) ⊎ (n ≤ j) → j ≤ n → HasFrameRoom (uninterrupted flags j u)
+    room j (inl l) le =
+        (let one = h.0 in
+        let p = one.holds j l in sp_room (uninterrupted flags j u).regs.sp p.stack)
+    room j (inr l) le =
+        (let w = first_waits flags two.slow ns rest (uninterrupted flags n u) waits.1 in
+        let e : n ≡ j = omega arith in
+        subst (λ (k : ℕ). HasFrameRoom (uninterrupted flags k u)) e (sp_room (uninterrupted flags n u).regs.sp w.stack))

@@ -1,7 +1,4 @@
 pub mod Owned
-pub mod Beginnings
-pub mod RuleParts
-pub mod SumParts
 pub mod Instructions
 pub mod Pulling
 pub mod Returning

@@ -21,7 +21,7 @@ frame_own sp at lo hi end low =
     let c : (nat_le sp at && nat_lt at (sp + 9)) ≡ true = grind (arith, nat_tests) in
     rw (a, b, c) refl
 
-read_own : (sp at : ℕ) → Reads fast_map at → is_foreign sp at ≡ false
+pub read_own : (sp at : ℕ) → Reads fast_map at → is_foreign sp at ≡ false
 read_own sp at (inl h) = ram_own sp at (omega (arith, h.0)) (omega (arith, h.1))
 read_own sp at (inr (inl h)) = ram_own sp at (omega (arith, h.0)) (omega (arith, h.1))
 read_own sp at (inr (inr (inl h))) = rom_own sp at (omega (arith, h.0)) (omega (arith, h.1))
@@ -30,29 +30,21 @@ read_own sp at (inr (inr (inr (inr (inl h))))) = rom_own sp at (omega (arith, h.
 read_own sp at (inr (inr (inr (inr (inr (inl h)))))) = rom_own sp at (omega (arith, h.0)) (omega (arith, h.1))
 read_own sp at (inr (inr (inr (inr (inr (inr h)))))) = absurd h
 
-pub reads_own : (sp : ℕ) (ats : List ℕ) → Each (Reads fast_map) ats → AllShown (is_foreign sp) ats
-reads_own sp [] h = tt
-reads_own sp (at ∷ ats) h = (read_own sp at h.0, reads_own sp ats h.1)
-
-pub code_own : (sp : ℕ) (ats : List ℕ) → Each (IsIn fast_code) ats → AllShown (is_foreign sp) ats
-code_own sp [] h = tt
-code_own sp (at ∷ ats) h = (rom_own sp at (omega (arith, h.0.0)) (omega (arith, h.0.1)), code_own sp ats h.1)
+-- its code is
+pub code_own : (sp at : ℕ) → IsIn fast_code at → is_foreign sp at ≡ false
+code_own sp at h = rom_own sp at (omega (arith, h.0)) (omega (arith, h.1))
 
 ram_kept : (at : ℕ) → 0x1400 ≤ at → at < 0x162C → is_kept at ≡ false
 ram_kept at lo hi = let a : is_fast_ram at ≡ true = grind (arith, nat_tests) in rw a refl
 
-write_own : (at : ℕ) → Writes fast_map at → is_kept at ≡ false
+pub write_own : (at : ℕ) → Writes fast_map at → is_kept at ≡ false
 write_own at (inl h) = ram_kept at (omega (arith, h.0)) (omega (arith, h.1))
 write_own at (inr (inl h)) = ram_kept at (omega (arith, h.0)) (omega (arith, h.1))
 write_own at (inr (inr h)) = absurd h
 
-pub writes_own : (ats : List ℕ) → Each (Writes fast_map) ats → AllShown is_kept ats
-writes_own [] h = tt
-writes_own (at ∷ ats) h = (write_own at h.0, writes_own ats h.1)
-
 -- the frame's nine bytes, or some of them
 pub frame_shown : (n sp at : ℕ) → sp ≤ at → at + n ≤ sp + 9 → sp + 9 ≤ 0x2000 → 0x1FE0 ≤ sp
-    → AllShown (is_foreign sp) (from at n)
+    → Each (λ at. is_foreign sp at ≡ false) (from at n)
 frame_shown zero sp at lo hi end low = tt
 frame_shown (suc n) sp at lo hi end low = (
   frame_own sp at lo (omega arith) end low,
@@ -62,16 +54,6 @@ frame_shown (suc n) sp at lo hi end low = (
 -- what is not foreign is shown to inner requests
 pub own_shown : (sp at : ℕ) → sp ≤ 0x2000 → is_foreign sp at ≡ false → is_hidden is_open_inside sp at ≡ false
 own_shown sp at le h = grind (arith, nat_tests)
-
--- more is hidden below a higher SP
-pub hides_more : (low high at : ℕ) → low ≤ high → is_hidden is_open_inside high at ≡ false
-    → is_hidden is_open_inside low at ≡ false
-hides_more low high at le h = grind (arith, nat_tests)
-
-pub all_shown : (sp : ℕ) (ats : List ℕ) → sp ≤ 0x2000 → AllShown (is_foreign sp) ats
-    → AllShown (is_hidden is_open_inside sp) ats
-all_shown sp [] le h = tt
-all_shown sp (at ∷ ats) le h = (own_shown sp at le h.0, all_shown sp ats le h.1)
 
 both : (b : Bool) → b ≡ true → b ≡ false → ⊥
 both b t f = cc

@@ -1,44 +1,41 @@
 -- The fast code as steps, up to behind its return.
-use Rattle.two_level_runs.proofs.Words.{[], ◌+◌, ◌<◌, ◌^◌, ◌∙◌, ◌∷◌, ◌≡◌, ◌≤◌, act_of, all_steps, AllShown, ap}
-use Rattle.two_level_runs.proofs.Words.{applied, ap₂, arith, Before, before_more, Block, Bool, bytes_at, counted}
-use Rattle.two_level_runs.proofs.Words.{decode_at, Each, Effect, effect, Execution, false, fast_code, fast_map}
-use Rattle.two_level_runs.proofs.Words.{FastStepsReturn, from, has, inl, inr, Instr, interrupts_masked, is_foreign}
-use Rattle.two_level_runs.proofs.Words.{is_kept, IsFastRun, IsFastStack, IsFastState, IsFastStep, IsIn, IsInFast}
-use Rattle.two_level_runs.proofs.Words.{IsInstructionOver, joined, Left, length, List, next_of, not, Ok, one_stretch}
-use Rattle.two_level_runs.proofs.Words.{Plain, plus, read_by, Reads, refl, Result, Rev, Revw, shown_append, six_from}
-use Rattle.two_level_runs.proofs.Words.{slice_index, State, state_by, StepLaws, stepped, Stretch, subst, suc, sym}
-use Rattle.two_level_runs.proofs.Words.{true, uninterrupted, Wav, Writes, WritesStay, zero, ℕ}
+use Rattle.two_level_runs.proofs.Words.{[], ◌+◌, ◌<◌, ◌^◌, ◌∙◌, ◌∷◌, ◌≡◌, ◌≤◌, all_steps, ap, applied, ap₂, arith}
+use Rattle.two_level_runs.proofs.Words.{Before, before_more, Block, Bool, bytes_at, counted, decode_at, Each}
+use Rattle.two_level_runs.proofs.Words.{Execution, false, fast_code, fast_map, FastStepsReturn, from, has, inl, inr}
+use Rattle.two_level_runs.proofs.Words.{Instr, interrupts_masked, is_foreign, is_kept, IsFastRun, IsFastStack}
+use Rattle.two_level_runs.proofs.Words.{IsFastState, IsFastStep, IsIn, IsInFast, IsInstructionOver, joined, Left}
+use Rattle.two_level_runs.proofs.Words.{length, List, next_of, not, Ok, plus, Reads, refl, Result, Rev, Revw, six_from}
+use Rattle.two_level_runs.proofs.Words.{slice_index, State, state_by, stepped, Stretch, subst, suc, sym, true}
+use Rattle.two_level_runs.proofs.Words.{uninterrupted, Wav, Writes, WritesStay, zero, ℕ}
 use Rattle.cpu12_isa.specs.{declared.instr.Instr.TheVariants.Andcc, declared.instr.Instr.TheVariants.Rti}
 use Rattle.cpu12_parts.specs.{Whole.after_plain}
 use Rattle.two_level_code.specs.{Running.IsFastAnswered}
 use Rattle.two_level_runs.specs.{Steps.IsOpenState}
-use Rattle.two_level_runs.proofs.Owned.{code_own, frame_shown, not_written, stack_kept}
-use Rattle.two_level_runs.proofs.Beginnings.{Begins, Kept, kept, off_ready, same_decode}
+use Rattle.firmware_runs.specs.Within.{InstructionStaysWithin}
+use Rattle.two_level_runs.proofs.Owned.{frame_shown, not_written, stack_kept}
 use Rattle.two_level_runs.proofs.Pulling.{pulled_same}
-use Rattle.two_level_runs.proofs.Instructions.{free_stays, begins, plain_next, instruction_at, instructions_at}
+use Rattle.two_level_runs.proofs.Instructions.{Kept, own, instruction_at, instructions_at, free_stays, same_decode}
 
 -- the return is one step
-rti_at : StepLaws → (image : List ℕ) (flags sp : ℕ) (s : State) → Begins image false sp s
-    → decode_at s.mem s.regs.pc ≡ Ok Rti
+rti_at : InstructionStaysWithin → (image : List ℕ) (flags sp : ℕ) (s : State) → flags < 2 ^ 8 → IsInFast image s
+    → s.regs.sp ≡ sp → has s.regs.ccr interrupts_masked ≡ false → decode_at s.mem s.regs.pc ≡ Ok Rti
     → Stretch (Kept image false flags sp) flags 1 1 s (after_plain flags Rti s)
-rti_at laws image flags sp s c decoded =
-    let e : Effect = effect flags Rti s.regs s.mem in
-    let stands = c.stands in
-    let is = laws.plain_is_step flags Rti s c.off decoded refl in
-    let left : Left = record { regs = e.regs; temps = s.temps; writes = e.writes; kind = Plain } in
-    let up : sp ≤ left.regs.sp = (let r = stands.room in omega (arith, stands.stack, r.1)) in
-    let frame : AllShown (is_foreign sp) (read_by (act_of flags Rti s.regs) s.mem) =
-    (let r = stands.room in
-    subst (λ (n : ℕ). AllShown (is_foreign sp) (from n 9)) (sym stands.stack)
-    (frame_shown 9 sp sp (omega arith) (omega arith) r.1 (omega (arith, r.0)))) in
-    one_stretch (Kept image false flags sp) flags Plain s (after_plain flags Rti s) refl
-    (kept image false flags sp s left stands is.0 up
-    (subst (AllShown (is_foreign sp)) (sym is.1)
-    (shown_append (is_foreign sp) (six_from s.regs.pc) (read_by (act_of flags Rti s.regs) s.mem)
-    (code_own sp (six_from s.regs.pc) c.code) frame))
-    tt (off_ready s s.temps c.off))
-    (plain_next laws flags Rti s (after_plain flags Rti s) c.off
-    (record { decoded = decoded; plain = refl; after = refl }))
+rti_at law image flags sp s hf h e mask decoded =
+    let room = h.stack in
+    instruction_at law image false flags sp 0 s (after_plain flags Rti s) hf h e mask
+    (inl (
+      Rti,
+      (
+        record {
+          step = record { decoded = decoded; plain = refl; after = refl };
+          reads = subst (λ (n : ℕ). Each (λ at. is_foreign sp at ≡ false) (from n 9)) (sym e)
+              (frame_shown 9 sp sp (omega arith) (omega arith) (omega (arith, e, room.1)) (omega (arith, e, room.0)));
+          writes = tt;
+        },
+        refl,
+      ),
+    ))
+    (omega (arith, room.1))
 
 -- ANDCC has no parts beyond the first
 abbrev found : Instr → Result Instr ℕ
@@ -47,18 +44,11 @@ found i = Ok i
 no_parts : (R W : ℕ → Type 0) (flags d : ℕ) (s t : State) → decode_at s.mem s.regs.pc ≡ Ok (Andcc 0xEF)
     → IsInstructionOver R W flags d s t → d ≡ 0
 no_parts R W flags d s t a (inl p) = p.1.1
-no_parts R W flags d s t a (inr (inl p)) = absurd (differ (sym a ∙ p.2.step.decoded))
-  where
-    differ : found (Andcc 0xEF) ≡ Ok Rev → ⊥
-    differ e = cc
-no_parts R W flags d s t a (inr (inr (inl p))) = absurd (differ (sym a ∙ p.2.step.decoded))
-  where
-    differ : found (Andcc 0xEF) ≡ Ok Revw → ⊥
-    differ e = cc
-no_parts R W flags d s t a (inr (inr (inr p))) = absurd (differ (sym a ∙ p.step.decoded))
-  where
-    differ : found (Andcc 0xEF) ≡ Ok Wav → ⊥
-    differ e = cc
+no_parts R W flags d s t a (inr (inl p)) = let e : found (Andcc 0xEF) ≡ Ok Rev = sym a ∙ p.2.step.decoded in absurd cc
+no_parts R W flags d s t a (inr (inr (inl p))) =
+    let e : found (Andcc 0xEF) ≡ Ok Revw = sym a ∙ p.2.step.decoded in absurd cc
+no_parts R W flags d s t a (inr (inr (inr p))) =
+    let e : found (Andcc 0xEF) ≡ Ok Wav = sym a ∙ p.step.decoded in absurd cc
 
 -- its steps leave memory but for the fast block's RAM
 step_keeps : WritesStay → (image : List ℕ) (flags sp : ℕ) (s : State) → IsFastState image flags sp s
@@ -96,38 +86,32 @@ frame_kept (suc n) sp m k lo hi h =
     ap₂ (λ (v : ℕ) (vs : List ℕ). v ∷ vs) (h sp (stack_kept sp lo))
     (frame_kept n (plus sp 1) m k (omega arith) (omega arith) h)
 
--- the steps behind the first, with the return, by the instructions
-tail_at : StepLaws → (image : List ℕ) (flags sp : ℕ) (ds : List ℕ) (v u : State) → flags < 2 ^ 8 → v.regs.sp ≡ sp
-    → u.regs.sp ≡ sp
-    → has v.regs.ccr interrupts_masked ≡ false → has u.regs.ccr interrupts_masked ≡ false
-    → Execution (IsFastStep image flags) ds v u → IsInFast image u → decode_at u.mem u.regs.pc ≡ Ok Rti
-    → Stretch (Kept image false flags sp) flags (all_steps ds + 1) (length ds + 1) v (after_plain flags Rti u)
-tail_at laws image flags sp ds v u hf sv su mv mu e inside returns =
-    joined (Kept image false flags sp) flags (all_steps ds) 1 (length ds) 1 v u (after_plain flags Rti u)
-    (instructions_at laws image flags sp ds v u hf sv mv e)
-    (rti_at laws image flags sp u (begins image false sp u inside su mu) returns)
-
 -- the run, from its first instruction and the others
-run_of : StepLaws → (b : Block) (image : List ℕ) (flags : ℕ) (bytes : List ℕ) (before : ℕ → ℕ) (s v u : State)
+run_of : WritesStay → (b : Block) (image : List ℕ) (flags : ℕ) (bytes : List ℕ) (before : ℕ → ℕ) (s v u : State)
     (ds : List ℕ)
     → IsFastStack s.regs.sp → has s.regs.ccr interrupts_masked ≡ true
     → Stretch (Kept image true flags s.regs.sp) flags 1 1 s v
-    → Stretch (Kept image false flags s.regs.sp) flags (all_steps ds + 1) (length ds + 1) v (after_plain flags Rti u)
+    → Stretch (Kept image false flags s.regs.sp) flags (all_steps ds) (length ds) v u
+    → Stretch (Kept image false flags s.regs.sp) flags 1 1 u (after_plain flags Rti u)
     → (r : IsFastAnswered b image flags bytes before s u) → (d : ℕ) → r.ds ≡ d ∷ ds
     → IsFastRun b image flags bytes before s (after_plain flags Rti u)
-run_of laws b image flags bytes before s v u ds room masked first tail r d is =
+run_of stay b image flags bytes before s v u ds room masked first body last r d is =
     let sp = s.regs.sp in
     let t = after_plain flags Rti u in
+    let tail = joined (Kept image false flags sp) flags (all_steps ds) 1 (length ds) 1 v u t body last in
     let further = all_steps ds + 1 in
     let there : stepped flags s ≡ v = first.goes in
     let each : Before (IsOpenState image flags sp) flags further (stepped flags s) =
     subst (Before (IsOpenState image flags sp) flags further) (sym there)
     (λ j l. open_state image flags sp (uninterrupted flags j v) (tail.each j l)) in
     let goes : uninterrupted flags (suc further) s ≡ t = ap (uninterrupted flags further) there ∙ tail.goes in
+    let returns : uninterrupted flags further s ≡ u =
+    (let e : further ≡ suc (all_steps ds) = omega arith in ap (λ (n : ℕ). uninterrupted flags n s) e)
+    ∙ ap (uninterrupted flags (all_steps ds)) there ∙ body.goes in
     let start : IsFastState image flags sp s = (first.each 0 (omega arith)).0 in
     let all : Before (IsFastState image flags sp) flags (suc further) s =
     before_more (IsFastState image flags sp) flags further s start (λ j l. (let p = each j l in p.state)) in
-    let keeps = (let k = laws.writes in steps_keep k.writes_stay image flags sp (suc further) s all) in
+    let keeps = steps_keep stay image flags sp (suc further) s all in
     let kept_at : (at : ℕ) → is_kept at ≡ true → slice_index t.mem at ≡ slice_index s.mem at =
     λ at k. ap (λ (w : State). slice_index w.mem at) (sym goes) ∙ keeps.1 at k in
     let counts : counted flags (suc further) s ≡ suc (length ds + 1) =
@@ -140,6 +124,7 @@ run_of laws b image flags bytes before s v u ds room masked first tail r d is =
       first = start;
       masked = ap not masked;
       each = each;
+      returns = subst (λ (w : State). decode_at w.mem w.regs.pc ≡ Ok Rti) (sym returns) r.returns;
       ccr = u.regs.ccr;
       x = r.x;
       regs = pulled_same u.regs s.regs (bytes_at u.mem (from u.regs.sp 9)) (bytes_at s.mem (from sp 9)) r.stack
@@ -155,8 +140,8 @@ run_of laws b image flags bytes before s v u ds room masked first tail r d is =
       steps = (let l = ap all_steps is in omega (arith, l, r.steps));
     }
 
-pub fast_steps_return : StepLaws → FastStepsReturn
-fast_steps_return laws b image flags bytes before s u hf opens entered r = by r.ds refl r.execution
+pub fast_steps_return : InstructionStaysWithin → WritesStay → FastStepsReturn
+fast_steps_return law stay b image flags bytes before s u hf opens entered r = by r.ds refl r.execution
   where
     masked : has s.regs.ccr interrupts_masked ≡ true
     masked = entered.masked
@@ -181,11 +166,11 @@ fast_steps_return laws b image flags bytes before s u hf opens entered r = by r.
     by (d ∷ ds) is e =
         let v = e.0 in
         let h : IsFastStep image flags d s v = e.1.0 in
-        let start = begins image true s.regs.sp s h.inside refl masked in
         let short : d ≡ 0 = no_parts (Reads fast_map) (Writes fast_map) flags d s v decoded h.instruction in
         let first : Stretch (Kept image true flags s.regs.sp) flags 1 1 s v =
         subst (λ (k : ℕ). Stretch (Kept image true flags s.regs.sp) flags (suc k) 1 s v) short
-        (instruction_at laws image true flags s.regs.sp d s v hf start h.instruction h.stack) in
-        let tail = tail_at laws image flags s.regs.sp ds v u hf h.stack r.stack h.unmasked r.unmasked e.1.1 r.inside
-        r.returns in
-        (after_plain flags Rti u, run_of laws b image flags bytes before s v u ds room masked first tail r d is)
+        (instruction_at law image true flags s.regs.sp d s v hf h.inside refl masked
+        (own s.regs.sp flags d s v h.instruction) (let level = h.stack in omega (arith, level))) in
+        let body = instructions_at law image flags s.regs.sp ds v u hf h.stack h.unmasked e.1.1 in
+        let last = rti_at law image flags s.regs.sp u hf r.inside r.stack r.unmasked r.returns in
+        (after_plain flags Rti u, run_of stay b image flags bytes before s v u ds room masked first body last r d is)

@@ -1,14 +1,16 @@
 -- What is told of a fast run is read off its run without inner requests, and answers its sample.
-use Rattle.two_level_runs.proofs.Words.{◌*◌, ◌+◌, ◌-◌, ◌<◌, ◌∙◌, ◌≡◌, ◌≤◌, answer_of_fast, ap, AreBelow, arith}
-use Rattle.two_level_runs.proofs.Words.{Begins, Block, Byte, bytes_at, bytes_of, counted, entered, fast_map}
-use Rattle.two_level_runs.proofs.Words.{fast_most, FollowsInside, frames_of, from, HasAnswers, image_memory}
-use Rattle.two_level_runs.proofs.Words.{is_open_to_fast, IsFastRun, IsReadOff, length, Level, List, max, plus, Ran}
-use Rattle.two_level_runs.proofs.Words.{refl, resumed_of, seen_of, slice_index, State, subst, suc, sym, taken_at, Two}
-use Rattle.two_level_runs.proofs.Words.{zero, ℕ}
+use Rattle.two_level_runs.proofs.Words.{◌*◌, ◌+◌, ◌-◌, ◌<◌, ◌∙◌, ◌≡◌, ◌≤◌, answer_of_fast, ap, AreBelow, arith, Begins}
+use Rattle.two_level_runs.proofs.Words.{Block, Byte, bytes_at, bytes_of, counted, entered, fast_map, fast_most}
+use Rattle.two_level_runs.proofs.Words.{FollowsInside, frames_of, from, HasAnswers, image_memory, is_open_to_fast}
+use Rattle.two_level_runs.proofs.Words.{IsFastRun, IsReadOff, length, Level, List, max, plus, Ran, refl, resumed_of}
+use Rattle.two_level_runs.proofs.Words.{seen_of, slice_index, State, subst, suc, sym, taken_at, Two, [], ap₂, map}
+use Rattle.two_level_runs.proofs.Words.{zero, ℕ, ◌∷◌}
 use Rattle.eval_code.specs.{Widths.answer}
 use Rattle.two_level_code.specs.{Running.IsEntered}
 use Rattle.two_level_runs.specs.{Answering.run_of_level}
-use Rattle.alone_code.specs.Uninterrupted.{IsAnswerOf}
+use Rattle.alone_code.specs.Uninterrupted.{Answer, AreAnswersOf, IsAnswerOf}
+use Rattle.byte_scaling.specs.declared.width.Width.{Width}
+use Rattle.std.proofs.lemmas.List.{ext_get_or}
 use Rattle.two_level_runs.proofs.Frames.{HasFrameRoom, frame_at}
 
 -- bytes one after the other
@@ -73,6 +75,9 @@ read_off b two flags fast l before slow v t from to room begins enters r inside 
       stack = inside.stack;
       below = λ first. subst (λ (sp : ℕ). AreBelow sp (run_of_level b two flags fast l v).frames)
           (sym (frame_at first slow v.regs room begins.regs)) inside.below;
+      follows = subst
+          (λ (n : ℕ). FollowsInside flags (length b.outputs) (fast_most two.fast.step_bound) l.inner.items n s)
+          (sym follows.steps) inside;
     }
   where
     s : State
@@ -80,3 +85,27 @@ read_off b two flags fast l before slow v t from to room begins enters r inside 
 
     moments : ◌≡◌ {A = ℕ → ℕ} (taken_at flags (λ k. k) (suc r.further) s) (λ m. max 1 m)
     moments = λ i. λ q. inside.moments q i
+
+-- a block's answers to samples have one list of values, whatever the bound
+one_value : (w : Width) (b : Block) (m n : ℕ) (before : ℕ → ℕ) (bytes : List ℕ) (a c : Answer)
+    → IsAnswerOf w b m before bytes a → IsAnswerOf w b n before bytes c → a.values ≡ c.values
+one_value w b m n before bytes a c p q = ext_get_or 0 a.values c.values (p.count ∙ sym q.count) value
+  where
+    value : (i : ℕ) → i < length a.values → slice_index a.values i ≡ slice_index c.values i
+    value i l =
+        let e : suc i - 1 ≡ i = omega arith in
+        let to : suc i ≤ length b.outputs = omega (arith, p.count, l) in
+        subst (λ (k : ℕ). slice_index a.values k ≡ slice_index c.values k) e
+        (p.values (suc i) (omega arith) to ∙ sym (q.values (suc i) (omega arith) to))
+
+pub values_are_one : (w : Width) (b : Block) (m n : ℕ) (before : ℕ → ℕ) (xs : List (List ℕ)) (bs cs : List Answer)
+    → AreAnswersOf w b m before xs bs → AreAnswersOf w b n before xs cs
+    → map (λ (a : Answer). a.values) bs ≡ map (λ (a : Answer). a.values) cs
+values_are_one w b m n before [] [] [] p q = refl
+values_are_one w b m n before [] [] (c ∷ cs) p q = absurd q
+values_are_one w b m n before [] (a ∷ bs) cs p q = absurd p
+values_are_one w b m n before (x ∷ xs) [] cs p q = absurd p
+values_are_one w b m n before (x ∷ xs) (a ∷ bs) [] p q = absurd q
+values_are_one w b m n before (x ∷ xs) (a ∷ bs) (c ∷ cs) p q =
+    ap₂ (λ (v : List ℕ) (vs : List (List ℕ)). v ∷ vs) (one_value w b m n before x a c p.0 q.0)
+    (values_are_one w b m n (λ o. answer w b o x (before o)) xs bs cs p.1 q.1)

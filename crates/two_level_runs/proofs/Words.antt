@@ -1,12 +1,12 @@
 -- The names that most proofs of this crate cite, passed on from one place.
-pub use Rattle.cpu12_emul.specs.Simulation.{AreSumsReady, HasRoom, OnStackOrNone, Same, Simulates, left_of}
-pub use Rattle.cpu12_emul.specs.Step.{Left, Next, applied, kind_of, next_of, step_act}
+pub use Rattle.cpu12_emul.specs.Simulation.{AreSumsReady, HasRoom, OnStackOrNone, Same, Simulates}
+pub use Rattle.cpu12_emul.specs.Step.{Left, Next, applied, next_of}
 pub use Rattle.cpu12_emul.specs.Take.{FrameSeen, framed, may_interrupt, pairs_of}
 pub use Rattle.cpu12_isa.specs.Agreement.{Agree, AllShown, IsWritten, WritesAgree, WritesStay}
 pub use Rattle.cpu12_isa.specs.Fits.{AreBytes, BytesStay, FitsRegs, FitsWrites}
 pub use Rattle.cpu12_isa.specs.Memory.{bytes_at, from, placed, plus, word_of}
-pub use Rattle.cpu12_parts.specs.Parts.{after_part, part_of, suspended, wav}
-pub use Rattle.run_law.proofs.Algebra.{Stretch, before_more, joined, one_stretch, part_stretch}
+pub use Rattle.cpu12_parts.specs.Parts.{suspended, wav}
+pub use Rattle.run_law.proofs.Algebra.{Stretch, before_more, joined}
 pub use Rattle.run_law.specs.Following.{AllComplete, Completes, EachTold, all_onto, onto}
 pub use Rattle.run_law.specs.Forms.{Form, Ran, RowSeen, Rows}
 pub use Rattle.run_law.specs.Soundness.{AllGood, Ascend, Before, Begins, Quiet, Sound, WritesAreQuiet, below_sums}
@@ -31,19 +31,17 @@ pub use Rattle.two_level_runs.specs.Steps.{is_kept, is_open_inside}
 pub use Rattle.alone_runs.specs.{Answering.FirstAlike, Following.rows_of_samples, Forms.with_writes}
 pub use Rattle.alone_runs.specs.{Given.RequestsAreGood, OpenBytes.AreOpenAlike, Rows.bytes_of, Rows.requests_of}
 pub use Rattle.byte_scaling.specs.{declared.width.Width.TheVariants.Byte}
-pub use Rattle.cpu12_emul.specs.{Fits.StepFits, Image.image_memory, declared.ends.Stepped.TheVariants.LastPart}
-pub use Rattle.cpu12_emul.specs.{declared.ends.Stepped.TheVariants.Plain}
-pub use Rattle.cpu12_isa.proofs.{Algebra.bit, Algebra.bit_or_is, Algebra.shown_append}
-pub use Rattle.cpu12_isa.specs.{Act.outcome, Act.read_by, Act.write_all, Code.decode_at, Code.six_from, Flags.has}
-pub use Rattle.cpu12_isa.specs.{Flags.interrupts_masked, Meaning.Effect, Meaning.act_of, Meaning.effect}
+pub use Rattle.cpu12_emul.specs.{Fits.StepFits, Image.image_memory}
+pub use Rattle.cpu12_isa.proofs.{Algebra.bit, Algebra.bit_or_is}
+pub use Rattle.cpu12_isa.specs.{Act.read_by, Act.write_all, Code.decode_at, Code.six_from, Flags.has}
+pub use Rattle.cpu12_isa.specs.{Flags.interrupts_masked, Meaning.act_of, Meaning.effect}
 pub use Rattle.cpu12_isa.specs.{Regions.LeavesStack, Regions.is_free, Regions.is_hidden, Registers.frame_bytes}
 pub use Rattle.cpu12_isa.specs.{Registers.pulled, declared.instr.Ccr.Ccr, declared.instr.Instr.Instr}
 pub use Rattle.cpu12_isa.specs.{declared.instr.Instr.TheVariants.Rev, declared.instr.Instr.TheVariants.Revw}
 pub use Rattle.cpu12_isa.specs.{declared.instr.Instr.TheVariants.Wav, declared.instr.Regs.Regs}
-pub use Rattle.cpu12_parts.specs.{Executions.Execution, Executions.all_steps, Fits.FitsOutcome, Fits.FitsState}
-pub use Rattle.cpu12_parts.specs.{Fits.FitsTemps, Laws.IsOff, Laws.PartsTo, Laws.addresses, State.Outcome}
+pub use Rattle.cpu12_parts.specs.{Executions.Execution, Executions.all_steps, Fits.FitsState}
+pub use Rattle.cpu12_parts.specs.{Fits.FitsTemps, Laws.IsOff, Laws.addresses}
 pub use Rattle.cpu12_parts.specs.{State.State, Touching.Each, Touching.IsIn, Touching.IsInstructionOver}
-pub use Rattle.cpu12_parts.specs.{declared.temps.PartEnd.PartEnd, declared.temps.PartEnd.TheVariants.More}
 pub use Rattle.cpu12_parts.specs.{declared.temps.Temps.Temps, declared.temps.Temps.TheVariants.Free}
 pub use Rattle.cpu12_parts.specs.{declared.temps.Temps.TheVariants.OnStack, declared.temps.Temps.TheVariants.Running}
 pub use Rattle.eval_code.specs.{Bounds.step_bound, Evaluation.HasAnswers, Evaluation.Reads, Evaluation.Writes}
@@ -53,7 +51,7 @@ pub use Rattle.fuzzy_meaning.specs.{declared.block.Block.Block}
 pub use Rattle.interrupt_plan.specs.{Levels.AreGoodLevels, Levels.IsGoodLevel, Levels.LevelNotAfter}
 pub use Rattle.interrupt_plan.specs.{declared.Request.Request, declared.levels.Level.Level}
 pub use Rattle.run_forms.specs.{Rest.SampleSummary, Rest.counted_at}
-pub use Rattle.run_law.specs.{Moments.TakenAtOnce, Steps.StepLaws}
+pub use Rattle.run_law.specs.{Moments.TakenAtOnce}
 pub use Rattle.std.proofs.{lemmas.Bool.Decides.nat_tests, lemmas.Bool.cases_lt, lemmas.Bool.or_parts}
 pub use Rattle.std.proofs.{lemmas.List.Elements.All-cons, lemmas.List.length-map}
 pub use Rattle.trace_io.specs.{Traces.input_bytes}

@@ -1,24 +1,28 @@
 -- What runs at two levels answer.
 -- Beside the promise.
-use Rattle.std.specs.Prelude.{◌≡◌, ℕ, suc, ◌^◌, ◌<◌, ◌≤◌, max, Bool, true, Option, None, Some}
-use Rattle.std.specs.Prelude.{List, [], ◌∷◌, length, map, All, filter_map, flat_map}
+use Rattle.std.specs.Prelude.{◌≡◌, ℕ, suc, ◌^◌, ◌<◌, ◌≤◌, max, Bool, true, Option, None, Some, List, [], ◌∷◌, length}
+use Rattle.std.specs.Prelude.{map, All, filter_map, flat_map}
 use Rattle.fuzzy_meaning.specs.{declared.block.Block.Block, Blocks.IsValid}
 use Rattle.rule_layout.specs.Layouts.{IsWithinLimits}
 use Rattle.cpu12_parts.specs.State.{State}
-use Rattle.cpu12_emul.specs.Image.{image_memory}
+use Rattle.cpu12_isa.specs.Regions.{stack_start}
+use Rattle.cpu12_emul.specs.{Image.image_memory, Simulation.OnStackOrNone}
 use Rattle.run_law.specs.{Forms.Ran, Soundness.Begins, Following.asked, Following.onto, Following.EachTold}
+use Rattle.run_law.specs.Following.{AllComplete, RowsSimulate}
 use Rattle.run_law.specs.Uninterrupted.{uninterrupted, counted, taken_before, resumed_of, expected_frame, frames_of}
 use Rattle.interrupt_plan.specs.{declared.Request.Request, declared.levels.Level.Level, Levels.AreGoodLevels}
 use Rattle.byte_scaling.specs.declared.width.Width.TheVariants.{Byte}
 use Rattle.eval_code.specs.{Widths.answer, Firing.AreInputBytes}
-use Rattle.alone_code.specs.Uninterrupted.{Answer, AreAnswersOf}
+use Rattle.alone_code.specs.{declared.firmware.Firmware.Firmware, Uninterrupted.Answer, Uninterrupted.AreAnswersOf}
+use Rattle.alone_code.specs.Uninterrupted.{AreUninterrupted}
 use Rattle.two_level_code.specs.declared.two.Two.{Two}
 use Rattle.two_level_code.specs.{Images.fast_most, Images.IsTwoOf, MemoryMaps.is_open_to_fast, Running.IsEntered}
-use Rattle.firmware_runs.specs.Ports.{given}
+use Rattle.firmware_runs.specs.{Facts.FactsBeside, Ports.given}
 use Rattle.alone_runs.specs.{Rows.bytes_of, Rows.first_state, Rows.firmware_rows, Answering.AnswerBlock}
 use Rattle.two_level_runs.specs.Runs.{entered, fast_run, FastSeen, seen_of}
-use Rattle.two_level_runs.specs.Rows.{levels_of, two_rows, TwoSeen, two_seen}
-use Rattle.two_level_runs.specs.{Steps.IsFastRun, Inside.AreOnStack, Inside.AreBelow}
+use Rattle.two_level_runs.specs.Rows.{level_form, levels_of, two_rows, TwoSeen, two_seen}
+use Rattle.two_level_runs.specs.{Steps.IsFastRun, Inside.AreOnStack, Inside.AreBelow, Inside.FollowsInside}
+use Rattle.two_level_runs.specs.Outer.{HasFastCode}
 
 -- The slow run's plan without fast runs: requests at the levels' places that write nothing.
 abbrev pub request_of : Level → Request
@@ -60,7 +64,8 @@ run_of_level b two flags fast l v =
 -- for what is open and the stack below SP. It entered the fast code, and the run came to its return. What is told is
 -- what is seen of that run, and is read off its run without inner requests: the number of its sample, which is one of
 -- the fast ones; its steps and instructions; and its resumed count and frames, where an inner moment 0 counts as 1.
--- Each frame stands below the outer interrupt's, and none below the stack's start.
+-- Each frame stands below the outer interrupt's, and none below the stack's start, nor is SP there at any boundary; and
+-- each of its states simulates that of its run without inner requests.
 pub record IsReadOff (b : Block) (two : Two) (flags : ℕ) (fast : List (List ℕ)) (before : ℕ → ℕ) (slow : State)
     (l : Level) (f : FastSeen) : Type 0 where
   pub number : f.number ≡ l.fast
@@ -83,6 +88,8 @@ pub record IsReadOff (b : Block) (two : Two) (flags : ℕ) (fast : List (List �
       ≡ frames_of flags (λ m. max 1 m) (entered (bytes_of fast l.fast) interrupted) l.inner.items f.steps
   pub stack : AreOnStack f.frames
   pub below : (first : Bool) → AreBelow (expected_frame first slow).sp f.frames
+  pub follows : FollowsInside flags (length b.outputs) (fast_most two.fast.step_bound) l.inner.items f.steps
+      (entered (bytes_of fast l.fast) interrupted)
 
 -- What a level told: nothing where it has no fast sample, and else of its fast run.
 abbrev pub IsTold : Block → Two → ℕ → List (List ℕ) → (ℕ → ℕ) → State → Level → Option FastSeen → Type 0
@@ -112,12 +119,20 @@ abbrev pub taken_by : ℕ → List Level → List ℕ → List (List Level)
 taken_by k levels [] = []
 taken_by k levels (n ∷ ns) = taken_before (λ l. l.moment) n (levels_of k levels) ∷ taken_by (suc k) levels ns
 
+-- the values of the uninterrupted answers to a list of samples
+abbrev pub UninterruptedValues : Firmware → ℕ → List (List ℕ) → List (List ℕ) → Type 0
+UninterruptedValues f flags samples values =
+    (answers : List Answer) × (AreUninterrupted f flags samples answers × (map (λ a. a.values) answers ≡ values))
+
 -- A run at two levels. It comes to the end of each slow sample, without a trap. Its slow rows are those of the slow
 -- firmware alone under a plan at the same places that writes nothing: so are their answers, which are the slow block's,
 -- counts and frames. The levels that are taken are those before the end of their sample. Each fast run answers its
 -- sample, which is one of the fast ones, as the fast block over bytes, after the fast run before it, by at most so many
 -- instructions and steps; it begins where the slow run without interrupts is at its level's moment, and what is told of
--- it is read off its run without inner requests. No frame of either level stands below the stack's start.
+-- it is read off its run without inner requests; their answers are also those of the whole instructions of the fast
+-- firmware alone, one sample after the other. Each state of the slow run simulates that of the slow firmware alone
+-- without interrupts, which touches nothing of the fast block's, has SP on the stack, and holds the fast code. No frame
+-- of either level stands below the stack's start.
 pub record AnswersAtTwoLevels (slow fast : Block) (two : Two) (flags : ℕ) (slow_samples fast_samples : List (List ℕ))
     (levels : List Level) : Type 0 where
   pub arrived : (two_rows two slow_samples fast_samples levels flags).arrived ≡ true
@@ -125,6 +140,15 @@ pub record AnswersAtTwoLevels (slow fast : Block) (two : Two) (flags : ℕ) (slo
       ≡ (firmware_rows two.slow slow_samples (plan_of levels) flags).rows
   pub slow_answers : AnswerBlock slow two.slow flags slow_samples
       (two_rows two slow_samples fast_samples levels flags).rows
+  pub ns : List ℕ
+  pub complete : AllComplete (FactsBeside is_open_to_fast flags two.slow) (level_form flags two fast_samples) ns
+      slow_samples (first_state two.slow flags)
+  pub simulates : RowsSimulate OnStackOrNone is_open_to_fast (level_form flags two fast_samples) ns slow_samples
+      (two_rows two slow_samples fast_samples levels flags).states (first_state two.slow flags)
+  pub low : All (λ ws. All (λ w. stack_start ≤ w.regs.sp) ws)
+      (two_rows two slow_samples fast_samples levels flags).states
+  pub code : All (λ ws. All (λ w. HasFastCode (image_memory two.image.bytes) w.mem) ws)
+      (two_rows two slow_samples fast_samples levels flags).states
   pub taken : map (λ ts. asked ts) (two_rows two slow_samples fast_samples levels flags).told
       ≡ taken_by 1 levels (map (λ r. r.steps) (two_rows two slow_samples fast_samples levels flags).rows)
   pub fast_numbers : All (λ f. (1 ≤ f.number) × (f.number ≤ length fast_samples))
@@ -132,6 +156,9 @@ pub record AnswersAtTwoLevels (slow fast : Block) (two : Two) (flags : ℕ) (slo
   pub fast_answers : AreAnswersOf Byte fast (fast_most two.fast.instr_bound) (λ o. 0)
       (map (λ f. bytes_of fast_samples f.number) (fast_runs_of two slow_samples fast_samples levels flags))
       (map answer_of_fast (fast_runs_of two slow_samples fast_samples levels flags))
+  pub fast_uninterrupted : UninterruptedValues two.fast flags
+      (map (λ f. bytes_of fast_samples f.number) (fast_runs_of two slow_samples fast_samples levels flags))
+      (map (λ f. f.answers) (fast_runs_of two slow_samples fast_samples levels flags))
   pub fast_steps : All (λ f. f.steps ≤ fast_most two.fast.step_bound)
       (fast_runs_of two slow_samples fast_samples levels flags)
   pub told : AreTold fast two flags fast_samples [] (two_rows two slow_samples fast_samples levels flags).told

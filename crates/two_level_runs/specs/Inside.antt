@@ -1,6 +1,6 @@
 -- The fast code under inner requests, as a sound form.
 -- Beside the promise.
-use Rattle.std.specs.Prelude.{◌≡◌, ℕ, suc, ◌+◌, ◌^◌, ◌<◌, ◌≤◌, max, List, [], ◌∷◌, length}
+use Rattle.std.specs.Prelude.{◌≡◌, ℕ, suc, ◌+◌, ◌^◌, ◌<◌, ◌≤◌, max, List, [], ◌∷◌, length, All}
 use Rattle.fuzzy_meaning.specs.declared.block.Block.{Block}
 use Rattle.cpu12_isa.specs.{Agreement.WritesAgree, Fits.AreBytes, Regions.stack_start}
 use Rattle.cpu12_parts.specs.State.{State}
@@ -39,11 +39,12 @@ AreBelow sp (f ∷ fs) = (let frame : FrameSeen = f.1 in frame.sp + length frame
 
 -- A run under inner requests follows the run of n steps without: the same number of steps and instructions, the
 -- resumed count and the frames that are read off the states without, the same last state but for the stack below SP,
--- and a memory of bytes. No frame stands below the stack's start, and each below the SP with which it was entered. An
--- inner request is taken at its moment, or at boundary 1 where this is 0.
+-- and a memory of bytes. SP is nowhere below the stack's start, no frame stands there, and each stands below the SP
+-- with which it was entered. An inner request is taken at its moment, or at boundary 1 where this is 0.
 pub record FollowsInside (flags outputs most : ℕ) (inner : List ℕ) (n : ℕ) (s : State) : Type 0 where
   pub follows : Follows OnStackOnly is_open_inside (fast_form flags outputs s.regs.sp) HoldsBytes [] 0 n n inner s
       (fast_run flags outputs most inner s)
+  pub low : All (λ w. stack_start ≤ w.regs.sp) (fast_run flags outputs most inner s).states
   pub stack : AreOnStack (fast_run flags outputs most inner s).frames
   pub below : AreBelow s.regs.sp (fast_run flags outputs most inner s).frames
   pub moments : (q : ℕ) → taken_at flags (λ k. k) n s q ≡ max 1 q

@@ -18,7 +18,8 @@ abbrev pub entered : List ℕ → State → State
 entered bytes v = vectored (sampled bytes (pushed v))
 
 -- A form whose run begins where the fast code was entered with this SP. A request is a moment, at which the nine bytes
--- are pushed and pulled. It ends when the return is done: SP is higher. It answers this number of outputs.
+-- are pushed and pulled. It ends when the return is done, which is when SP is higher: up to it SP stays. It answers
+-- this number of outputs.
 abbrev pub fast_parts : ℕ → ℕ → FormParts (Unit {0}) ℕ (Unit {0})
 fast_parts outputs sp = record {
   give = λ x s. s;

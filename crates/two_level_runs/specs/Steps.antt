@@ -1,11 +1,12 @@
 -- The fast code as steps without interrupts.
 -- Beside the promise.
 use Rattle.std.specs.Prelude.{◌≡◌, ℕ, suc, ◌+◌, ◌^◌, ◌<◌, ◌≤◌, ◌⊎◌, ◌&&◌, ◌||◌, not, nat_le, nat_lt, Bool, true, false}
-use Rattle.std.specs.Prelude.{List, length, slice_index}
+use Rattle.std.specs.Prelude.{Ok, List, length, slice_index}
 use Rattle.fuzzy_meaning.specs.{declared.block.Block.Block, Blocks.IsValid}
 use Rattle.rule_layout.specs.{Slots.slots_of, Layouts.IsWithinLimits}
-use Rattle.cpu12_isa.specs.{declared.instr.Ccr.Ccr, Act.read_by, Agreement.AllShown, Fits.AreBytes, Flags.has}
-use Rattle.cpu12_isa.specs.{Flags.x_masked, Memory.from, Memory.bytes_at, Registers.pulled}
+use Rattle.cpu12_isa.specs.{declared.instr.Ccr.Ccr, declared.instr.Instr.TheVariants.Rti, Act.read_by}
+use Rattle.cpu12_isa.specs.{Agreement.AllShown, Code.decode_at, Fits.AreBytes, Flags.has, Flags.x_masked, Memory.from}
+use Rattle.cpu12_isa.specs.{Memory.bytes_at, Registers.pulled}
 use Rattle.cpu12_parts.specs.{declared.temps.Temps.TheVariants.Free, State.State, Laws.IsOff, Laws.addresses}
 use Rattle.cpu12_emul.specs.{Simulation.IsShownStep, Step.step_act, Take.may_interrupt, Image.image_memory}
 use Rattle.byte_scaling.specs.declared.width.Width.TheVariants.{Byte}
@@ -47,10 +48,10 @@ pub record IsOpenState (image : List ℕ) (flags sp : ℕ) (s : State) : Type 0 
   pub state : IsFastState image flags sp s
   pub unmasked : may_interrupt s ≡ true
 
--- From s, in which the fast code is entered, so many steps lead to t, where its return is done. I is 1 in s and 0
--- in each state between. Behind the return the registers are pulled from the frame, over flags with the X of s, no
--- sums run, none are left where there were none, and the answers stand after those before. Outside the fast block's
--- RAM memory is as it was, and in it outside the answers' bytes and the slots.
+-- From s, in which the fast code is entered, so many steps lead to t, where its return is done. I is 1 in s and 0 in
+-- each state between. The last step is an RTI. Behind it the registers are pulled from the frame, over flags with the
+-- X of s, no sums run, none are left where there were none, and the answers stand after those before. Outside the fast
+-- block's RAM memory is as it was, and in it outside the answers' bytes and the slots.
 pub record IsFastRun (b : Block) (image : List ℕ) (flags : ℕ) (bytes : List ℕ) (before : ℕ → ℕ) (s t : State)
     : Type 0 where
   pub further : ℕ
@@ -58,6 +59,7 @@ pub record IsFastRun (b : Block) (image : List ℕ) (flags : ℕ) (bytes : List 
   pub first : IsFastState image flags s.regs.sp s
   pub masked : may_interrupt s ≡ false
   pub each : Before (IsOpenState image flags s.regs.sp) flags further (stepped flags s)
+  pub returns : decode_at (uninterrupted flags further s).mem (uninterrupted flags further s).regs.pc ≡ Ok Rti
   pub ccr : Ccr
   pub x : has ccr x_masked ≡ has s.regs.ccr x_masked
   pub regs : t.regs ≡ pulled (record (s.regs) { ccr = ccr }) (bytes_at s.mem (from s.regs.sp 9))

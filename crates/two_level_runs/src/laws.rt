@@ -6,6 +6,7 @@ ghost use Rattle.two_level_runs.specs.Outer.{OuterEnters, OuterIsServable, Outer
 
 use crate::fast_code::FastForm;
 use crate::form::TwoLevelForm;
+use alone_code::laws::firmware_is_uninterrupted;
 use alone_runs::laws::{
     answers_under_plans, firmware_runs_beside, first_states_agree, first_states_alike,
     given_leaves_open, requests_are_good, steps_leave_open,
@@ -13,9 +14,8 @@ use alone_runs::laws::{
 use cpu12_emul::laws::{holds_image, step_fits, step_keeps, takes_quietly};
 use cpu12_isa::laws::{bytes_stay, frame_comes_back, writes_stay};
 use cpu12_parts::laws::wav_suspends;
-use run_law::laws::{
-    run_follows, runs_follow, step_laws, sums_fit_below, taken_at_once, writes_are_quiet,
-};
+use firmware_runs::laws::instruction_stays_within;
+use run_law::laws::{run_follows, runs_follow, sums_fit_below, taken_at_once, writes_are_quiet};
 use two_level_code::laws::{alone_has_byte_bounds, fast_answers_entered, two_stand_beside};
 
 /// The whole instructions with which the fast code answers, and its return, are steps from the state
@@ -24,7 +24,8 @@ use two_level_code::laws::{alone_has_byte_bounds, fast_answers_entered, two_stan
 pub fn fast_steps_return()
     ensures { FastStepsReturn }
 {
-    step_laws();
+    writes_stay();
+    instruction_stays_within();
 }
 
 /// From wherever the fast code of two blocks is entered it has such a run.
@@ -125,6 +126,7 @@ pub fn answers_under_levels()
     answers_under_plans();
     requests_are_good();
     alone_has_byte_bounds();
+    firmware_is_uninterrupted();
     runs_follow::<TwoLevelForm>();
 }
 

@@ -29,5 +29,6 @@ returns c = answers_under_levels (record {
   taken_at_once = c.taken_at_once.ensures;
   answers_under_plans = c.answers_under_plans.ensures;
   requests_are_good = c.requests_are_good.ensures;
+  firmware_is_uninterrupted = c.firmware_is_uninterrupted.ensures;
   runs_follow = c.runs_follow.ensures;
 })
