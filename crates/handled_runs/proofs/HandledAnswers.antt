@@ -100,6 +100,7 @@ comes_back laws b f handler most flags samples plan hf good is v limits h all =
       ns = ns;
       complete = completes;
       simulates = code.simulates;
+      code = λ k vs lt j v l. (let o = code.owns k vs lt j v l in let stands = o.1 in stands.image);
       back = (all_onto_all (CameBack most) (handled_rows f handler samples plan flags).told [] own.back).0;
     }
 

@@ -1,5 +1,6 @@
 mod Beginnings
 mod HandledAnswers
+pub mod States
 mod Returns
 mod JointBytes
 mod SampleBytes

@@ -137,25 +137,31 @@ shown_high sp at l h =
     let b : (nat_le 0x1FE0 at && nat_lt at sp) ≡ false = grind (arith, nat_tests) in
     rw (a, b)
 
+-- where an interrupt begins a handler can
+pub can_begin : SumsFitBelow → (flags : ℕ) (f : Firmware) (v s : State) → FactsBeside is_open_to_code flags f s
+    → Begins is_open_to_code v s → CanBegin v
+can_begin sums_fit_below flags f v s p begins =
+    let facts = p.facts in
+    let shown = facts.shown in
+    let room = shown.room in
+    let near = sp_near s.regs.sp p.stack in
+    let below = sums_fit_below s.regs s.temps room.fits room.low room.high in
+    record {
+      temps = begins.temps;
+      size = begins.mem.size ∙ room.size;
+      fits = subst (λ (r : Regs). FitsRegs r) (sym begins.regs) below.fits;
+      low = subst (λ (r : Regs). 0x1FF8 ≤ r.sp) (sym begins.regs) (omega (arith, below.low, near.0));
+      high = subst (λ (r : Regs). r.sp ≤ 0x2000) (sym begins.regs) (omega (arith, below.high, near.1));
+    }
+
 serves : (x : Handled) (done : List (Request × HandlerEnd)) (a : Request) (v s : State) → IsGoodRequest a
     → FactsBeside is_open_to_code x.flags x.firmware s → Begins is_open_to_code v s
     → HandlerStands x.handler x.most done v
     → Quiet OnStackOnly is_open_to_code (served x.flags a v).state v s
     × HandlerStands x.handler x.most ((a, end_of (served x.flags a v)) ∷ done) (served x.flags a v).state
 serves x done a v s good p begins own =
-    let facts = p.facts in
-    let shown = facts.shown in
-    let room = shown.room in
-    let near = sp_near s.regs.sp p.stack in
     let laws = x.laws in
-    let below = laws.sums_fit_below s.regs s.temps room.fits room.low room.high in
-    let can : CanBegin v = record {
-      temps = begins.temps;
-      size = begins.mem.size ∙ room.size;
-      fits = subst (λ (r : Regs). FitsRegs r) (sym begins.regs) below.fits;
-      low = subst (λ (r : Regs). 0x1FF8 ≤ r.sp) (sym begins.regs) (omega (arith, below.low, near.0));
-      high = subst (λ (r : Regs). r.sp ≤ 0x2000) (sym begins.regs) (omega (arith, below.high, near.1));
-    } in
+    let can = can_begin laws.sums_fit_below x.flags x.firmware v s p begins in
     let q : IsQuietCode x.flags x.most a.writes v s =
     laws.handlers_are_quiet is_open_to_code x.handler x.most x.flags a.writes v s x.is_handler
     (all_open a.writes good.free) own.image can begins in

@@ -1,5 +1,5 @@
 //! Laws of runs whose interrupts run code.
-ghost use Rattle.handled_runs.specs.Answering.{HandledAnswers, HandlersRunAlike};
+ghost use Rattle.handled_runs.specs.Answering.{HandledAnswers, HandlersRunAlike, StatesRunAsTakes};
 
 use crate::back::HandlerEnd;
 use crate::form::HandledForm;
@@ -9,11 +9,11 @@ use alone_runs::laws::{
     requests_are_good, runs_follow_beside, steps_leave_open,
 };
 use cpu12_emul::laws::{holds_image, images_load_alike};
-use handler_check::laws::handlers_are_quiet;
+use handler_check::laws::{handlers_are_quiet, handlers_run_as_takes};
 use interrupt_plan::Request;
 use run_forms::Notes;
 use run_forms::laws::rows_are_shown;
-use run_law::laws::{runs_follow, sums_fit_below};
+use run_law::laws::{handlers_begin, runs_follow, sums_fit_below};
 
 /// Under every good plan a block's firmware whose interrupts run an accepted handler gives the rows of
 /// the run in which they do the listed writes alone, and each interrupt comes to its handler's RTI after
@@ -33,6 +33,15 @@ pub fn handled_answers()
     requests_are_good();
     runs_follow::<HandledForm>();
     rows_are_shown::<Request, Notes<HandlerEnd>, HandledRow, HandledForm>();
+}
+
+/// In each state of such a run the handler can begin, and its interrupt is a take that writes free bytes.
+pub fn states_run_as_takes()
+    ensures { StatesRunAsTakes }
+{
+    handlers_begin();
+    sums_fit_below();
+    handlers_run_as_takes();
 }
 
 /// Handlers with the same bytes give the same rows.
