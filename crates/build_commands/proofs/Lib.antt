@@ -1,4 +1,3 @@
 pub mod RecordLemmas
-pub mod AcceptedLemmas
-pub mod OneLemmas
+pub mod SettledLemmas
 pub mod WrittenLemmas

@@ -9,7 +9,7 @@ use Rattle.fuzzy_meaning.specs.{Blocks.IsValid, declared.block.Block.Block}
 use Rattle.rule_layout.specs.Layouts.{IsWithinLimits}
 use Rattle.cpu12_isa.specs.Fits.{AreBytes}
 use Rattle.cpu12_asm.specs.Bytes.{FitsMemory, Holds, IsAscending, byte_at, start_of, word_or_zero}
-use Rattle.cpu12_asm.specs.{Items.given_by, Laws.GiveBytes, Laws.SourcesGiveBytes}
+use Rattle.cpu12_asm.specs.{Items.given_by, Laws.GiveBytes}
 use Rattle.cpu12_asm.specs.declared.{image.Image.Image, items.Item.Item}
 use Rattle.cpu12_emul.specs.Image.{HoldsImage, byte_or_zero, image_memory}
 use Rattle.alone_code.specs.{Images.IsImageOf, Standing.FirmwareIsBytes, Standing.MailboxIsBytes}
@@ -80,7 +80,6 @@ image_records texts holds items image is are =
 -- what images rest on
 pub record RecordLaws : Type 0 where
   pub texts : ImagesHaveTexts
-  pub sources : SourcesGiveBytes
   pub holds : HoldsImage
   pub alone : FirmwareIsBytes
   pub mailbox : MailboxIsBytes

@@ -3,7 +3,7 @@
 use Rattle.std.specs.Prelude.{◌≡◌, ℕ, List, [], ◌∷◌, length, codes, Result, Ok, Err}
 use Rattle.cpu12_asm.specs.{Bytes.IsAscending, Bytes.start_of, Sources.Assembles, Sources.assembled}
 use Rattle.cpu12_asm.specs.declared.image.Image.{Image}
-use Rattle.command_parts.specs.{SeenOutputs.SeenOutput, Lines.line}
+use Rattle.command_parts.specs.{Lines.line, Readings.IsSettled, SeenOutputs.SeenOutput}
 use Rattle.build_commands.specs.Written.{WritesImage}
 use Rattle.fz_status.specs.{Refusals.Refusals, Refusals.Refuses, declared.status.Status.Status}
 use Rattle.fz_status.specs.declared.status.Status.TheVariants as status
@@ -37,3 +37,7 @@ pub record AcceptsSource (source : List ℕ) (image : Image) : Type 0 where
 
 abbrev pub AsmAccepts : List ℕ → Type 0
 AsmAccepts source = (image : Image) × AcceptsSource source image
+
+-- a source makes at most one output, and then no fault; and one where it is accepted
+abbrev pub AsmIsSettled : Type 0
+AsmIsSettled = (source : List ℕ) → IsSettled (AsmMakes source) (AsmAccepts source)

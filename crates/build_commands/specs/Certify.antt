@@ -1,17 +1,17 @@
 -- The commands `certify FCL TARGET OUT`, `certify16 ..`, and `tcertify ..` and `tcertify16 ..` for tight certificates.
 -- Beside the promise.
-use Rattle.std.specs.Prelude.{◌≡◌, ◌≤◌, ℕ, List, [], ◌∷◌, ◌++◌, All, codes, Option, Some, option_map, Result, Ok, Err}
+use Rattle.std.specs.Prelude.{◌≡◌, ◌≤◌, ℕ, List, [], ◌∷◌, ◌++◌, All, codes, Option, Some, option_map, Result}
 use Rattle.fuzzy_meaning.specs.{declared.block.Block.Block}
 use Rattle.byte_scaling.specs.{Widths.parts, declared.width.Width.Width}
 use Rattle.box_tree.specs.{Certificates.CertText, Trees.leaf_count}
 use Rattle.box_tree.specs.declared.{cert.CertKind.CertKind, cert.Cert.Cert}
 use Rattle.error_certifier.specs.{Halving.IsHalving}
-use Rattle.fz_status.specs.{Refusals.Refusals, Refusals.Refuses, Words.Text, Words.word_at}
+use Rattle.fz_status.specs.{Words.Text, Words.word_at}
 use Rattle.fz_status.specs.declared.status.Status.{Status}
-use Rattle.fz_status.specs.declared.status.Status.TheVariants as status
 use Rattle.build_commands.specs.declared.certify.Certify.{Certify}
-use Rattle.command_parts.specs.{SeenOutputs.SeenOutput, Certs.StopsHalving, Words.number_of}
-use Rattle.command_parts.specs.Firmwares.{GivesBlock, RefusesText}
+use Rattle.command_parts.specs.{Certs.halving_in, Firmwares.GivesBlock, Firmwares.block_in, Words.number_of}
+use Rattle.command_parts.specs.Readings.{GivesSome, IsSettled, Reading, last, made_of, ◌then◌}
+use Rattle.command_parts.specs.SeenOutputs.{SeenOutput}
 use Rattle.command_parts.specs.Lines.{error_lines, line}
 
 abbrev pub certify_with : CertKind → Width → ℕ → Certify
@@ -44,19 +44,16 @@ pub record CertifyGives (certify : Certify) (text : List ℕ) (output : SeenOutp
   pub spelled : CertText certify.kind certify.width out cert
   pub output_is : output ≡ record { lines = certify_lines cert.claims (leaf_count cert.nodes); file = Some (4, out) }
 
--- why its file is refused: the text first
-abbrev pub certify_refusals : Certify → List ℕ → Refusals
-certify_refusals certify text (status.Fcl f) = RefusesText text f
-certify_refusals certify text (status.NotReached stop) =
-    (block : Block) × GivesBlock text block × StopsHalving certify.kind certify.width certify.target block stop
-certify_refusals certify text s = ⊥
+-- FCL's block, and the certificate of its halving
+abbrev pub certify_reading : Certify → List ℕ → Reading (Block × Cert)
+certify_reading certify text =
+    block_in text then λ block.
+    last (halving_in certify.kind certify.width certify.target block)
 
 abbrev pub CertifyMakes : Certify → List ℕ → Result SeenOutput Status → Type 0
-CertifyMakes certify text (Ok output) = CertifyGives certify text output
-CertifyMakes certify text (Err s) = Refuses (certify_refusals certify text) s
+CertifyMakes certify text = made_of (certify_reading certify text) (CertifyGives certify text)
 
--- the text gives a block, and its halving ends with a certificate
-abbrev pub CertifyAccepts : Certify → List ℕ → Type 0
-CertifyAccepts certify text =
-    (block : Block) × (cert : Cert) × GivesBlock text block
-    × IsHalving certify.kind block (parts certify.width) certify.target cert
+-- a text makes at most one output, and then no fault; and one where its block's halving ends with a certificate
+abbrev pub CertifyIsSettled : Type 0
+CertifyIsSettled = (certify : Certify) (text : List ℕ)
+    → IsSettled (CertifyMakes certify text) (GivesSome (certify_reading certify text))

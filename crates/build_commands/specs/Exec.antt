@@ -10,7 +10,7 @@ use Rattle.cpu12_emul.specs.declared.ends.RunEnd.TheVariants as end
 use Rattle.srecord.specs.Texts.{GivesImage}
 use Rattle.fz_shelf.specs.Parts.{ended}
 use Rattle.command_parts.specs.{SeenOutputs.SeenOutput, SeenOutputs.only_lines, Images.records_refusals}
-use Rattle.command_parts.specs.{Lines.registers_told, Words.number_of}
+use Rattle.command_parts.specs.{Lines.registers_told, Readings.IsSettled, Words.number_of}
 use Rattle.fz_status.specs.{Words.flags_of, declared.status.Status.Status}
 use Rattle.build_commands.specs.declared.exec.Exec.{Exec}
 use Rattle.fz_status.specs.{Refusals.Refusals, Refusals.Refuses, Words.Text, Words.word_at}
@@ -61,3 +61,7 @@ ExecMakes exec text (Err s) = Refuses (exec_refusals exec text) s
 -- the text gives an image, whose run arrives
 abbrev pub ExecAccepts : Exec → List ℕ → Type 0
 ExecAccepts exec text = (steps : ℕ) × (last : State) × Ends exec text (end.Arrived steps) last
+
+-- records make at most one output, and then no fault; and one where their run arrives
+abbrev pub ExecIsSettled : Type 0
+ExecIsSettled = (exec : Exec) (text : List ℕ) → IsSettled (ExecMakes exec text) (ExecAccepts exec text)

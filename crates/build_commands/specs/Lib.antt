@@ -1,4 +1,3 @@
-pub mod Accepted
 pub mod Asm
 pub mod Certify
 pub mod Check
@@ -6,5 +5,4 @@ pub mod Compile
 pub mod Exec
 pub mod Hcheck
 pub mod Lcompile
-pub mod OneOutput
 pub mod Written

@@ -1,4 +1,4 @@
--- Lines of items that are counted, texts that are written part by part, and refusals.
+-- Lines of items that are counted, texts that are written part by part, refusals, and readings.
 use Rattle.std.proofs.Common.{refl, ◌≡◌, ◌<◌, ◌+◌, ℕ, true, List, [], ◌∷◌, ◌++◌, length, take, get_or, sym, subst}
 use Rattle.std.proofs.Common.{◌∙◌, ap}
 use Rattle.std.proofs.Common.{arith, append_assoc, add-one, inl, inr}
@@ -9,10 +9,14 @@ use Rattle.std.proofs.lemmas.List.Elements.{All-cons, All-head, All-nil, All-tai
 use Rattle.cpu12_isa.specs.declared.instr.Regs.{Regs}
 use Rattle.fz_shelf.proofs.Algebra.{bare-address, bare-append, bare-byte}
 use Rattle.fz_shelf.specs.{Lines.has_no_end, Parts.address_digits, Parts.byte_digits}
-use Rattle.fz_status.specs.Refusals.{CarriesNoMemory, IsRefusal, Refusals, Refuses, Tells}
+use Rattle.fz_status.specs.Refusals.{CarriesNoMemory, IsRefusal, Refusals, Refuses, Tells, of_fast}
 use Rattle.fz_status.specs.declared.status.Status.{Status}
 use Rattle.fz_status.specs.declared.status.Status.TheVariants as status
 use Rattle.command_parts.specs.Lines.{counted, registers_told}
+use Rattle.command_parts.specs.Readings.{AreExact, Gives, GivesSome, IsExact, IsRefused, IsSettled, Reading, SeenOf}
+use Rattle.command_parts.specs.Readings.{Stage}
+use Rattle.command_parts.specs.Readings.{TellsContents, for_fast, last, made_of, refusals, seen_of, ◌then◌}
+use Rattle.command_parts.specs.SeenOutputs.{IsFaultOf, SeenOutput}
 
 -- ---- counted items, one more
 
@@ -91,3 +95,112 @@ told why carrying (Ok x) tells refused = tt
 told why carrying (Err s) (inl (none, is)) refused =
     subst (λ x. IsRefusal why x) (sym is) (refuses why carrying (none, refused none))
 told why carrying (Err s) (inr (want, is)) refused = subst (λ x. IsRefusal why x) (sym is) tt
+
+-- ---- readings of files, each of which is exact
+
+pub seen_once : {B : Type 0} (r : Reading B) → AreExact r → (b d : B) → Gives r b → Gives r d
+    → seen_of r b ≡ seen_of r d
+seen_once (last f) exact b d g h = exact.one b d g h
+seen_once (first then next) exact p q g h =
+    let all : (s : first.Seen) → SeenOf (next s) → SeenOf (first then next) = λ s z. (s, z) in
+    subst (λ s. Gives (next s) q.1
+    → all (first.seen p.0) (seen_of (next (first.seen p.0)) p.1) ≡ all s (seen_of (next s) q.1))
+    (exact.0.one p.0 q.0 g.0 h.0)
+    (λ k. ap (all (first.seen p.0)) (seen_once (next (first.seen p.0)) (exact.1 p.0 g.0) p.1 q.1 g.1 k)) h.1
+
+pub not_refused : {B : Type 0} (r : Reading B) → AreExact r → (b : B) (s : Status) → Gives r b → CarriesNoMemory s
+    → refusals r s → ⊥
+not_refused (last f) exact b s g carries w = exact.apart b s g (carries, w)
+not_refused (first then next) exact p s g carries (inl w) = exact.0.apart p.0 s g.0 (carries, w)
+not_refused (first then next) exact p s g carries (inr (d, h, w)) =
+    not_refused (next (first.seen p.0)) (exact.1 p.0 g.0) p.1 s g.1 carries
+    (subst (λ t. refusals (next t) s) (exact.0.one d p.0 h g.0) w)
+
+told_contents : {B : Type 0} (r : Reading B) → AreExact r → (s : Status) → refusals r s → TellsContents s
+told_contents (last f) exact s w = exact.contents s w
+told_contents (first then next) exact s (inl w) = exact.0.contents s w
+told_contents (first then next) exact s (inr (d, h, w)) = told_contents (next (first.seen d)) (exact.1 d h) s w
+
+-- a file that is refused by faults of one kind, which its status tells
+pub exact_of : {B F : Type 0} (f : Stage B) (tell : F → Status) (Has : F → Type 0)
+    → ((x : F) → TellsContents (tell x)) → ((s : Status) → f.refuses s → (x : F) × (s ≡ tell x) × Has x)
+    → ((b d : B) → f.gives b → f.gives d → f.seen b ≡ f.seen d)
+    → ((b : B) (x : F) → f.gives b → CarriesNoMemory (tell x) → Has x → ⊥) → IsExact f
+exact_of f tell Has contents has one none = record {
+  one = one;
+  apart = λ b s g w. (let h = has s w.1 in
+      none b h.0 g (subst (λ t. CarriesNoMemory t) h.1 w.0) h.2);
+  contents = λ s w. (let h = has s w in subst (λ t. TellsContents t) (sym h.1) (contents h.0));
+}
+
+carries_fast : (t : Status) → CarriesNoMemory (of_fast t) → CarriesNoMemory t
+carries_fast (status.Fcl f) c = c
+carries_fast (status.Cert f) c = c
+carries_fast (status.Trace f) c = c
+carries_fast s c = c
+
+tells_fast : (t : Status) → TellsContents t → TellsContents (of_fast t)
+tells_fast (status.Fcl f) c = tt
+tells_fast (status.Cert f) c = tt
+tells_fast (status.Trace f) c = tt
+tells_fast s c = c
+
+pub exact_fast : {B : Type 0} (f : Stage B) → IsExact f → IsExact (for_fast f)
+exact_fast f own = record {
+  one = own.one;
+  apart = λ b s g w. own.apart b w.1.0 g
+      (carries_fast w.1.0 (subst (λ t. CarriesNoMemory t) w.1.1 w.0), w.1.2);
+  contents = λ s w. subst (λ t. TellsContents t) (sym w.1) (tells_fast w.0 (own.contents w.0 w.2));
+}
+
+-- ---- what refuses files
+
+pub refused_fast : {B : Type 0} (f : Stage B) (s : Status) → IsRefusal f.refuses s
+    → IsRefusal (for_fast f).refuses (of_fast s)
+refused_fast f status.Memory w = tt
+refused_fast f (status.Fcl x) w = (w.0, (status.Fcl x, refl, w.1))
+refused_fast f (status.Cert x) w = (w.0, (status.Cert x, refl, w.1))
+refused_fast f (status.Trace x) w = (w.0, (status.Trace x, refl, w.1))
+refused_fast f s w = (w.0, (s, refl, w.1))
+
+refused_by : {B : Type 0} (r : Reading B) (s : Status) → IsRefused r s → IsRefusal (refusals r) s
+refused_by (last f) s w = w
+refused_by (first then next) s (inl w) = refused first.refuses (refusals (first then next)) (λ t x. inl x) s w
+refused_by (first then next) s (inr (b, g, w)) =
+    refused (refusals (next (first.seen b))) (refusals (first then next)) (λ t x. inr (b, g, x)) s
+    (refused_by (next (first.seen b)) s w)
+
+-- what refuses files is a fault of what is made of them
+pub faulted : {B : Type 0} (r : Reading B) (gives : SeenOutput → Type 0)
+    → ((s : Status) → Refuses (refusals r) s → CarriesNoMemory s × TellsContents s) → (s : Status) → IsRefused r s
+    → IsFaultOf (made_of r gives) s
+faulted r gives contents s w = go s (refused_by r s w)
+  where
+    go : (t : Status) → IsRefusal (refusals r) t → IsFaultOf (made_of r gives) t
+    go status.Ok x = (contents status.Ok x).1
+    go status.Usage x = (contents status.Usage x).1
+    go (status.ReadFault p) x = (contents (status.ReadFault p) x).1
+    go status.WriteFault x = (contents status.WriteFault x).1
+    go (status.TooLong p) x = (contents (status.TooLong p) x).1
+    go status.Memory x = tt
+    go t x = x
+
+-- what a command makes is settled, where it gives outputs of accepted files alone, and one of what is seen of them
+pub settled : {B : Type 0} (r : Reading B) (gives : SeenOutput → Type 0) (accepted : Type 0) → AreExact r
+    → (given : (output : SeenOutput) → gives output → GivesSome r)
+    → ((output other : SeenOutput) (a : gives output) (b : gives other)
+    → seen_of r (given output a).0 ≡ seen_of r (given other b).0 → output ≡ other)
+    → (accepted → (output : SeenOutput) × gives output) → IsSettled (made_of r gives) accepted
+settled r gives accepted exact given one some = record {
+  one = λ output other a b. (let p = given output a in
+      let q = given other b in
+      one output other a b (seen_once r exact p.0 q.0 p.1 q.1));
+  no_fault = λ output s a w. (let p = given output a in not_refused r exact p.0 s p.1 w.0 w.1);
+  some = some;
+  contents = λ s w. (w.0, told_contents r exact s w.1);
+}
+
+-- and so where more is asked
+pub settled_with : {made : Result SeenOutput Status → Type 0} {accepted more : Type 0} → IsSettled made accepted
+    → IsSettled made (more × accepted)
+settled_with s = record { one = s.one; no_fault = s.no_fault; some = λ a. s.some a.1; contents = s.contents }

@@ -1,7 +1,7 @@
 -- A certificate that a block accepts is not refused.
 use Rattle.std.proofs.Common.{◌≡◌, ◌≢◌, ℕ, List}
 use Rattle.std.specs.Prelude.{Result, Ok, Err}
-use Rattle.fuzzy_meaning.specs.declared.block.Block.{Block}
+use Rattle.fuzzy_meaning.specs.{Blocks.IsValid, declared.block.Block.Block}
 use Rattle.byte_scaling.specs.{Widths.parts, declared.width.Width.Width}
 use Rattle.box_tree.specs.Certificates.{HasFault, bad_version}
 use Rattle.box_tree.specs.declared.{cert.CertKind.CertKind, cert.CertFault.CertFault}
@@ -18,7 +18,7 @@ use Rattle.cert_check.specs.declared.text.TextFault.TheVariants as refusal
 use Rattle.cert_check.specs.Faults.{IsPairFault, bad_rule, fails, IsCellsFault, too_many, unsure, IsClaimFault}
 use Rattle.cert_check.specs.Faults.{HasTreeFault, bad_cut, bad_leaf, HasCheckFault, outputs, tree, claimed}
 use Rattle.cert_check.specs.{Laws.TextAnswersAreOne, TextFaults.HasTextFault, TextFaults.of_text, TextFaults.of_cert}
-use Rattle.command_parts.specs.Certs.{AcceptedCertsHaveNoFault, AcceptedErrorsAreOne, HasCertFault, cert_refusals}
+use Rattle.command_parts.specs.Certs.{AcceptsCert, HasCertFault, cert_refusals}
 use Rattle.fz_status.specs.{Refusals.IsRefusal, Refusals.status_of, declared.status.CertRefusal.CertRefusal}
 use Rattle.fz_status.specs.declared.status.CertRefusal.TheVariants as told
 
@@ -32,7 +32,10 @@ has_refusal : (kind : CertKind) (width : Width) (block : Block) (text : List ℕ
 has_refusal kind width block text (told.Text f) h = h
 has_refusal kind width block text (told.Check f) h = h
 
-pub certs_apart : TextAnswersAreOne → AcceptedCertsHaveNoFault
+-- a certificate that a block accepts is not refused
+pub certs_apart : TextAnswersAreOne → (kind : CertKind) (width : Width) (block : Block) (text errors : List ℕ)
+    (f : CertRefusal) → IsValid block → AcceptsCert kind width block text errors
+    → HasCertFault kind width block text f → ⊥
 certs_apart answers kind width block text errors f valid accepts fault =
     let refused = has_refusal kind width block text f fault in
     let same : Ok errors ≡ Err (refusal_of f) =
@@ -87,7 +90,9 @@ as_refusal kind width block text (refusal.Check f) h = let is = h (λ e. let z :
     check_is (of_cert c g spelled fault) = check_carries block (parts width) c g fault
 
 -- a certificate is accepted with one list of errors
-pub errors_are_one : TextAnswersAreOne → AcceptedErrorsAreOne
+pub errors_are_one : TextAnswersAreOne → (kind : CertKind) (width : Width) (block : Block)
+    (cert errors others : List ℕ) → IsValid block → AcceptsCert kind width block cert errors
+    → AcceptsCert kind width block cert others → errors ≡ others
 errors_are_one one kind width block cert errors others valid a b =
     let x : Result (List ℕ) TheRefusal = Ok errors in
     let y : Result (List ℕ) TheRefusal = Ok others in

@@ -1,6 +1,6 @@
 -- Certificates of a text's block.
 -- Beside the promise.
-use Rattle.std.specs.Prelude.{◌≡◌, ℕ, List}
+use Rattle.std.specs.Prelude.{ℕ, List}
 use Rattle.error_certifier.specs.{Halving.IsHalving, Halving.StopsAt, Laws.SaysOutOfReach}
 use Rattle.error_certifier.specs.declared.certifier.NotReached.{NotReached}
 use Rattle.box_tree.specs.{declared.cert.Cert.Cert, declared.cert.CertKind.CertKind}
@@ -8,7 +8,7 @@ use Rattle.fuzzy_meaning.specs.{Blocks.IsValid, declared.block.Block.Block}
 use Rattle.byte_scaling.specs.{Widths.parts, declared.width.Width.Width}
 use Rattle.cert_check.specs.TextFaults.{IsAcceptedText, HasTextFault}
 use Rattle.cert_check.specs.declared.text.TextFault.TheVariants as refusal
-use Rattle.command_parts.specs.{Firmwares.OfFirmware, declared.firmware.Form.TheVariants.Alone}
+use Rattle.command_parts.specs.Readings.{IsExact, Stage}
 use Rattle.fz_status.specs.{Refusals.Refusals, declared.status.CertRefusal.CertRefusal}
 use Rattle.fz_status.specs.declared.status.CertRefusal.TheVariants as told
 use Rattle.fz_status.specs.declared.status.Status.TheVariants as status
@@ -28,20 +28,18 @@ abbrev pub cert_refusals : CertKind → Width → Block → List ℕ → Refusal
 cert_refusals kind width block cert (status.Cert f) = HasCertFault kind width block cert f
 cert_refusals kind width block cert s = ⊥
 
--- why CERT is refused, the text giving firmware
-abbrev pub RefusesCert : CertKind → Width → List ℕ → List ℕ → CertRefusal → Type 0
-RefusesCert kind width text cert f =
-    OfFirmware (Alone width) text (λ block firmware. HasCertFault kind width block cert f)
+-- the errors of a certificate that the block accepts
+abbrev pub cert_in : CertKind → Width → Block → List ℕ → Stage (List ℕ)
+cert_in kind width block cert = record {
+  gives = AcceptsCert kind width block cert;
+  Seen = List ℕ;
+  seen = λ errors. errors;
+  refuses = cert_refusals kind width block cert;
+}
 
--- a certificate that a block accepts is not refused
-abbrev pub AcceptedCertsHaveNoFault : Type 0
-AcceptedCertsHaveNoFault = (kind : CertKind) (width : Width) (block : Block) (cert errors : List ℕ) (f : CertRefusal)
-    → IsValid block → AcceptsCert kind width block cert errors → HasCertFault kind width block cert f → ⊥
-
--- a certificate is accepted with one list of errors
-abbrev pub AcceptedErrorsAreOne : Type 0
-AcceptedErrorsAreOne = (kind : CertKind) (width : Width) (block : Block) (cert errors others : List ℕ) → IsValid block
-    → AcceptsCert kind width block cert errors → AcceptsCert kind width block cert others → errors ≡ others
+abbrev pub CertsAreExact : Type 0
+CertsAreExact = (kind : CertKind) (width : Width) (block : Block) (cert : List ℕ) → IsValid block
+    → IsExact (cert_in kind width block cert)
 
 -- halving for this kind stops so, and for a cell no certificate that is accepted has a smaller error: for tight ones
 -- none at all, for those that name rules none that does
@@ -55,8 +53,15 @@ abbrev pub target_refusals : CertKind → Width → ℕ → Block → Refusals
 target_refusals kind width target block (status.NotReached stop) = StopsHalving kind width target block stop
 target_refusals kind width target block s = ⊥
 
--- halving does not stop at a block with a certificate of it
-abbrev pub HalvedBlocksDoNotStop : Type 0
-HalvedBlocksDoNotStop =
-    (kind : CertKind) (width : Width) (target : ℕ) (block : Block) (cert : Cert) (stop : NotReached) → IsValid block
-    → IsHalving kind block (parts width) target cert → StopsHalving kind width target block stop → ⊥
+-- the certificate of a block's halving within this target
+abbrev pub halving_in : CertKind → Width → ℕ → Block → Stage Cert
+halving_in kind width target block = record {
+  gives = IsHalving kind block (parts width) target;
+  Seen = Cert;
+  seen = λ cert. cert;
+  refuses = target_refusals kind width target block;
+}
+
+abbrev pub HalvingsAreExact : Type 0
+HalvingsAreExact = (kind : CertKind) (width : Width) (target : ℕ) (block : Block) → IsValid block
+    → IsExact (halving_in kind width target block)

@@ -8,8 +8,9 @@ use Rattle.alone_code.specs.{Firmwares.IsFirmwareOf, Mailboxes.IsMailboxOf, decl
 use Rattle.watched_code.specs.Watched.{IsWatchedFirmwareOf}
 use Rattle.fcl_syntax.specs.Text.{IsFirstFault}
 use Rattle.fcl_check.specs.Texts.{SpellsBlock, HasLoadFault}
+use Rattle.command_parts.specs.Readings.{IsExact, Stage}
 use Rattle.command_parts.specs.declared.firmware.{Form.Form, Form.TheVariants.Alone, Form.TheVariants.Mailbox}
-use Rattle.command_parts.specs.declared.firmware.{Form.TheVariants.Watched}
+use Rattle.command_parts.specs.declared.firmware.{Compiled.Compiled, Form.TheVariants.Watched}
 use Rattle.fz_status.specs.{Refusals.CarriesNoMemory, Refusals.Refusals, declared.status.FclFault.FclFault}
 use Rattle.fz_status.specs.declared.status.FclFault.TheVariants as fcl
 use Rattle.fz_status.specs.declared.status.Status.TheVariants as status
@@ -31,11 +32,6 @@ pub record GivesFirmware (form : Form) (text : List ℕ) (block : Block) (firmwa
   pub limits : IsWithinLimits block
   pub compiled : IsOfForm form block firmware
 
--- the text gives firmware of this form, of which this holds
-abbrev pub OfFirmware : Form → List ℕ → (Block → Firmware → Type 0) → Type 0
-OfFirmware form text holds =
-    (block : Block) × (firmware : Firmware) × GivesFirmware form text block firmware × holds block firmware
-
 -- why a text gives no firmware, in any form
 abbrev pub RefusesText : List ℕ → FclFault → Type 0
 RefusesText text (fcl.Syntax f) = IsFirstFault text f
@@ -46,20 +42,27 @@ abbrev pub text_refusals : List ℕ → Refusals
 text_refusals text (status.Fcl f) = RefusesText text f
 text_refusals text s = ⊥
 
+-- the block of a text
+abbrev pub block_in : List ℕ → Stage Block
+block_in text = record { gives = GivesBlock text; Seen = Block; seen = λ block. block; refuses = text_refusals text }
+
+abbrev pub BlocksAreExact : Type 0
+BlocksAreExact = (text : List ℕ) → IsExact (block_in text)
+
+-- the block of a text, with its firmware of this form
+abbrev pub firmware_in : Form → List ℕ → Stage Compiled
+firmware_in form text = record {
+  gives = λ c. GivesFirmware form text c.block c.firmware;
+  Seen = Compiled;
+  seen = λ c. c;
+  refuses = text_refusals text;
+}
+
+abbrev pub FirmwaresAreExact : Type 0
+FirmwaresAreExact = (form : Form) (text : List ℕ) → IsExact (firmware_in form text)
+
 -- a text that gives a block gives firmware of each form
 abbrev pub GivenBlocksHaveFirmware : Type 0
 GivenBlocksHaveFirmware =
     (form : Form) (text : List ℕ) (block : Block) → GivesBlock text block
     → (firmware : Firmware) × GivesFirmware form text block firmware
-
--- a text gives one block, and one firmware of a form
-abbrev pub GivenFirmwaresAreOne : Type 0
-GivenFirmwaresAreOne = (form : Form) (text : List ℕ) (block other : Block) (firmware others : Firmware)
-    → GivesFirmware form text block firmware → GivesFirmware form text other others
-    → (block ≡ other) × (firmware ≡ others)
-
--- a text that spells a block within the limits is not refused
-abbrev pub SpelledTextsHaveNoFault : Type 0
-SpelledTextsHaveNoFault =
-    (text : List ℕ) (block : Block) (f : FclFault) → SpellsBlock text block → IsWithinLimits block
-    → CarriesNoMemory (status.Fcl f) → RefusesText text f → ⊥

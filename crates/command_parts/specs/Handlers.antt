@@ -1,11 +1,12 @@
 -- Handlers that texts of records give.
 -- Beside the promise.
-use Rattle.std.specs.Prelude.{ℕ, List}
-use Rattle.cpu12_asm.specs.declared.image.Image.{Image}
+use Rattle.std.specs.Prelude.{ℕ, List, Option}
+use Rattle.cpu12_asm.specs.{Bytes.byte_at, declared.image.Image.Image}
 use Rattle.handler_check.specs.Images.{IsHandler, IsFault}
 use Rattle.srecord.specs.Texts.{GivesImage}
-use Rattle.command_parts.specs.Images.{records_refusals}
-use Rattle.fz_status.specs.{Refusals.Refusals, Refusals.Refuses, declared.status.Status.Status}
+use Rattle.command_parts.specs.{Images.records_refusals, Readings.IsExact, Readings.Stage}
+use Rattle.command_parts.specs.declared.handlers.AcceptedHandler.{AcceptedHandler}
+use Rattle.fz_status.specs.Refusals.{Refusals}
 use Rattle.fz_status.specs.declared.status.Status.TheVariants as status
 
 -- the text gives this image, which is an accepted handler; its longest path has so many instructions
@@ -18,7 +19,14 @@ abbrev pub handler_refusals : List ℕ → Refusals
 handler_refusals text (status.Handler f) = (image : Image) × GivesImage text image × IsFault image.bytes f
 handler_refusals text s = records_refusals text s
 
--- a text that gives a handler is not refused
-abbrev pub GivenHandlersHaveNoFault : Type 0
-GivenHandlersHaveNoFault = (text : List ℕ) (image : Image) (instrs : ℕ) (s : Status) → GivesHandler text image instrs
-    → Refuses (handler_refusals text) s → ⊥
+-- a handler with the instructions of its longest path, which is seen by these and by its bytes
+abbrev pub handler_in : List ℕ → Stage AcceptedHandler
+handler_in text = record {
+  gives = λ a. GivesHandler text a.image a.handler.instrs;
+  Seen = (ℕ → Option ℕ) × ℕ;
+  seen = λ a. (byte_at a.image.bytes, a.handler.instrs);
+  refuses = handler_refusals text;
+}
+
+abbrev pub HandlersAreExact : Type 0
+HandlersAreExact = (text : List ℕ) → IsExact (handler_in text)

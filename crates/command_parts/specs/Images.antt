@@ -3,6 +3,7 @@
 use Rattle.std.specs.Prelude.{◌≡◌, ◌≢◌, ℕ, List}
 use Rattle.cpu12_asm.specs.{Bytes.IsFirstDifference, Bytes.byte_at, declared.image.Image.Image}
 use Rattle.srecord.specs.Texts.{GivesImage, HasFault}
+use Rattle.command_parts.specs.Readings.{IsExact, Stage}
 use Rattle.fz_status.specs.{Refusals.Refusals, declared.status.ImageFault.ImageFault}
 use Rattle.fz_status.specs.declared.status.ImageFault.TheVariants as image
 use Rattle.fz_status.specs.declared.status.Status.TheVariants as status
@@ -31,12 +32,19 @@ abbrev pub image_refusals : List ℕ → Image → Refusals
 image_refusals text wanted (status.Image f) = RefusesImage text wanted f
 image_refusals text wanted s = ⊥
 
--- records that give an image are not refused for it
-abbrev pub GivenImagesHaveNoFault : Type 0
-GivenImagesHaveNoFault =
-    (records : List ℕ) (wanted : Image) (f : ImageFault) → GivesImage records wanted → RefusesImage records wanted f → ⊥
+-- a text that is to give this image, and gives nothing more
+abbrev pub image_in : List ℕ → Image → Stage (Unit {0})
+image_in text wanted = record {
+  gives = λ u. GivesImage text wanted;
+  Seen = Unit {0};
+  seen = λ u. tt;
+  refuses = image_refusals text wanted;
+}
 
--- nor refused as records
+abbrev pub ImagesAreExact : Type 0
+ImagesAreExact = (text : List ℕ) (wanted : Image) → IsExact (image_in text wanted)
+
+-- records that give an image are not refused
 abbrev pub GivenRecordsHaveNoFault : Type 0
 GivenRecordsHaveNoFault = (records : List ℕ) (given : Image) (f : ImageFault) → GivesImage records given
     → RefusesRecords records f → ⊥

@@ -4,6 +4,7 @@ pub mod Firmwares
 pub mod Handlers
 pub mod Images
 pub mod Lines
+pub mod Readings
 pub mod SeenOutputs
 pub mod Twos
 pub mod Words

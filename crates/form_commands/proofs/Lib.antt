@@ -1,8 +1,6 @@
 pub mod HandledLemmas
 pub mod LevelLemmas
 pub mod LevelLines
-pub mod LevelRefusals
-pub mod OneLemmas
 pub mod PostedLemmas
 pub mod WatchedLemmas
 pub mod Words

@@ -2,22 +2,32 @@
 use Rattle.form_commands.proofs.Words.{[], ◌++◌, ◌+◌, ◌-◌, ◌∙◌, ◌∷◌, ◌≡◌, ◌≤◌, AcceptsCert, All, All-cons, All-head}
 use Rattle.form_commands.proofs.Words.{All-tail, answer_line, answer_seen, AnswersKeepTheBound, ap, ap₂, AreAnswersOf}
 use Rattle.form_commands.proofs.Words.{arith, begun_lines, Block, boundary_seen, Byte, bytes_of, codes, counted}
-use Rattle.form_commands.proofs.Words.{counted-map, Firmware, Frame, frames_seen, GivesFirmware, GivesImage}
-use Rattle.form_commands.proofs.Words.{input_bytes, IsOneOf, IsRefusal, length, length-map, line, List, made_with}
-use Rattle.form_commands.proofs.Words.{Mailbox, mailbox_bound, map, map-map, mrun_lines, Named, of_seen}
+use Rattle.form_commands.proofs.Words.{CertKind, Compiled, counted-map, Firmware, Frame, frames_seen, GivesFirmware}
+use Rattle.form_commands.proofs.Words.{input_bytes, IsOneOf, length, length-map, line, List, made_with}
+use Rattle.form_commands.proofs.Words.{◌<◌, ◌^◌, Mailbox, mailbox_bound, map, map-map, mrun_lines, of_seen, Reading}
+use Rattle.form_commands.proofs.Words.{only_lines}
 use Rattle.form_commands.proofs.Words.{posted_report, PostedAnswersAreNear, PostedFiles, refl, run_of}
 use Rattle.form_commands.proofs.Words.{run_under_posts, Sample, SpelledBytesFit, SpellsTrace, Status, subst, sym}
 use Rattle.form_commands.proofs.Words.{true, ℕ}
 use Rattle.mailbox_runs.specs.Runs.{AnswerSeen, RunSeen, arrival, steps_of}
-use Rattle.form_commands.specs.Mrun.{AcceptedPostedRunsMakeOutput, mrun_refusals, posts_refusals, taken_line}
-use Rattle.run_reports.specs.PostedRun.{AcceptsPosted, PostedReport, PostedRun, answered_samples}
+use Rattle.form_commands.specs.Mrun.{MrunGives, MrunIsSettled, taken_line}
+use Rattle.form_commands.specs.declared.mrun.Mrun.{Mrun}
+use Rattle.run_reports.specs.PostedRun.{AcceptsPosted, PostedReport, PostedRun, answered_samples, posted_reading}
+use Rattle.run_reports.specs.PostedRun.{posts_in, posts_refusals}
+use Rattle.run_reports.specs.Inputs.{TracesAreExact}
+use Rattle.command_parts.proofs.Algebra.{exact_of, settled}
+use Rattle.command_parts.specs.{Certs.CertsAreExact, Firmwares.FirmwaresAreExact, Images.ImagesAreExact}
+use Rattle.command_parts.specs.Readings.{AreExact, GivesSome, IsExact, seen_of}
+use Rattle.command_parts.specs.SeenOutputs.{SeenOutput}
 use Rattle.std.proofs.{Common.◌≢◌, Common.Bool, Common.false}
 use Rattle.std.specs.{Prelude.if◌then◌else◌, Prelude.nat_le, Prelude.◌==◌}
 use Rattle.cpu12_emul.specs.{Take.FrameSeen}
 use Rattle.byte_scaling.specs.declared.width.Width.{Width}
 use Rattle.std.proofs.lemmas.Bool.Decides.{nat_tests}
 use Rattle.cpu12_parts.specs.State.{State}
-use Rattle.interrupt_plan.specs.{Posts.AreGoodPosts, declared.Post.Post}
+use Rattle.interrupt_plan.specs.{Posts.AreGoodPosts, Posts.PostsHaveFault, Posts.SpellsPosts, declared.Post.Post}
+use Rattle.interrupt_plan.specs.declared.PlanFault.{PlanFault}
+use Rattle.interrupt_plan.specs.OneReading.{SpelledPostsAreOne, SpelledPostsHaveNoFault}
 use Rattle.mailbox_runs.specs.Answering.{AnswersItsPosts, AnswersUnderAllPosts, AnswersUnderPosts, answer_in, ended}
 use Rattle.mailbox_runs.specs.Answering.{run_of_turns}
 use Rattle.mailbox_runs.specs.Turns.{AreTurns, LastIsAnswered, Turn, behind, over, idle, answers, samples_of, up_to}
@@ -106,15 +116,27 @@ module _ (flags : ℕ) (f : Firmware) (bytes : List (List ℕ)) where
 
 -- what it answers of accepted files is the run of them
 module _ (keep : AnswersKeepTheBound) (fit : SpelledBytesFit) (near : PostedAnswersAreNear) (lasts : LastIsAnswered)
-    (flags : ℕ) (files : PostedFiles) (block : Block)
+    (kind : CertKind) (flags : ℕ) (files : PostedFiles) (block : Block)
     (firmware : Firmware) (errors : List ℕ) (samples : List Sample) (posts : List Post)
-    (a : AcceptsPosted files block firmware errors samples posts) (told : List AnswerSeen)
+    (a : AcceptsPosted kind files block firmware errors samples posts) (told : List AnswerSeen)
     (frames : List (ℕ × FrameSeen)) (resumed : ℕ)
     (told_are : told ≡ (run_under_posts firmware (map input_bytes samples) posts flags).answers)
     (frames_are : frames ≡ (run_under_posts firmware (map input_bytes samples) posts flags).frames)
     (resumed_is : resumed ≡ (run_under_posts firmware (map input_bytes samples) posts flags).resumed)
     (all : AnswersItsPosts firmware flags (map input_bytes samples) posts
     (run_under_posts firmware (map input_bytes samples) posts flags)) where
+  compiled : GivesFirmware Mailbox files.fcl block firmware
+  compiled = a.0
+
+  accepted : AcceptsCert kind Byte block files.cert errors
+  accepted = a.1.1.0
+
+  in_range : SpellsTrace block.inputs files.trace samples
+  in_range = a.1.1.1.0
+
+  good_posts : SpellsPosts (length samples) files.posts posts
+  good_posts = a.1.1.1.1
+
   abbrev bytes : List (List ℕ)
   bytes = map input_bytes samples
 
@@ -122,8 +144,8 @@ module _ (keep : AnswersKeepTheBound) (fit : SpelledBytesFit) (near : PostedAnsw
   report = posted_report errors firmware.instr_bound told frames resumed
 
   defined : AnswersUnderPosts block firmware flags bytes posts (run_under_posts firmware bytes posts flags)
-  defined = all block a.compiled.spelled.valid a.compiled.limits a.compiled.compiled.0
-      (fit block files.trace samples a.in_range)
+  defined = all block compiled.spelled.valid compiled.limits compiled.compiled.0
+      (fit block files.trace samples in_range)
 
   ran : run_of report ≡ run_under_posts firmware bytes posts flags
   ran =
@@ -141,7 +163,7 @@ module _ (keep : AnswersKeepTheBound) (fit : SpelledBytesFit) (near : PostedAnsw
   under = subst (λ (r : RunSeen). AnswersUnderPosts block firmware flags bytes posts r) (sym ran) defined
 
   width : firmware.width ≡ Byte
-  width = a.compiled.compiled.1
+  width = compiled.compiled.1
 
   of_turns : answered_samples report ≡ samples_of under.turns
   of_turns =
@@ -164,13 +186,13 @@ module _ (keep : AnswersKeepTheBound) (fit : SpelledBytesFit) (near : PostedAnsw
 
   posted : All (IsOneOf (length samples)) (answered_samples report)
   posted =
-      let good = a.good_posts.good.posts_are in
+      let good = good_posts.good.posts_are in
       subst (λ (ks : List ℕ). All (IsOneOf (length samples)) ks) (sym of_turns)
       (answered_of (length samples) firmware.inputs (steps_of flags firmware bytes) 0 0 [] posts under.turns
       under.turns_are (omega arith)
       (λ d k lt. (good d k lt).sample_to))
 
-  pub posts_run : PostedRun flags files report
+  pub posts_run : PostedRun kind flags files report
   posts_run = record {
     block = block;
     firmware = firmware;
@@ -180,26 +202,13 @@ module _ (keep : AnswersKeepTheBound) (fit : SpelledBytesFit) (near : PostedAnsw
     ran = ran;
     follows = under;
     last = last;
-    bound = a.compiled.compiled.0.instructions ∙ ap (λ (w : Width). mailbox_bound w block) width;
+    bound = compiled.compiled.0.instructions ∙ ap (λ (w : Width). mailbox_bound w block) width;
     instructions = of_seen (λ q. q.instructions ≤ firmware.instr_bound) answer_in told
         (keep Byte block firmware.instr_bound (λ o. 0) (map (bytes_of bytes) (answered_samples report))
         (map answer_in told) of_block);
-    within = near Byte block firmware.instr_bound a.accepted.cert errors files.trace samples (answered_samples report)
-        (map answer_in told) a.compiled.spelled.valid a.in_range posted of_block a.accepted.accepted;
+    within = near Byte block firmware.instr_bound accepted.cert errors files.trace samples (answered_samples report)
+        (map answer_in told) compiled.spelled.valid in_range posted of_block accepted.accepted;
   }
-
--- ---- its refusals
-
--- why posts are refused, all files before them being accepted
-pub refused_posts : (files : PostedFiles) (block : Block) (firmware : Firmware) (errors : List ℕ)
-    (samples : List Sample) (s : Status)
-    → GivesFirmware Mailbox files.fcl block firmware → GivesImage files.image firmware.image
-    → AcceptsCert Named Byte block files.cert errors → SpellsTrace block.inputs files.trace samples
-    → IsRefusal (posts_refusals (length samples) files.posts) s → IsRefusal (mrun_refusals files) s
-refused_posts files block firmware errors samples status.Memory compiled image accepted in_range refused = tt
-refused_posts files block firmware errors samples (status.Plan f) compiled image accepted in_range refused =
-    (refused.0, (block, firmware, compiled, (image, errors, accepted, samples, in_range, refused.1)))
-refused_posts files block firmware errors samples s compiled image accepted in_range refused = absurd refused.1
 
 -- ---- its lines
 
@@ -217,19 +226,83 @@ posted_written begun told taken lines final es bound resumed xs frames begun_so 
     (map (λ f. taken_line (boundary_seen f)) frames ++ final ∷ []) told told_so
     ∙ (λ i. begun_so i ++ ((sym answers) i ++ ((sym d) i ++ is i ∷ [])))
 
+-- ---- what it makes of its files
+
+posts_has : (samples : ℕ) (text : List ℕ) (s : Status) → posts_refusals samples text s
+    → (f : PlanFault) × (s ≡ status.Plan f) × PostsHaveFault samples text f
+posts_has samples text (status.Plan f) w = (f, refl, w)
+posts_has samples text s w = absurd w
+
+pub posted_exact : FirmwaresAreExact → ImagesAreExact → CertsAreExact → TracesAreExact → SpelledPostsAreOne
+    → SpelledPostsHaveNoFault → (kind : CertKind) (files : PostedFiles) → AreExact (posted_reading kind files)
+posted_exact firmwares images certs traces one stand kind files = (
+  firmwares Mailbox files.fcl,
+  λ c compiled. (
+    images files.image c.firmware.image,
+    λ held image. (
+      certs kind Byte c.block files.cert compiled.spelled.valid,
+      λ errors accepted. (traces c.block files.trace, λ samples in_range. posts (length samples)),
+    ),
+  ),
+)
+  where
+    posts : (samples : ℕ) → IsExact (posts_in samples files.posts)
+    posts samples =
+        exact_of (posts_in samples files.posts) status.Plan (PostsHaveFault samples files.posts) (λ f. tt)
+        (posts_has samples files.posts) (one samples files.posts)
+        (λ ps f a carries w. stand samples files.posts ps f a w)
+
+module _ (mrun : Mrun) (files : PostedFiles) where
+  abbrev reading : Reading (Compiled × (Unit {0} × (List ℕ × (List Sample × List Post))))
+  reading = posted_reading mrun.kind files
+
+  abbrev posted_given : (output : SeenOutput) → MrunGives mrun files output → GivesSome reading
+  posted_given output a =
+      let p = a.posted in (
+        (record { block = p.block; firmware = p.firmware }, (tt, (a.report.errors, (p.samples, p.posts)))),
+        p.accepts,
+      )
+
+  -- its output is one, where what is seen of the files is
+  posted_one : (output other : SeenOutput) (a : MrunGives mrun files output) (b : MrunGives mrun files other)
+      → seen_of reading (posted_given output a).0 ≡ seen_of reading (posted_given other b).0 → output ≡ other
+  posted_one output other a b same =
+      let p = a.posted in
+      let q = b.posted in
+      let run : run_of a.report ≡ run_of b.report =
+      p.ran ∙ (λ i. run_under_posts (same i).0.firmware (same i).1.1.1.0.1 (same i).1.1.1.1 mrun.flags) ∙ sym q.ran in
+      let bound : a.report.bound ≡ b.report.bound =
+      p.bound ∙ (λ i. mailbox_bound Byte (same i).0.block) ∙ sym q.bound in
+      a.output_is
+      ∙ (λ i. only_lines (mrun_lines (record {
+        errors = (same i).1.1.0;
+        bound = bound i;
+        answers = (run i).answers;
+        frames = (run i).frames;
+        resumed = (run i).resumed;
+      })))
+      ∙ sym b.output_is
+
 -- accepted files make an output
-pub posted_made : AnswersKeepTheBound → SpelledBytesFit → PostedAnswersAreNear → LastIsAnswered → AnswersUnderAllPosts
-    → AcceptedPostedRunsMakeOutput
-posted_made keep fit near lasts under mrun files byte (block, firmware, errors, samples, posts, a) =
-    let bytes = map input_bytes samples in
-    let run = run_under_posts firmware bytes posts mrun.flags in
-    let good : AreGoodPosts (length bytes) posts =
-    subst (λ (n : ℕ). AreGoodPosts n posts) (sym (length-map samples input_bytes)) a.good_posts.good in (
-      _,
-      record {
-        report = posted_report errors firmware.instr_bound run.answers run.frames run.resumed;
-        posted = posts_run keep fit near lasts mrun.flags files block firmware errors samples posts a run.answers
-            run.frames run.resumed refl refl refl (under firmware mrun.flags bytes posts byte good);
-        output_is = refl;
-      },
-    )
+pub mrun_settled : ((kind : CertKind) (files : PostedFiles) → AreExact (posted_reading kind files))
+    → AnswersKeepTheBound → SpelledBytesFit → PostedAnswersAreNear → LastIsAnswered → AnswersUnderAllPosts
+    → MrunIsSettled
+mrun_settled exact keep fit near lasts under mrun files =
+    settled (reading mrun files) (MrunGives mrun files) ((mrun.flags < 2 ^ 8) × GivesSome (reading mrun files))
+    (exact mrun.kind files) (posted_given mrun files) (posted_one mrun files) some
+  where
+    some : (mrun.flags < 2 ^ 8) × GivesSome (reading mrun files) → (output : SeenOutput) × MrunGives mrun files output
+    some (byte, ((c, (held, (errors, (samples, posts)))), a)) =
+        let bytes = map input_bytes samples in
+        let run = run_under_posts c.firmware bytes posts mrun.flags in
+        let spelled : SpellsPosts (length samples) files.posts posts = a.1.1.1.1 in
+        let good : AreGoodPosts (length bytes) posts =
+        subst (λ (n : ℕ). AreGoodPosts n posts) (sym (length-map samples input_bytes)) spelled.good in (
+          _,
+          record {
+            report = posted_report errors c.firmware.instr_bound run.answers run.frames run.resumed;
+            posted = posts_run keep fit near lasts mrun.kind mrun.flags files c.block c.firmware errors samples posts a
+                run.answers run.frames run.resumed refl refl refl (under c.firmware mrun.flags bytes posts byte good);
+            output_is = refl;
+          },
+        )

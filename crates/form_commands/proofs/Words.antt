@@ -1,7 +1,7 @@
 -- The names that most proofs of this crate cite, passed on from one place.
 pub use Rattle.command_parts.proofs.Algebra.{counted-map, lines_more, made_with, of_seen, refused}
 pub use Rattle.form_commands.specs.Lrun.{inner_line, level_report, level_row_lines, lrun_lines, outer_lines}
-pub use Rattle.form_commands.specs.Srun.{srun_refusals, upset_refusals, watched_report, watched_row_lines}
+pub use Rattle.form_commands.specs.Srun.{watched_report, watched_row_lines}
 pub use Rattle.std.proofs.Common.{Err, List, [], ap, ap₂, arith, length, refl, rules, subst, sym, take, true, ℕ, ◌++◌}
 pub use Rattle.std.proofs.Common.{◌+◌, ◌-◌, ◌<◌, ◌^◌, ◌∙◌, ◌∷◌, ◌≡◌, ◌≤◌}
 pub use Rattle.std.proofs.lemmas.List.Elements.{All-cons, All-head, All-nil, All-tail}
@@ -9,15 +9,16 @@ pub use Rattle.std.specs.Prelude.{All, codes, decimal, map, string_bytes}
 pub use Rattle.alone_code.specs.{Mailboxes.mailbox_bound, Uninterrupted.AreAnswersOf}
 pub use Rattle.alone_code.specs.{declared.firmware.Firmware.Firmware}
 pub use Rattle.alone_runs.specs.{Answering.AnswersItsBlock, Answering.AnswersUnderPlans, Rows.bytes_of}
-pub use Rattle.box_tree.specs.{declared.cert.CertKind.TheVariants.Named}
+pub use Rattle.box_tree.specs.{declared.cert.CertKind.CertKind}
 pub use Rattle.byte_scaling.specs.{declared.width.Width.TheVariants.Byte}
 pub use Rattle.command_parts.specs.{Certs.AcceptsCert, Certs.HasCertFault, Firmwares.GivesFirmware}
 pub use Rattle.command_parts.specs.{Images.RefusesImage, Lines.counted, Lines.line, SeenOutputs.only_lines}
+pub use Rattle.command_parts.specs.{Readings.Reading, declared.firmware.Compiled.Compiled}
 pub use Rattle.command_parts.specs.{declared.firmware.Form.TheVariants.Alone}
 pub use Rattle.command_parts.specs.{declared.firmware.Form.TheVariants.Mailbox}
 pub use Rattle.command_parts.specs.{declared.firmware.Form.TheVariants.Watched}
 pub use Rattle.cpu12_emul.specs.{declared.ends.Frame.Frame}
-pub use Rattle.form_commands.specs.{Hrun.handled_report, Hrun.handled_row_lines, Hrun.hrun_refusals, Mrun.answer_line}
+pub use Rattle.form_commands.specs.{Hrun.handled_report, Hrun.handled_row_lines, Mrun.answer_line}
 pub use Rattle.form_commands.specs.{Mrun.mrun_lines, Mrun.posted_report}
 pub use Rattle.fuzzy_meaning.specs.{declared.block.Block.Block}
 pub use Rattle.fz_shelf.proofs.{Algebra.bare-append, Algebra.bare-decimal}
@@ -27,7 +28,7 @@ pub use Rattle.interrupt_plan.specs.{declared.Request.Request}
 pub use Rattle.mailbox_runs.specs.{Runs.answer_seen, Runs.run_under_posts}
 pub use Rattle.run_forms.specs.{Rows.boundary_seen, Rows.frames_seen}
 pub use Rattle.run_law.specs.{Forms.RowSeen}
-pub use Rattle.run_reports.specs.{Inputs.input_refusals, Laws.AnswersAreReported, Laws.AnswersKeepTheBound}
+pub use Rattle.run_reports.specs.{Laws.AnswersAreReported, Laws.AnswersKeepTheBound}
 pub use Rattle.run_reports.specs.{Laws.SpelledBytesFit, Posted.IsOneOf, Posted.PostedAnswersAreNear, PostedRun.run_of}
 pub use Rattle.run_reports.specs.{RowLines.begun_lines, RowLines.frame_line, declared.files.HandledFiles.HandledFiles}
 pub use Rattle.run_reports.specs.{declared.files.LevelFiles.LevelFiles, declared.files.PostedFiles.PostedFiles}

@@ -1,33 +1,24 @@
--- The command `hrun FCL HANDLER CERT TRACE PLAN FLAGS`.
+-- The commands `hrun FCL HANDLER CERT TRACE PLAN FLAGS`, and `thrun ..` under tight certificates.
 -- Beside the promise.
-use Rattle.std.specs.Prelude.{◌≡◌, ◌<◌, ◌^◌, ℕ, List, [], ◌∷◌, ◌++◌, codes, Option, option_map}
-use Rattle.std.specs.Prelude.{Result, Ok, Err}
-use Rattle.cpu12_asm.specs.declared.image.Image.{Image}
-use Rattle.box_tree.specs.declared.cert.CertKind.TheVariants.{Named}
-use Rattle.fuzzy_meaning.specs.declared.block.Block.{Block}
-use Rattle.alone_code.specs.declared.firmware.Firmware.{Firmware}
-use Rattle.byte_scaling.specs.declared.width.Width.TheVariants.{Byte}
-use Rattle.interrupt_plan.specs.declared.Request.{Request}
-use Rattle.trace_io.specs.declared.sample.Sample.{Sample}
+use Rattle.std.specs.Prelude.{◌≡◌, ◌<◌, ◌^◌, ℕ, List, [], ◌∷◌, ◌++◌, codes, Option, option_map, Result}
 use Rattle.handled_runs.specs.Forms.{HandledSeen}
-use Rattle.command_parts.specs.{Contents.content_at, Firmwares.OfFirmware, Firmwares.RefusesText}
-use Rattle.command_parts.specs.{Handlers.GivesHandler, Handlers.handler_refusals, Lines.counted}
-use Rattle.command_parts.specs.SeenOutputs.{HasOutput, SeenOutput, only_lines}
-use Rattle.command_parts.specs.declared.firmware.Form.TheVariants.{Alone}
-use Rattle.fz_status.specs.{Words.flags_of, declared.status.Status.Status, Refusals.Refusals, Refusals.Refuses}
+use Rattle.command_parts.specs.{Contents.content_at, Lines.counted}
+use Rattle.box_tree.specs.declared.cert.CertKind.{CertKind}
+use Rattle.command_parts.specs.Readings.{GivesSome, IsSettled, made_of}
+use Rattle.command_parts.specs.SeenOutputs.{SeenOutput, only_lines}
+use Rattle.fz_status.specs.{Words.flags_of, declared.status.Status.Status}
 use Rattle.fz_status.specs.{Words.Text, Words.word_at}
-use Rattle.run_reports.specs.{Inputs.input_refusals, RowLines.begun_lines, RowLines.labelled_row_lines}
-use Rattle.run_reports.specs.HandledRun.{AcceptsHandled, HandledReport, HandledRun}
+use Rattle.run_reports.specs.{RowLines.begun_lines, RowLines.labelled_row_lines}
+use Rattle.run_reports.specs.HandledRun.{HandledReport, HandledRun, handled_reading}
 use Rattle.run_reports.specs.declared.files.HandledFiles.{HandledFiles}
 use Rattle.form_commands.specs.declared.hrun.Hrun.{Hrun}
-use Rattle.fz_status.specs.declared.status.Status.TheVariants as status
 
-abbrev pub hrun_with : ℕ → Hrun
-hrun_with flags = record { flags = flags }
+abbrev pub hrun_with : CertKind → ℕ → Hrun
+hrun_with kind flags = record { kind = kind; flags = flags }
 
 -- the command of the words, where the last is of the form of FLAGS
-abbrev pub hrun_in : List Text → Option Hrun
-hrun_in words = option_map hrun_with (flags_of (word_at words 7))
+abbrev pub hrun_in : CertKind → List Text → Option Hrun
+hrun_in kind words = option_map (hrun_with kind) (flags_of (word_at words 7))
 
 -- FCL, HANDLER, CERT, TRACE and PLAN
 abbrev pub hrun_inputs : List ℕ
@@ -58,31 +49,13 @@ handled_report errors bound rows = record { errors = errors; bound = bound; rows
 -- the handler's run is certified, and the lines are those of its report
 pub record HrunGives (hrun : Hrun) (files : HandledFiles) (output : SeenOutput) : Type 0 where
   pub report : HandledReport
-  pub certified : HandledRun hrun.flags files report
+  pub certified : HandledRun hrun.kind hrun.flags files report
   pub output_is : output ≡ only_lines (hrun_lines report)
 
--- why FCL is refused; why HANDLER is, by its records or by its code, FCL giving firmware; and why the files behind are,
--- HANDLER giving a handler
-abbrev pub hrun_refusals : HandledFiles → Refusals
-hrun_refusals files (status.Fcl f) = RefusesText files.fcl f
-hrun_refusals files (status.Image f) =
-    OfFirmware (Alone Byte) files.fcl (λ block firmware. handler_refusals files.handler (status.Image f))
-hrun_refusals files (status.Handler f) =
-    OfFirmware (Alone Byte) files.fcl (λ block firmware. handler_refusals files.handler (status.Handler f))
-hrun_refusals files s = OfFirmware (Alone Byte) files.fcl (λ block firmware.
-    (image : Image) × (instrs : ℕ) × GivesHandler files.handler image instrs
-    × input_refusals Named Byte block files.inputs s)
-
 abbrev pub HrunMakes : Hrun → HandledFiles → Result SeenOutput Status → Type 0
-HrunMakes hrun files (Ok output) = HrunGives hrun files output
-HrunMakes hrun files (Err s) = Refuses (hrun_refusals files) s
+HrunMakes hrun files = made_of (handled_reading hrun.kind files) (HrunGives hrun files)
 
-abbrev pub HrunAccepts : HandledFiles → Type 0
-HrunAccepts files = (block : Block) × (firmware : Firmware) × (handler : Image) × (instrs : ℕ) × (errors : List ℕ)
-    × (samples : List Sample) × (plan : List Request)
-    × AcceptsHandled files block firmware handler instrs errors samples plan
-
--- files that are accepted make an output
-abbrev pub AcceptedHandledRunsMakeOutput : Type 0
-AcceptedHandledRunsMakeOutput =
-    (hrun : Hrun) (files : HandledFiles) → hrun.flags < 2 ^ 8 → HrunAccepts files → HasOutput (HrunMakes hrun files)
+-- files make at most one output, and then no fault; and one where they are accepted
+abbrev pub HrunIsSettled : Type 0
+HrunIsSettled = (hrun : Hrun) (files : HandledFiles)
+    → IsSettled (HrunMakes hrun files) ((hrun.flags < 2 ^ 8) × GivesSome (handled_reading hrun.kind files))

@@ -1,37 +1,27 @@
--- The command `mrun FCL IMAGE CERT TRACE POSTS FLAGS`.
+-- The commands `mrun FCL IMAGE CERT TRACE POSTS FLAGS`, and `tmrun ..` under tight certificates.
 -- Beside the promise.
-use Rattle.std.specs.Prelude.{◌≡◌, ◌<◌, ◌^◌, ℕ, List, [], ◌∷◌, ◌++◌, codes, decimal, length, map, Option, option_map}
-use Rattle.std.specs.Prelude.{Result, Ok, Err}
-use Rattle.fuzzy_meaning.specs.declared.block.Block.{Block}
+use Rattle.std.specs.Prelude.{◌≡◌, ◌<◌, ◌^◌, ℕ, List, [], ◌∷◌, ◌++◌, codes, decimal, map, Option, option_map, Result}
 use Rattle.cpu12_emul.specs.Take.{FrameSeen}
-use Rattle.alone_code.specs.declared.firmware.Firmware.{Firmware}
-use Rattle.box_tree.specs.declared.cert.CertKind.TheVariants.{Named}
-use Rattle.byte_scaling.specs.declared.width.Width.TheVariants.{Byte}
-use Rattle.interrupt_plan.specs.{Posts.PostsHaveFault, declared.Post.Post}
-use Rattle.srecord.specs.Texts.{GivesImage}
-use Rattle.trace_io.specs.Traces.{HasFault as TraceHasFault, Spells as SpellsTrace}
-use Rattle.trace_io.specs.declared.sample.Sample.{Sample}
 use Rattle.mailbox_runs.specs.Runs.{AnswerSeen}
 use Rattle.fz_shelf.specs.Parts.{ended}
-use Rattle.fz_status.specs.{Refusals.Refusals, Refusals.Refuses, Words.Text, Words.word_at}
+use Rattle.fz_status.specs.{Words.Text, Words.word_at}
 use Rattle.fz_status.specs.declared.status.Status.{Status}
-use Rattle.fz_status.specs.declared.status.Status.TheVariants as status
-use Rattle.command_parts.specs.{Certs.AcceptsCert, Certs.HasCertFault, Contents.content_at, Firmwares.OfFirmware}
-use Rattle.command_parts.specs.{Firmwares.RefusesText, Images.RefusesImage, Lines.counted, Lines.line}
-use Rattle.command_parts.specs.{declared.firmware.Form.TheVariants.Mailbox}
-use Rattle.command_parts.specs.SeenOutputs.{HasOutput, SeenOutput, only_lines}
+use Rattle.command_parts.specs.{Contents.content_at, Lines.counted, Lines.line}
+use Rattle.box_tree.specs.declared.cert.CertKind.{CertKind}
+use Rattle.command_parts.specs.Readings.{GivesSome, IsSettled, made_of}
+use Rattle.command_parts.specs.SeenOutputs.{SeenOutput, only_lines}
 use Rattle.fz_status.specs.Words.{flags_of}
-use Rattle.run_reports.specs.PostedRun.{AcceptsPosted, PostedReport, PostedRun}
+use Rattle.run_reports.specs.PostedRun.{PostedReport, PostedRun, posted_reading}
 use Rattle.run_reports.specs.RowLines.{answered, begun_lines, frame_told}
 use Rattle.run_reports.specs.declared.files.PostedFiles.{PostedFiles}
 use Rattle.form_commands.specs.declared.mrun.Mrun.{Mrun}
 
-abbrev pub mrun_with : ℕ → Mrun
-mrun_with flags = record { flags = flags }
+abbrev pub mrun_with : CertKind → ℕ → Mrun
+mrun_with kind flags = record { kind = kind; flags = flags }
 
 -- the command of the words, where the last is of the form of FLAGS
-abbrev pub mrun_in : List Text → Option Mrun
-mrun_in words = option_map mrun_with (flags_of (word_at words 7))
+abbrev pub mrun_in : CertKind → List Text → Option Mrun
+mrun_in kind words = option_map (mrun_with kind) (flags_of (word_at words 7))
 
 -- FCL, IMAGE, CERT, TRACE and POSTS
 abbrev pub mrun_inputs : List ℕ
@@ -77,42 +67,13 @@ mrun_lines r = begun_lines r.errors r.bound ++ (counted (λ k a. answer_line k a
 -- the run is one of the files, and the lines are those of its report
 pub record MrunGives (mrun : Mrun) (files : PostedFiles) (output : SeenOutput) : Type 0 where
   pub report : PostedReport
-  pub posted : PostedRun mrun.flags files report
+  pub posted : PostedRun mrun.kind mrun.flags files report
   pub output_is : output ≡ only_lines (mrun_lines report)
 
--- why a certificate is refused, FCL giving firmware whose image is IMAGE's; why a trace is, the certificate being
--- accepted beside; and why posts are, the trace spelling samples beside
-abbrev pub mrun_refusals : PostedFiles → Refusals
-mrun_refusals files (status.Fcl f) = RefusesText files.fcl f
-mrun_refusals files (status.Image f) =
-    OfFirmware Mailbox files.fcl (λ block firmware. RefusesImage files.image firmware.image f)
-mrun_refusals files (status.Cert f) = OfFirmware Mailbox files.fcl (λ block firmware.
-    GivesImage files.image firmware.image × HasCertFault Named Byte block files.cert f)
-mrun_refusals files (status.Trace f) = OfFirmware Mailbox files.fcl (λ block firmware.
-    GivesImage files.image firmware.image
-    × (errors : List ℕ) × AcceptsCert Named Byte block files.cert errors
-    × TraceHasFault block.inputs files.trace f)
-mrun_refusals files (status.Plan f) = OfFirmware Mailbox files.fcl (λ block firmware.
-    GivesImage files.image firmware.image
-    × (errors : List ℕ) × AcceptsCert Named Byte block files.cert errors
-    × (samples : List Sample) × SpellsTrace block.inputs files.trace samples
-    × PostsHaveFault (length samples) files.posts f)
-mrun_refusals files s = ⊥
-
--- why a text gives no posts of so many samples
-abbrev pub posts_refusals : ℕ → List ℕ → Refusals
-posts_refusals samples text (status.Plan f) = PostsHaveFault samples text f
-posts_refusals samples text s = ⊥
-
 abbrev pub MrunMakes : Mrun → PostedFiles → Result SeenOutput Status → Type 0
-MrunMakes mrun files (Ok output) = MrunGives mrun files output
-MrunMakes mrun files (Err s) = Refuses (mrun_refusals files) s
+MrunMakes mrun files = made_of (posted_reading mrun.kind files) (MrunGives mrun files)
 
-abbrev pub MrunAccepts : PostedFiles → Type 0
-MrunAccepts files = (block : Block) × (firmware : Firmware) × (errors : List ℕ) × (samples : List Sample)
-    × (posts : List Post) × AcceptsPosted files block firmware errors samples posts
-
--- files that are accepted make an output
-abbrev pub AcceptedPostedRunsMakeOutput : Type 0
-AcceptedPostedRunsMakeOutput =
-    (mrun : Mrun) (files : PostedFiles) → mrun.flags < 2 ^ 8 → MrunAccepts files → HasOutput (MrunMakes mrun files)
+-- files make at most one output, and then no fault; and one where they are accepted
+abbrev pub MrunIsSettled : Type 0
+MrunIsSettled = (mrun : Mrun) (files : PostedFiles)
+    → IsSettled (MrunMakes mrun files) ((mrun.flags < 2 ^ 8) × GivesSome (posted_reading mrun.kind files))

@@ -1,15 +1,16 @@
-//! The command `hrun FCL HANDLER CERT TRACE PLAN FLAGS`: the certified run whose interrupts run a handler's code.
+//! The commands `hrun FCL HANDLER CERT TRACE PLAN FLAGS` and `thrun ..`: the certified run whose interrupts run a
+//! handler's code.
 ghost use Rattle.std.specs.Prelude.{◌≡◌, ◌≤◌, ◌++◌, length, IfOk, IfErr};
 ghost use Rattle.std.specs.List.{All};
-ghost use Rattle.fz_status.specs.{Refusals.IsRefusal, Words.texts_of};
-ghost use Rattle.command_parts.specs.{Contents.bytes_of, Lines.counted};
+ghost use Rattle.fz_status.specs.Words.{texts_of};
+ghost use Rattle.command_parts.specs.{Contents.bytes_of, Lines.counted, Readings.IsRefused};
 ghost use Rattle.command_parts.specs.SeenOutputs.{IsResultOf};
-ghost use Rattle.run_reports.specs.{HandledRun.AcceptsHandled, RowLines.begun_lines};
+ghost use Rattle.run_reports.specs.{HandledRun.AcceptsHandled, HandledRun.handled_reading, RowLines.begun_lines};
 ghost use Rattle.run_reports.specs.declared.files.HandledFiles.{HandledFiles};
-ghost use Rattle.form_commands.specs.Hrun.{HrunMakes, handled_files};
-ghost use Rattle.form_commands.specs.Hrun.{handled_row_lines, hrun_in, hrun_refusals};
+ghost use Rattle.form_commands.specs.Hrun.{HrunMakes, handled_files, handled_row_lines, hrun_in};
 ghost use Rattle.handled_runs.specs.Forms.{row_seen};
 
+use crate::laws::hrun_is_settled;
 use alone_runs::laws::answers_under_plans;
 use box_tree::CertKind;
 use byte_scaling::Width;
@@ -27,9 +28,11 @@ use run_reports::laws::{answers_are_reported, spelled_bytes_fit};
 use run_reports::row_lines::{begun, push_labelled_row};
 use std::alloc::{AllocError, Global};
 
-/// `hrun FCL HANDLER CERT TRACE PLAN FLAGS`
+/// `hrun FCL HANDLER CERT TRACE PLAN FLAGS`, and `thrun ..` under tight certificates
 #[derive(Clone, Copy)]
 pub struct Hrun {
+    /// What the certificate's leaves say.
+    kind: CertKind,
     /// The condition codes that the machine leaves open.
     flags: u8,
 }
@@ -66,21 +69,15 @@ struct Accepted {
 
 impl Accepted {
     /// What the files give, or the first fault in their order.
-    fn of(alloc: Global, files: &HandledFiles) -> Result<Accepted, Status>
-        ensures accepted { IfOk result (λ a. AcceptsHandled files.now a.compiled.block
+    fn of(alloc: Global, kind: CertKind, files: &HandledFiles) -> Result<Accepted, Status>
+        ensures accepted { IfOk result (λ a. AcceptsHandled kind files.now a.compiled.block
             a.compiled.firmware a.handler.image a.handler.handler.instrs a.inputs.errors.items
             a.inputs.samples.items a.inputs.plan) }
-        ensures fault { IfErr result (IsRefusal (hrun_refusals files.now)) }
+        ensures fault { IfErr result (IsRefused (handled_reading kind files.now)) }
     {
         let compiled = firmware_of(alloc, Form::Alone(Width::Byte), &files.fcl)?;
         let handler = handler_of(alloc, &files.handler)?;
-        let inputs = inputs_of(
-            alloc,
-            CertKind::Named,
-            Width::Byte,
-            &compiled.block,
-            &files.inputs,
-        )?;
+        let inputs = inputs_of(alloc, kind, Width::Byte, &compiled.block, &files.inputs)?;
         Ok(Accepted {
             compiled,
             handler,
@@ -91,11 +88,11 @@ impl Accepted {
 
 impl Hrun {
     /// The command of these words.
-    pub fn of(words: &[String]) -> Option<Hrun>
-        ensures { result ≡ hrun_in (texts_of words.now) }
+    pub fn of(kind: CertKind, words: &[String]) -> Option<Hrun>
+        ensures { result ≡ hrun_in kind (texts_of words.now) }
     {
         let flags = flags(word(words, FLAGS))?;
-        Some(Hrun { flags })
+        Some(Hrun { kind, flags })
     }
 
     /// Runs the samples of the trace under the plan, each interrupt by the handler's code, once all files
@@ -106,7 +103,8 @@ impl Hrun {
         answers_are_reported();
         answers_under_plans();
         spelled_bytes_fit();
-        let accepted = Accepted::of(alloc, files)?;
+        hrun_is_settled();
+        let accepted = Accepted::of(alloc, self.kind, files)?;
         let firmware = &accepted.compiled.firmware;
         let rows = run_handler(
             alloc,

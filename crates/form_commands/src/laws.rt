@@ -1,22 +1,13 @@
 //! What the contents of each command make: at most one output, one where they are accepted, and then no fault.
-ghost use Rattle.command_parts.specs.SeenOutputs.{OutputHasNoFault, OutputsAreOne};
-ghost use Rattle.run_reports.specs.{declared.files.LevelFiles.LevelFiles, declared.files.PostedFiles.PostedFiles};
-ghost use Rattle.run_reports.specs.{declared.files.WatchedFiles.WatchedFiles};
-ghost use Rattle.run_reports.specs.{declared.files.HandledFiles.HandledFiles};
-ghost use Rattle.form_commands.specs.Lrun.{LrunMakes, AcceptedLevelRunsMakeOutput};
-ghost use Rattle.form_commands.specs.Mrun.{MrunMakes, AcceptedPostedRunsMakeOutput};
-ghost use Rattle.form_commands.specs.Srun.{SrunMakes, AcceptedWatchedRunsMakeOutput};
-ghost use Rattle.form_commands.specs.Hrun.{HrunMakes, AcceptedHandledRunsMakeOutput};
-ghost use Rattle.form_commands.specs.{declared.lrun.Lrun.Lrun as TheLrun, declared.mrun.Mrun.Mrun as TheMrun};
-ghost use Rattle.form_commands.specs.{declared.srun.Srun.Srun as TheSrun, declared.hrun.Hrun.Hrun as TheHrun};
+ghost use Rattle.form_commands.specs.Lrun.{LrunIsSettled};
+ghost use Rattle.form_commands.specs.Mrun.{MrunIsSettled};
+ghost use Rattle.form_commands.specs.Srun.{SrunIsSettled};
+ghost use Rattle.form_commands.specs.Hrun.{HrunIsSettled};
 
 use alone_runs::laws::answers_under_plans;
 use command_parts::laws::{
-    accepted_certs_have_no_fault, accepted_errors_are_one, given_firmwares_are_one,
-    given_handlers_have_no_fault, given_images_have_no_fault, given_twos_are_one,
-    spelled_texts_have_no_fault,
+    certs_are_exact, firmwares_are_exact, handlers_are_exact, images_are_exact, twos_are_exact,
 };
-use fcl_check::laws::spelled_blocks_are_one;
 use handled_runs::laws::{handled_answers, handlers_run_alike};
 use interrupt_plan::laws::{
     spelled_entries_are_one, spelled_levels_have_no_fault, spelled_posts_have_no_fault,
@@ -24,33 +15,23 @@ use interrupt_plan::laws::{
 };
 use mailbox_runs::laws::{last_is_answered, posts_are_answered};
 use run_reports::laws::{
-    accepted_inputs_have_no_fault, answers_are_reported, answers_keep_the_bound,
-    faultless_answers_are_near, posted_answers_are_near, spelled_bytes_fit, spelled_inputs_are_one,
-    spelled_traces_are_one_long,
+    answers_are_reported, answers_keep_the_bound, faultless_answers_are_near, plans_are_exact,
+    posted_answers_are_near, spelled_bytes_fit, traces_are_exact,
 };
-use srecord::laws::images_are_one;
-use trace_io::laws::spelled_traces_have_no_fault;
 use two_level_code::laws::alone_has_byte_bounds;
 use two_level_runs::laws::{answers_under_levels, levels_make_a_plan, rows_are_seen};
 use watched_runs::laws::answers_under_all_upsets;
 
-/// Files that make an output make no fault.
-pub fn level_runs_have_no_fault()
-    ensures { (lrun : TheLrun) (files : LevelFiles) → OutputHasNoFault (LrunMakes lrun files) }
+/// Files make at most one output, and then no fault; and one where they are accepted.
+pub fn lrun_is_settled()
+    ensures { LrunIsSettled }
 {
-    spelled_texts_have_no_fault();
-    given_twos_are_one();
-    given_images_have_no_fault();
-    accepted_certs_have_no_fault();
-    spelled_traces_have_no_fault();
-    spelled_traces_are_one_long();
-    spelled_levels_have_no_fault()
-}
-
-/// Files that are accepted make an output.
-pub fn accepted_level_runs_make_output()
-    ensures { AcceptedLevelRunsMakeOutput }
-{
+    twos_are_exact();
+    images_are_exact();
+    certs_are_exact();
+    traces_are_exact();
+    spelled_entries_are_one();
+    spelled_levels_have_no_fault();
     answers_are_reported();
     answers_keep_the_bound();
     spelled_bytes_fit();
@@ -62,33 +43,16 @@ pub fn accepted_level_runs_make_output()
     answers_under_levels()
 }
 
-/// Files make at most one output.
-pub fn lrun_outputs_are_one()
-    ensures { (lrun : TheLrun) (files : LevelFiles) → OutputsAreOne (LrunMakes lrun files) }
+/// Files make at most one output, and then no fault; and one where they are accepted.
+pub fn mrun_is_settled()
+    ensures { MrunIsSettled }
 {
-    accepted_errors_are_one();
-    spelled_inputs_are_one();
-    given_twos_are_one();
-    spelled_entries_are_one()
-}
-
-/// Files that make an output make no fault.
-pub fn posted_runs_have_no_fault()
-    ensures { (mrun : TheMrun) (files : PostedFiles) → OutputHasNoFault (MrunMakes mrun files) }
-{
-    spelled_texts_have_no_fault();
-    given_firmwares_are_one();
-    given_images_have_no_fault();
-    accepted_certs_have_no_fault();
-    spelled_traces_have_no_fault();
-    spelled_traces_are_one_long();
-    spelled_posts_have_no_fault()
-}
-
-/// Files that are accepted make an output.
-pub fn accepted_posted_runs_make_output()
-    ensures { AcceptedPostedRunsMakeOutput }
-{
+    firmwares_are_exact();
+    images_are_exact();
+    certs_are_exact();
+    traces_are_exact();
+    spelled_entries_are_one();
+    spelled_posts_have_no_fault();
     answers_keep_the_bound();
     spelled_bytes_fit();
     posted_answers_are_near();
@@ -96,73 +60,34 @@ pub fn accepted_posted_runs_make_output()
     posts_are_answered()
 }
 
-/// Files make at most one output.
-pub fn mrun_outputs_are_one()
-    ensures { (mrun : TheMrun) (files : PostedFiles) → OutputsAreOne (MrunMakes mrun files) }
+/// Files make at most one output, and then no fault; and one where they are accepted.
+pub fn srun_is_settled()
+    ensures { SrunIsSettled }
 {
-    accepted_errors_are_one();
-    spelled_inputs_are_one();
-    given_firmwares_are_one();
-    spelled_entries_are_one()
-}
-
-/// Files that make an output make no fault.
-pub fn watched_runs_have_no_fault()
-    ensures { (srun : TheSrun) (files : WatchedFiles) → OutputHasNoFault (SrunMakes srun files) }
-{
-    spelled_texts_have_no_fault();
-    given_firmwares_are_one();
-    given_images_have_no_fault();
-    accepted_inputs_have_no_fault();
-    spelled_upsets_have_no_fault()
-}
-
-/// Files that are accepted make an output.
-pub fn accepted_watched_runs_make_output()
-    ensures { AcceptedWatchedRunsMakeOutput }
-{
+    firmwares_are_exact();
+    images_are_exact();
+    certs_are_exact();
+    traces_are_exact();
+    plans_are_exact();
+    spelled_entries_are_one();
+    spelled_upsets_have_no_fault();
     faultless_answers_are_near();
     spelled_bytes_fit();
     answers_under_all_upsets()
 }
 
-/// Files make at most one output.
-pub fn srun_outputs_are_one()
-    ensures { (srun : TheSrun) (files : WatchedFiles) → OutputsAreOne (SrunMakes srun files) }
+/// Files make at most one output, and then no fault; and one where they are accepted.
+pub fn hrun_is_settled()
+    ensures { HrunIsSettled }
 {
-    accepted_errors_are_one();
-    spelled_inputs_are_one();
-    given_firmwares_are_one();
-    spelled_entries_are_one()
-}
-
-/// Files that make an output make no fault.
-pub fn handled_runs_have_no_fault()
-    ensures { (hrun : TheHrun) (files : HandledFiles) → OutputHasNoFault (HrunMakes hrun files) }
-{
-    spelled_texts_have_no_fault();
-    given_handlers_have_no_fault();
-    spelled_blocks_are_one();
-    accepted_inputs_have_no_fault()
-}
-
-/// Files that are accepted make an output.
-pub fn accepted_handled_runs_make_output()
-    ensures { AcceptedHandledRunsMakeOutput }
-{
+    firmwares_are_exact();
+    handlers_are_exact();
+    certs_are_exact();
+    traces_are_exact();
+    plans_are_exact();
     answers_are_reported();
     answers_under_plans();
     spelled_bytes_fit();
-    handled_answers()
-}
-
-/// Files make at most one output.
-pub fn hrun_outputs_are_one()
-    ensures { (hrun : TheHrun) (files : HandledFiles) → OutputsAreOne (HrunMakes hrun files) }
-{
-    accepted_errors_are_one();
-    spelled_inputs_are_one();
-    given_firmwares_are_one();
-    images_are_one();
+    handled_answers();
     handlers_run_alike()
 }

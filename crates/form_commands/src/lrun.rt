@@ -1,4 +1,5 @@
-//! The command `lrun SLOW FAST IMAGE SCERT FCERT STRACE FTRACE LEVELS FLAGS`: the run of two blocks at two levels.
+//! The commands `lrun SLOW FAST IMAGE SCERT FCERT STRACE FTRACE LEVELS FLAGS` and `tlrun ..`: the run of two blocks at
+//! two levels.
 ghost use Rattle.std.specs.Prelude.{◌≡◌, ◌≤◌, length, IfOk, IfErr};
 ghost use Rattle.std.specs.List.{All};
 ghost use Rattle.fuzzy_meaning.specs.Blocks.{IsValid};
@@ -6,11 +7,15 @@ ghost use Rattle.interrupt_plan.specs.Levels.{SpellsLevels};
 ghost use Rattle.fz_status.specs.{Refusals.IsRefusal, Words.texts_of};
 ghost use Rattle.command_parts.specs.Contents.{bytes_of};
 ghost use Rattle.command_parts.specs.SeenOutputs.{IsResultOf};
-ghost use Rattle.run_reports.specs.LevelRun.{AcceptsCerts, AcceptsLevels, SpellTraces};
+ghost use Rattle.byte_scaling.specs.declared.width.Width.TheVariants.{Byte};
+ghost use Rattle.trace_io.specs.Traces.{Spells as SpellsTrace};
+ghost use Rattle.command_parts.specs.{Certs.AcceptsCert, Certs.cert_in, Readings.IsRefused, Readings.for_fast};
+ghost use Rattle.run_reports.specs.{Inputs.trace_in, LevelRun.AcceptsLevels, LevelRun.level_reading};
+ghost use Rattle.run_reports.specs.LevelRun.{levels_refusals};
 ghost use Rattle.run_reports.specs.declared.files.LevelFiles.{LevelFiles};
-ghost use Rattle.form_commands.specs.Lrun.{LrunMakes, certs_refusals, level_files};
-ghost use Rattle.form_commands.specs.Lrun.{levels_refusals, lrun_in, lrun_refusals, traces_refusals};
+ghost use Rattle.form_commands.specs.Lrun.{LrunMakes, level_files, lrun_in};
 
+use crate::laws::lrun_is_settled;
 use crate::level_lines::lines;
 use alone_runs::laws::answers_under_plans;
 use box_tree::CertKind;
@@ -36,9 +41,11 @@ use two_level_code::laws::alone_has_byte_bounds;
 use two_level_runs::laws::{levels_make_a_plan, rows_are_seen};
 use two_level_runs::run_two;
 
-/// `lrun SLOW FAST IMAGE SCERT FCERT STRACE FTRACE LEVELS FLAGS`
+/// `lrun SLOW FAST IMAGE SCERT FCERT STRACE FTRACE LEVELS FLAGS`, and `tlrun ..` under tight certificates
 #[derive(Clone, Copy)]
 pub struct Lrun {
+    /// What the leaves of both certificates say.
+    kind: CertKind,
     /// The condition codes that the machine leaves open.
     flags: u8,
 }
@@ -66,47 +73,39 @@ pub fn files_of(contents: &[Vec<u8>]) -> LevelFiles<'_>
     }
 }
 
-/// The errors that both certificates are accepted with.
-#[derive(Drop)]
-struct Errors {
-    slow: Vec<u32>,
-    fast: Vec<u32>,
-}
-
-/// The samples of both traces.
-#[derive(Drop)]
-struct Traces {
-    slow: Vec<Sample>,
-    fast: Vec<Sample>,
-}
-
 /// What the files give, where all of them are accepted.
 #[derive(Drop)]
 struct Accepted {
     compiled: CompiledTwo,
-    errors: Errors,
-    traces: Traces,
+    errors: Vec<u32>,
+    fast_errors: Vec<u32>,
+    samples: Vec<Sample>,
+    fast_samples: Vec<Sample>,
     levels: Levels,
 }
 
 impl Accepted {
     /// What the files give, or the first fault in their order.
-    fn of(alloc: Global, files: &LevelFiles) -> Result<Accepted, Status>
-        ensures accepted { IfOk result (λ a. AcceptsLevels files.now
-            a.compiled.slow a.compiled.fast a.compiled.two a.errors.slow.items a.errors.fast.items
-            a.traces.slow.items a.traces.fast.items a.levels) }
-        ensures fault { IfErr result (IsRefusal (lrun_refusals files.now)) }
+    fn of(alloc: Global, kind: CertKind, files: &LevelFiles) -> Result<Accepted, Status>
+        ensures accepted { IfOk result (λ a. AcceptsLevels kind files.now
+            a.compiled.slow a.compiled.fast a.compiled.two a.errors.items a.fast_errors.items
+            a.samples.items a.fast_samples.items a.levels) }
+        ensures fault { IfErr result (IsRefused (level_reading kind files.now)) }
     {
         spelled_traces_are_short();
         let compiled = two_of(alloc, &files.slow, &files.fast)?;
         require_image(alloc, &files.image, &compiled.two.image)?;
-        let errors = errors_of(alloc, &compiled.slow, &compiled.fast, files)?;
-        let traces = traces_of(alloc, &compiled.slow, &compiled.fast, files)?;
-        let levels = levels_of(alloc, &files.levels, &traces.fast)?;
+        let errors = errors_under(alloc, kind, Width::Byte, &compiled.slow, &files.slow_cert)?;
+        let fast_errors = fast_errors_of(alloc, kind, &compiled.fast, &files.fast_cert)?;
+        let samples = samples_of(alloc, &compiled.slow, &files.slow_trace)?;
+        let fast_samples = fast_samples_of(alloc, &compiled.fast, &files.fast_trace)?;
+        let levels = levels_of(alloc, &files.levels, &fast_samples)?;
         Ok(Accepted {
             compiled,
             errors,
-            traces,
+            fast_errors,
+            samples,
+            fast_samples,
             levels,
         })
     }
@@ -114,11 +113,11 @@ impl Accepted {
 
 impl Lrun {
     /// The command of these words.
-    pub fn of(words: &[String]) -> Option<Lrun>
-        ensures { result ≡ lrun_in (texts_of words.now) }
+    pub fn of(kind: CertKind, words: &[String]) -> Option<Lrun>
+        ensures { result ≡ lrun_in kind (texts_of words.now) }
     {
         let flags = flags(word(words, FLAGS))?;
-        Some(Lrun { flags })
+        Some(Lrun { kind, flags })
     }
 
     /// Runs the slow samples under the levels, once all files are accepted, and writes down what came of
@@ -134,67 +133,47 @@ impl Lrun {
         rows_are_seen();
         alone_has_byte_bounds();
         spelled_bytes_fit();
-        let accepted = Accepted::of(alloc, files)?;
+        lrun_is_settled();
+        let accepted = Accepted::of(alloc, self.kind, files)?;
         let two = &accepted.compiled.two;
         let rows = run_two(
             alloc,
             two,
-            &accepted.traces.slow,
-            &accepted.traces.fast,
+            &accepted.samples,
+            &accepted.fast_samples,
             &accepted.levels,
             self.flags,
         )?;
-        let lines = lines(
-            alloc,
-            &accepted.errors.slow,
-            &accepted.errors.fast,
-            two,
-            &rows,
-        )?;
+        let lines = lines(alloc, &accepted.errors, &accepted.fast_errors, two, &rows)?;
         Ok(Output { lines, file: None })
     }
 }
 
-/// The errors that SCERT and FCERT are accepted with, or the first fault of them.
-fn errors_of(
+/// The errors that FCERT is accepted with.
+fn fast_errors_of(
     alloc: Global,
-    slow: &Block,
+    kind: CertKind,
     fast: &Block,
-    files: &LevelFiles,
-) -> Result<Errors, Status>
-    requires slow { IsValid slow.now }
-    requires fast { IsValid fast.now }
-    ensures accepted { IfOk result (λ e. AcceptsCerts files.now slow.now fast.now e.slow.items e.fast.items) }
-    ensures fault { IfErr result (IsRefusal (certs_refusals files.now slow.now fast.now)) }
+    cert: &Content,
+) -> Result<Vec<u32>, Status>
+    requires { IsValid fast.now }
+    ensures accepted { IfOk result (λ errors. AcceptsCert kind Byte fast.now cert.now errors.items) }
+    ensures fault { IfErr result (IsRefusal (for_fast (cert_in kind Byte fast.now cert.now)).refuses) }
 {
-    let slow_errors = errors_under(alloc, CertKind::Named, Width::Byte, slow, &files.slow_cert)?;
-    match errors_under(alloc, CertKind::Named, Width::Byte, fast, &files.fast_cert) {
-        Ok(errors) => Ok(Errors {
-            slow: slow_errors,
-            fast: errors,
-        }),
+    match errors_under(alloc, kind, Width::Byte, fast, cert) {
+        Ok(errors) => Ok(errors),
         Err(status) => Err(status.of_fast()),
     }
 }
 
-/// The samples that STRACE and FTRACE spell, or the first fault of them.
-fn traces_of(
-    alloc: Global,
-    slow: &Block,
-    fast: &Block,
-    files: &LevelFiles,
-) -> Result<Traces, Status>
-    requires slow { IsValid slow.now }
-    requires fast { IsValid fast.now }
-    ensures samples { IfOk result (λ t. SpellTraces files.now slow.now fast.now t.slow.items t.fast.items) }
-    ensures fault { IfErr result (IsRefusal (traces_refusals files.now slow.now fast.now)) }
+/// The samples that FTRACE spells.
+fn fast_samples_of(alloc: Global, fast: &Block, trace: &Content) -> Result<Vec<Sample>, Status>
+    requires { IsValid fast.now }
+    ensures samples { IfOk result (λ samples. SpellsTrace fast.now.inputs trace.now samples.items) }
+    ensures fault { IfErr result (IsRefusal (for_fast (trace_in fast.now trace.now)).refuses) }
 {
-    let slow_samples = samples_of(alloc, slow, &files.slow_trace)?;
-    match samples_of(alloc, fast, &files.fast_trace) {
-        Ok(samples) => Ok(Traces {
-            slow: slow_samples,
-            fast: samples,
-        }),
+    match samples_of(alloc, fast, trace) {
+        Ok(samples) => Ok(samples),
         Err(status) => Err(status.of_fast()),
     }
 }

@@ -1,15 +1,17 @@
-//! The command `mrun FCL IMAGE CERT TRACE POSTS FLAGS`: the run of a firmware in the mailbox form, to which
-//! interrupts post samples.
+//! The commands `mrun FCL IMAGE CERT TRACE POSTS FLAGS` and `tmrun ..`: the run of a firmware in the mailbox form, to
+//! which interrupts post samples.
 ghost use Rattle.std.specs.Prelude.{◌≡◌, ◌≤◌, length, IfOk, IfErr};
 ghost use Rattle.std.specs.List.{All};
 ghost use Rattle.interrupt_plan.specs.Posts.{SpellsPosts};
 ghost use Rattle.fz_status.specs.{Refusals.IsRefusal, Words.texts_of};
 ghost use Rattle.command_parts.specs.Contents.{bytes_of};
 ghost use Rattle.command_parts.specs.SeenOutputs.{IsResultOf};
-ghost use Rattle.form_commands.specs.Mrun.{MrunMakes, mrun_in, mrun_refusals};
-ghost use Rattle.form_commands.specs.Mrun.{posted_files, posts_refusals};
-ghost use Rattle.run_reports.specs.{PostedRun.AcceptsPosted, declared.files.PostedFiles.PostedFiles};
+ghost use Rattle.command_parts.specs.Readings.{IsRefused};
+ghost use Rattle.form_commands.specs.Mrun.{MrunMakes, mrun_in, posted_files};
+ghost use Rattle.run_reports.specs.PostedRun.{AcceptsPosted, posted_reading, posts_refusals};
+ghost use Rattle.run_reports.specs.{declared.files.PostedFiles.PostedFiles};
 
+use crate::laws::mrun_is_settled;
 use crate::posted_lines::lines;
 use box_tree::CertKind;
 use byte_scaling::Width;
@@ -31,9 +33,11 @@ use run_reports::laws::{
 use std::alloc::Global;
 use trace_io::Sample;
 
-/// `mrun FCL IMAGE CERT TRACE POSTS FLAGS`
+/// `mrun FCL IMAGE CERT TRACE POSTS FLAGS`, and `tmrun ..` under tight certificates
 #[derive(Clone, Copy)]
 pub struct Mrun {
+    /// What the certificate's leaves say.
+    kind: CertKind,
     /// The condition codes that the machine leaves open.
     flags: u8,
 }
@@ -69,21 +73,15 @@ struct Accepted {
 
 impl Accepted {
     /// What the files give, or the first fault in their order.
-    fn of(alloc: Global, files: &PostedFiles) -> Result<Accepted, Status>
-        ensures accepted { IfOk result (λ a. AcceptsPosted files.now
+    fn of(alloc: Global, kind: CertKind, files: &PostedFiles) -> Result<Accepted, Status>
+        ensures accepted { IfOk result (λ a. AcceptsPosted kind files.now
             a.compiled.block a.compiled.firmware a.errors.items a.samples.items a.posts) }
-        ensures fault { IfErr result (IsRefusal (mrun_refusals files.now)) }
+        ensures fault { IfErr result (IsRefused (posted_reading kind files.now)) }
     {
         spelled_traces_are_short();
         let compiled = firmware_of(alloc, Form::Mailbox, &files.fcl)?;
         require_image(alloc, &files.image, &compiled.firmware.image)?;
-        let errors = errors_under(
-            alloc,
-            CertKind::Named,
-            Width::Byte,
-            &compiled.block,
-            &files.cert,
-        )?;
+        let errors = errors_under(alloc, kind, Width::Byte, &compiled.block, &files.cert)?;
         let samples = samples_of(alloc, &compiled.block, &files.trace)?;
         let posts = posts_of(alloc, &files.posts, &samples)?;
         Ok(Accepted {
@@ -97,11 +95,11 @@ impl Accepted {
 
 impl Mrun {
     /// The command of these words.
-    pub fn of(words: &[String]) -> Option<Mrun>
-        ensures { result ≡ mrun_in (texts_of words.now) }
+    pub fn of(kind: CertKind, words: &[String]) -> Option<Mrun>
+        ensures { result ≡ mrun_in kind (texts_of words.now) }
     {
         let flags = flags(word(words, FLAGS))?;
-        Some(Mrun { flags })
+        Some(Mrun { kind, flags })
     }
 
     /// Runs the firmware under the posts, once all files are accepted, and writes down what came of them.
@@ -112,7 +110,8 @@ impl Mrun {
         spelled_bytes_fit();
         posted_answers_are_near();
         last_is_answered();
-        let accepted = Accepted::of(alloc, files)?;
+        mrun_is_settled();
+        let accepted = Accepted::of(alloc, self.kind, files)?;
         let firmware = &accepted.compiled.firmware;
         let told = run_posts(
             alloc,

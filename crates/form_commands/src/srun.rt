@@ -1,19 +1,21 @@
-//! The command `srun FCL IMAGE CERT TRACE PLAN UPSETS FLAGS`: the run of a firmware with watched tables, whose
-//! bytes are upset.
+//! The commands `srun FCL IMAGE CERT TRACE PLAN UPSETS FLAGS` and `tsrun ..`: the run of a firmware with watched tables,
+//! whose bytes are upset.
 ghost use Rattle.std.specs.Prelude.{◌≡◌, ◌≤◌, ◌++◌, length, IfOk, IfErr};
 ghost use Rattle.std.specs.List.{All};
 ghost use Rattle.interrupt_plan.specs.UpsetTexts.{SpellsUpsets};
 ghost use Rattle.fz_status.specs.{Refusals.IsRefusal, Words.texts_of};
-ghost use Rattle.command_parts.specs.{Contents.bytes_of, Lines.counted};
+ghost use Rattle.command_parts.specs.{Contents.bytes_of, Lines.counted, Readings.IsRefused};
 ghost use Rattle.command_parts.specs.SeenOutputs.{IsResultOf};
-ghost use Rattle.form_commands.specs.Srun.{SrunMakes, srun_in};
-ghost use Rattle.form_commands.specs.Srun.{srun_refusals, upset_refusals, watched_files, watched_row_lines};
-ghost use Rattle.run_reports.specs.{RowLines.begun_lines, WatchedRun.AcceptsWatched};
+ghost use Rattle.form_commands.specs.Srun.{SrunMakes, srun_in, watched_files, watched_row_lines};
+ghost use Rattle.run_reports.specs.{RowLines.begun_lines, WatchedRun.AcceptsWatched, WatchedRun.upset_refusals};
+ghost use Rattle.run_reports.specs.WatchedRun.{watched_reading};
 ghost use Rattle.run_reports.specs.declared.files.WatchedFiles.{WatchedFiles};
 ghost use Rattle.watched_runs.specs.Rows.{row_seen};
 
+use crate::laws::srun_is_settled;
 use box_tree::CertKind;
 use byte_scaling::Width;
+use command_parts::certs::errors_under;
 use command_parts::contents::Content;
 use command_parts::firmware::{Compiled, Form, firmware_of};
 use command_parts::images::require_image;
@@ -22,17 +24,20 @@ use command_parts::words::flags;
 use cpu12_asm::Image;
 use fz_shelf::Line;
 use fz_status::{Status, word};
-use interrupt_plan::{Upsets, read_upsets};
+use interrupt_plan::{Plan, Upsets, read_upsets};
 use run_reports::files::{InputFiles, WatchedFiles};
-use run_reports::inputs::{Inputs, inputs_of};
+use run_reports::inputs::{plan_of, samples_of};
 use run_reports::laws::{faultless_answers_are_near, spelled_bytes_fit};
 use run_reports::row_lines::{begun, push_labelled_row};
 use std::alloc::{AllocError, Global};
+use trace_io::Sample;
 use watched_runs::{WatchedRow, run_upsets};
 
-/// `srun FCL IMAGE CERT TRACE PLAN UPSETS FLAGS`
+/// `srun FCL IMAGE CERT TRACE PLAN UPSETS FLAGS`, and `tsrun ..` under tight certificates
 #[derive(Clone, Copy)]
 pub struct Srun {
+    /// What the certificate's leaves say.
+    kind: CertKind,
     /// The condition codes that the machine leaves open.
     flags: u8,
 }
@@ -64,30 +69,36 @@ pub fn files_of(contents: &[Vec<u8>]) -> WatchedFiles<'_>
 #[derive(Drop)]
 struct Accepted {
     compiled: Compiled,
-    inputs: Inputs,
+    errors: Vec<u32>,
+    samples: Vec<Sample>,
+    plan: Plan,
     upsets: Upsets,
 }
 
 impl Accepted {
     /// What the files give, or the first fault in their order.
-    fn of(alloc: Global, files: &WatchedFiles) -> Result<Accepted, Status>
-        ensures accepted { IfOk result (λ a. AcceptsWatched files.now
-            a.compiled.block a.compiled.firmware a.inputs.errors.items a.inputs.samples.items a.inputs.plan a.upsets) }
-        ensures fault { IfErr result (IsRefusal (srun_refusals files.now)) }
+    fn of(alloc: Global, kind: CertKind, files: &WatchedFiles) -> Result<Accepted, Status>
+        ensures accepted { IfOk result (λ a. AcceptsWatched kind files.now
+            a.compiled.block a.compiled.firmware a.errors.items a.samples.items a.plan a.upsets) }
+        ensures fault { IfErr result (IsRefused (watched_reading kind files.now)) }
     {
         let compiled = firmware_of(alloc, Form::Watched, &files.fcl)?;
         require_image(alloc, &files.image, &compiled.firmware.image)?;
-        let inputs = inputs_of(
+        let errors = errors_under(
             alloc,
-            CertKind::Named,
+            kind,
             Width::Byte,
             &compiled.block,
-            &files.inputs,
+            &files.inputs.cert,
         )?;
+        let samples = samples_of(alloc, &compiled.block, &files.inputs.trace)?;
+        let plan = plan_of(alloc, &files.inputs.plan)?;
         let upsets = upsets_of(alloc, &files.upsets, &compiled.firmware.image)?;
         Ok(Accepted {
             compiled,
-            inputs,
+            errors,
+            samples,
+            plan,
             upsets,
         })
     }
@@ -95,11 +106,11 @@ impl Accepted {
 
 impl Srun {
     /// The command of these words.
-    pub fn of(words: &[String]) -> Option<Srun>
-        ensures { result ≡ srun_in (texts_of words.now) }
+    pub fn of(kind: CertKind, words: &[String]) -> Option<Srun>
+        ensures { result ≡ srun_in kind (texts_of words.now) }
     {
         let flags = flags(word(words, FLAGS))?;
-        Some(Srun { flags })
+        Some(Srun { kind, flags })
     }
 
     /// Runs the samples of the trace under the plan, each with its upset, once all files are accepted, and
@@ -109,17 +120,18 @@ impl Srun {
     {
         faultless_answers_are_near();
         spelled_bytes_fit();
-        let accepted = Accepted::of(alloc, files)?;
+        srun_is_settled();
+        let accepted = Accepted::of(alloc, self.kind, files)?;
         let firmware = &accepted.compiled.firmware;
         let rows = run_upsets(
             alloc,
             firmware,
-            &accepted.inputs.samples,
-            &accepted.inputs.plan,
+            &accepted.samples,
+            &accepted.plan,
             &accepted.upsets,
             self.flags,
         )?;
-        let lines = lines(alloc, &accepted.inputs.errors, firmware.instr_bound, &rows)?;
+        let lines = lines(alloc, &accepted.errors, firmware.instr_bound, &rows)?;
         Ok(Output { lines, file: None })
     }
 }

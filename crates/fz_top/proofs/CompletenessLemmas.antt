@@ -6,10 +6,11 @@ use Rattle.byte_scaling.specs.declared.width.Width.{Width}
 use Rattle.fz_words.specs.Table.{any_hyphen}
 use Rattle.fz_status.specs.Words.{Text}
 use Rattle.run_reports.specs.declared.files.RunFiles.{RunFiles}
-use Rattle.run_commands.specs.Run.{RunAccepts, run_inputs, run_with}
+use Rattle.run_commands.specs.Run.{run_inputs, run_with}
+use Rattle.run_reports.specs.CertifiedRun.{run_reading}
 use Rattle.std.specs.List.{concat}
 use Rattle.fz_shelf.specs.{Files.Names, Told.Taken}
-use Rattle.command_parts.specs.SeenOutputs.{SeenOutput}
+use Rattle.command_parts.specs.{Readings.GivesSome, SeenOutputs.SeenOutput}
 use Rattle.fz_top.specs.{Accepted.Accepts, Commands.Makes, Commands.command_in, Commands.form_of, Commands.inputs_of}
 use Rattle.fz_top.specs.{Reads.names_at, Runs.AreKnown, Runs.CanBeDone, Runs.FileFits, Runs.RoomFor}
 use Rattle.fz_top.specs.declared.command.Command.{Command}
@@ -85,7 +86,7 @@ abbrev pub asked : CertKind → Width → ℕ → Command
 asked kind width flags = command.Run (run_with kind width flags)
 
 pub can : (words : List Text) (kind : CertKind) (width : Width) (flags : ℕ) (files : RunFiles) (names : Names)
-    → AreRunWords words kind width flags → AreTold words names files → RunAccepts (run_with kind width flags) files
+    → AreRunWords words kind width flags → AreTold words names files → GivesSome (run_reading kind width files)
     → CanBeDone words names (asked kind width flags) (contents_of files)
 unfolding inputs_of Accepts
 can words kind width flags files names are told accepted = record {

@@ -1,6 +1,4 @@
-pub mod AcceptedLemmas
 pub mod CompletenessLemmas
-pub mod FaultLemmas
 pub mod FlagsLemmas
 pub mod KeepsLemmas
 pub mod ReadLemmas

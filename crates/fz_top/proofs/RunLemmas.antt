@@ -8,12 +8,13 @@ use Rattle.fz_shelf.specs.{Faults.Rose, Told.Taken, Told.HasRoom, Told.Log, Told
 use Rattle.fz_shelf.specs.Files.{File, IsThere, IsLong, Holds, Names, known as known_file}
 use Rattle.std.specs.declared.alloc.Global.{Global}
 use Rattle.std.specs.declared.vec.Vec.{Vec}
-use Rattle.fz_status.specs.Words.{Text, word_at}
+use Rattle.fz_status.specs.{Refusals.CarriesNoMemory, Words.Text, Words.word_at}
 use Rattle.command_parts.specs.Contents.{bytes_of}
-use Rattle.command_parts.specs.SeenOutputs.{HasOutput, SeenOutput, IsFaultOf}
-use Rattle.fz_top.specs.{Commands.Makes, Commands.command_in, Commands.inputs_of, declared.command.Command.Command}
+use Rattle.command_parts.specs.SeenOutputs.{HasOutput, IsFaultOf, OutputHasNoFault, SeenOutput}
+use Rattle.fz_top.specs.{Accepted.CommandsAreSettled, Commands.Makes, Commands.command_in, Commands.inputs_of}
+use Rattle.fz_top.specs.declared.command.Command.{Command}
 use Rattle.fz_top.specs.Reads.{ReadsWhole, AreHeld, AreThere, names_at, StopsBy}
-use Rattle.fz_top.specs.Runs.{OutputsHaveNoFault, HasNoFault, Faulted, IsMade, Untouched, IsReadFault, IsTooLong}
+use Rattle.fz_top.specs.Runs.{HasNoFault, Faulted, IsMade, Untouched, IsReadFault, IsTooLong}
 use Rattle.fz_top.specs.Runs.{IsWriteFault, Settles, status_of, IsReady, AreKnown, FileFits, Worked, Delivered}
 use Rattle.fz_top.specs.Runs.{WriteFailed, PutFailed, ChangesOnly, IsWritten, Runs}
 use Rattle.fz_shelf.specs.Told.{World, world}
@@ -258,17 +259,17 @@ module _ (words : List Text) (old new : World) (command : Command) (contents : L
 abbrev IsDone : Status → Type 0
 IsDone s = (s ≡ status.Ok) ⊎ (s ≡ status.Memory)
 
-pub does : (apart : OutputsHaveNoFault) (words : List Text) (old new : World) (command : Command)
-    (contents : List (List ℕ)) → command_in words ≡ Some command
-    → AreKnown old.files (names_at words (inputs_of command)) contents → HasOutput (Makes command contents)
+pub does : (words : List Text) (old new : World) (command : Command) (contents : List (List ℕ))
+    → command_in words ≡ Some command → AreKnown old.files (names_at words (inputs_of command)) contents
+    → OutputHasNoFault (Makes command contents) → HasOutput (Makes command contents)
     → (s : Status) → Runs words old new s → (IsReadFault s → ⊥) → (IsWriteFault s → ⊥) → IsDone s
-does apart words old new command contents named known made s runs no_read no_write =
+does words old new command contents named known apart made s runs no_read no_write =
     go (completes words old new command contents named known s runs no_read no_write)
   where
     go : IsMade (Makes command contents) s ⊎ (s ≡ status.Memory) → IsDone s
     go (inr memory) = inr memory
     go (inl (Ok output, makes, is)) = inl is
-    go (inl (Err t, makes, is)) = absurd (apart command contents made.0 t made.1 makes)
+    go (inl (Err t, makes, is)) = absurd (apart made.0 t made.1 makes)
 
 pub no_read_fault : (words : List Text) (old new : World) → HasNoFault old new → (s : Status) → Runs words old new s
     → IsReadFault s → ⊥
@@ -393,3 +394,20 @@ module _ (words : List Text) (old new : World) (place : ℕ) (long : IsTooLong w
   pub long_status : (s : Status) → Runs words old new s → (s ≡ status.TooLong place) ⊎
       (IsReadFault s ⊎ (s ≡ status.Memory))
   long_status s runs = long_status_as s (kind_of s) runs
+
+-- ---- a fault that is made carries no want of memory
+
+pub carries : CommandsAreSettled → (words : List Text) (old new : World) (s : Status) → Runs words old new s
+    → CarriesNoMemory s
+carries settled words old new s runs = go s (kind_of s) runs
+  where
+    go : (t : Status) → Kind t → Runs words old new t → CarriesNoMemory t
+    go _ done at = tt
+    go _ no_command at = tt
+    go _ (failed_read p) at = tt
+    go _ failed_write at = tt
+    go _ no_memory at = tt
+    go _ (long_read p) at = tt
+    go _ (of_contents t of) at =
+        let fault = (of.faulted words old new at).worked in
+        ((settled fault.command fault.contents).contents t fault.outcome).0

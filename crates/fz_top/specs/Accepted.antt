@@ -1,13 +1,14 @@
--- The contents that commands accept, and how many outputs contents make.
+-- The contents that commands accept, and what contents make.
 -- Beside the promise.
 use Rattle.std.specs.Prelude.{◌<◌, ◌^◌, ℕ, List}
-use Rattle.build_commands.specs.{Asm.AsmAccepts, Certify.CertifyAccepts, Check.CheckAccepts, Compile.CompileAccepts}
-use Rattle.build_commands.specs.{Lcompile.LcompileAccepts, Exec.ExecAccepts, Hcheck.HcheckAccepts}
-use Rattle.command_parts.specs.{Contents.content_at, SeenOutputs.HasOutput, SeenOutputs.OutputsAreOne}
-use Rattle.run_commands.specs.{Debug.DebugAccepts, Debug.debug_files, Generate.GenerateAccepts}
-use Rattle.run_commands.specs.Run.{RunAccepts, files_in}
-use Rattle.form_commands.specs.{Hrun.HrunAccepts, Hrun.handled_files, Lrun.LrunAccepts, Lrun.level_files}
-use Rattle.form_commands.specs.{Mrun.MrunAccepts, Mrun.posted_files, Srun.SrunAccepts, Srun.watched_files}
+use Rattle.build_commands.specs.{Asm.AsmAccepts, Certify.certify_reading, Check.CheckAccepts, Compile.CompileAccepts}
+use Rattle.build_commands.specs.{Exec.ExecAccepts, Lcompile.LcompileAccepts}
+use Rattle.command_parts.specs.{Contents.content_at, Handlers.handler_in}
+use Rattle.command_parts.specs.Readings.{GivesSome, IsSettled, last}
+use Rattle.run_commands.specs.{Debug.debug_files, Debug.debug_reading, Generate.generate_reading, Run.files_in}
+use Rattle.form_commands.specs.{Hrun.handled_files, Lrun.level_files, Mrun.posted_files, Srun.watched_files}
+use Rattle.run_reports.specs.{CertifiedRun.run_reading, HandledRun.handled_reading, LevelRun.level_reading}
+use Rattle.run_reports.specs.{PostedRun.posted_reading, WatchedRun.watched_reading}
 use Rattle.fz_top.specs.{Commands.Makes, declared.command.Command.Command}
 use Rattle.fz_top.specs.declared.command.Command.TheVariants.{Asm, Certify, Check, Compile, Debug, Exec, Generate}
 use Rattle.fz_top.specs.declared.command.Command.TheVariants.{Hcheck, Hrun, Lcompile, Lrun, Mrun, Run, Srun}
@@ -15,19 +16,19 @@ use Rattle.fz_top.specs.declared.command.Command.TheVariants.{Hcheck, Hrun, Lcom
 -- the contents of a command's files, in order, are accepted
 unfoldable pub Accepts : Command → List (List ℕ) → Type 0
 Accepts Asm contents = AsmAccepts (content_at contents 0)
-Accepts (Certify certify) contents = CertifyAccepts certify (content_at contents 0)
+Accepts (Certify certify) contents = GivesSome (certify_reading certify (content_at contents 0))
 Accepts (Check check) contents = CheckAccepts check (content_at contents 0) (content_at contents 1)
 Accepts (Compile compile) contents = CompileAccepts (content_at contents 0)
-Accepts (Debug debug) contents = DebugAccepts (debug_files contents)
+Accepts (Debug debug) contents = GivesSome (debug_reading (debug_files contents))
 Accepts (Exec exec) contents = ExecAccepts exec (content_at contents 0)
-Accepts (Generate generate) contents = GenerateAccepts generate
-Accepts Hcheck contents = HcheckAccepts (content_at contents 0)
-Accepts (Hrun hrun) contents = HrunAccepts (handled_files contents)
+Accepts (Generate generate) contents = GivesSome (generate_reading generate)
+Accepts Hcheck contents = GivesSome (last (handler_in (content_at contents 0)))
+Accepts (Hrun hrun) contents = GivesSome (handled_reading hrun.kind (handled_files contents))
 Accepts Lcompile contents = LcompileAccepts (content_at contents 0) (content_at contents 1)
-Accepts (Lrun lrun) contents = LrunAccepts (level_files contents)
-Accepts (Mrun mrun) contents = MrunAccepts (posted_files contents)
-Accepts (Run run) contents = RunAccepts run (files_in contents)
-Accepts (Srun srun) contents = SrunAccepts (watched_files contents)
+Accepts (Lrun lrun) contents = GivesSome (level_reading lrun.kind (level_files contents))
+Accepts (Mrun mrun) contents = GivesSome (posted_reading mrun.kind (posted_files contents))
+Accepts (Run run) contents = GivesSome (run_reading run.kind run.width (files_in contents))
+Accepts (Srun srun) contents = GivesSome (watched_reading srun.kind (watched_files contents))
 
 -- the condition codes that a command's run of firmware leaves open
 abbrev pub run_flags : Command → ℕ
@@ -39,11 +40,7 @@ run_flags (Run run) = run.flags
 run_flags (Srun srun) = srun.flags
 run_flags _ = 0
 
--- contents that are accepted make an output
-abbrev pub AcceptedCommandsMakeOutput : Type 0
-AcceptedCommandsMakeOutput = (command : Command) (contents : List (List ℕ)) → run_flags command < 2 ^ 8
-    → Accepts command contents → HasOutput (Makes command contents)
-
--- and no contents make two
-abbrev pub CommandsMakeOneOutput : Type 0
-CommandsMakeOneOutput = (command : Command) (contents : List (List ℕ)) → OutputsAreOne (Makes command contents)
+-- contents make at most one output, and then no fault; and one where they are accepted
+abbrev pub CommandsAreSettled : Type 0
+CommandsAreSettled = (command : Command) (contents : List (List ℕ))
+    → IsSettled (Makes command contents) ((run_flags command < 2 ^ 8) × Accepts command contents)

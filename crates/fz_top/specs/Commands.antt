@@ -34,14 +34,16 @@ table = row (codes "asm") 2 name.Asm ∷ row (codes "certify") 3 (name.Certify N
     ∷ row (codes "check") 2 (name.Check Named Byte) ∷ row (codes "check16") 2 (name.Check Named Word)
     ∷ row (codes "compile") 2 (name.Compile (Alone Byte)) ∷ row (codes "compile16") 2 (name.Compile (Alone Word))
     ∷ row (codes "debug") 6 name.Debug ∷ row (codes "exec") 3 name.Exec ∷ row (codes "gen") 1 name.Generate
-    ∷ row (codes "hcheck") 1 name.Hcheck ∷ row (codes "hrun") 6 name.Hrun
-    ∷ row (codes "lcompile") 3 name.Lcompile ∷ row (codes "lrun") 9 name.Lrun
-    ∷ row (codes "mcompile") 2 (name.Compile Mailbox) ∷ row (codes "mrun") 6 name.Mrun
+    ∷ row (codes "hcheck") 1 name.Hcheck ∷ row (codes "hrun") 6 (name.Hrun Named)
+    ∷ row (codes "lcompile") 3 name.Lcompile ∷ row (codes "lrun") 9 (name.Lrun Named)
+    ∷ row (codes "mcompile") 2 (name.Compile Mailbox) ∷ row (codes "mrun") 6 (name.Mrun Named)
     ∷ row (codes "run") 6 (name.Run Named Byte) ∷ row (codes "run16") 6 (name.Run Named Word)
-    ∷ row (codes "scompile") 2 (name.Compile Watched) ∷ row (codes "srun") 7 name.Srun
+    ∷ row (codes "scompile") 2 (name.Compile Watched) ∷ row (codes "srun") 7 (name.Srun Named)
     ∷ row (codes "tcertify") 3 (name.Certify Tight Byte) ∷ row (codes "tcertify16") 3 (name.Certify Tight Word)
     ∷ row (codes "tcheck") 2 (name.Check Tight Byte) ∷ row (codes "tcheck16") 2 (name.Check Tight Word)
-    ∷ row (codes "trun") 6 (name.Run Tight Byte) ∷ row (codes "trun16") 6 (name.Run Tight Word) ∷ []
+    ∷ row (codes "thrun") 6 (name.Hrun Tight) ∷ row (codes "tlrun") 9 (name.Lrun Tight)
+    ∷ row (codes "tmrun") 6 (name.Mrun Tight) ∷ row (codes "trun") 6 (name.Run Tight Byte)
+    ∷ row (codes "trun16") 6 (name.Run Tight Word) ∷ row (codes "tsrun") 7 (name.Srun Tight) ∷ []
 
 -- the command of a name, where the words have its form
 unfoldable pub form_of : Name → List Text → Option Command
@@ -53,12 +55,12 @@ form_of name.Debug words = option_map Debug (debug_in words)
 form_of name.Exec words = option_map Exec (exec_in words)
 form_of name.Generate words = option_map Generate (generate_in words)
 form_of name.Hcheck words = Some Hcheck
-form_of name.Hrun words = option_map Hrun (hrun_in words)
+form_of (name.Hrun kind) words = option_map Hrun (hrun_in kind words)
 form_of name.Lcompile words = Some Lcompile
-form_of name.Lrun words = option_map Lrun (lrun_in words)
-form_of name.Mrun words = option_map Mrun (mrun_in words)
+form_of (name.Lrun kind) words = option_map Lrun (lrun_in kind words)
+form_of (name.Mrun kind) words = option_map Mrun (mrun_in kind words)
 form_of (name.Run kind width) words = option_map Run (run_in kind width words)
-form_of name.Srun words = option_map Srun (srun_in words)
+form_of (name.Srun kind) words = option_map Srun (srun_in kind words)
 
 -- the words that name the files to read, in order
 unfoldable pub inputs_of : Command → List ℕ

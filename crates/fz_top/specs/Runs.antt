@@ -163,8 +163,3 @@ IsMade makes s = (r : Result SeenOutput Status) × makes r × (s ≡ status_of r
 -- the same, but for want of memory and faults of the shelf and out
 abbrev pub Settles : (Result SeenOutput Status → Type 0) → Status → Type 0
 Settles makes s = IsMade makes s ⊎ ((s ≡ status.Memory) ⊎ (IsReadFault s ⊎ IsWriteFault s))
-
--- Contents that make an output make no fault.
-abbrev pub OutputsHaveNoFault : Type 0
-OutputsHaveNoFault = (command : Command) (contents : List (List ℕ)) (output : SeenOutput) (s : Status)
-    → Makes command contents (Ok output) → Makes command contents (Err s) → ⊥

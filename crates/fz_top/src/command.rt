@@ -42,16 +42,16 @@ pub(crate) enum Name {
     Exec,
     Generate,
     Hcheck,
-    Hrun,
+    Hrun(CertKind),
     Lcompile,
-    Lrun,
-    Mrun,
+    Lrun(CertKind),
+    Mrun(CertKind),
     Run(CertKind, Width),
-    Srun,
+    Srun(CertKind),
 }
 
 /// The commands by their names on the command line, each with the number of words that follow.
-static COMMANDS: [(&str, usize, Name); 26] = [
+static COMMANDS: [(&str, usize, Name); 30] = [
     ("asm", 2, Name::Asm),
     ("certify", 3, Name::Certify(Named, Byte)),
     ("certify16", 3, Name::Certify(Named, Word)),
@@ -63,21 +63,25 @@ static COMMANDS: [(&str, usize, Name); 26] = [
     ("exec", 3, Name::Exec),
     ("gen", 1, Name::Generate),
     ("hcheck", 1, Name::Hcheck),
-    ("hrun", 6, Name::Hrun),
+    ("hrun", 6, Name::Hrun(Named)),
     ("lcompile", 3, Name::Lcompile),
-    ("lrun", 9, Name::Lrun),
+    ("lrun", 9, Name::Lrun(Named)),
     ("mcompile", 2, Name::Compile(Mailbox)),
-    ("mrun", 6, Name::Mrun),
+    ("mrun", 6, Name::Mrun(Named)),
     ("run", 6, Name::Run(Named, Byte)),
     ("run16", 6, Name::Run(Named, Word)),
     ("scompile", 2, Name::Compile(Watched)),
-    ("srun", 7, Name::Srun),
+    ("srun", 7, Name::Srun(Named)),
     ("tcertify", 3, Name::Certify(Tight, Byte)),
     ("tcertify16", 3, Name::Certify(Tight, Word)),
     ("tcheck", 2, Name::Check(Tight, Byte)),
     ("tcheck16", 2, Name::Check(Tight, Word)),
+    ("thrun", 6, Name::Hrun(Tight)),
+    ("tlrun", 9, Name::Lrun(Tight)),
+    ("tmrun", 6, Name::Mrun(Tight)),
     ("trun", 6, Name::Run(Tight, Byte)),
     ("trun16", 6, Name::Run(Tight, Word)),
+    ("tsrun", 7, Name::Srun(Tight)),
 ];
 
 /// A command with what its words give beside the names of files.
@@ -99,17 +103,17 @@ pub enum Command {
     Generate(Generate),
     /// `hcheck HANDLER`
     Hcheck,
-    /// `hrun FCL HANDLER CERT TRACE PLAN FLAGS`
+    /// `hrun FCL HANDLER CERT TRACE PLAN FLAGS` and `thrun ..`
     Hrun(Hrun),
     /// `lcompile SLOW FAST OUT`
     Lcompile,
-    /// `lrun SLOW FAST IMAGE SCERT FCERT STRACE FTRACE LEVELS FLAGS`
+    /// `lrun SLOW FAST IMAGE SCERT FCERT STRACE FTRACE LEVELS FLAGS` and `tlrun ..`
     Lrun(Lrun),
-    /// `mrun FCL IMAGE CERT TRACE POSTS FLAGS`
+    /// `mrun FCL IMAGE CERT TRACE POSTS FLAGS` and `tmrun ..`
     Mrun(Mrun),
     /// `run FCL IMAGE CERT TRACE PLAN FLAGS`, `run16 ..`, `trun ..` and `trun16 ..`
     Run(Run),
-    /// `srun FCL IMAGE CERT TRACE PLAN UPSETS FLAGS`
+    /// `srun FCL IMAGE CERT TRACE PLAN UPSETS FLAGS` and `tsrun ..`
     Srun(Srun),
 }
 
@@ -127,12 +131,12 @@ fn formed(name: Name, words: &[String]) -> Option<Command>
         Name::Exec => Exec::of(words).map(Command::Exec),
         Name::Generate => Generate::of(words).map(Command::Generate),
         Name::Hcheck => Some(Command::Hcheck),
-        Name::Hrun => Hrun::of(words).map(Command::Hrun),
+        Name::Hrun(kind) => Hrun::of(kind, words).map(Command::Hrun),
         Name::Lcompile => Some(Command::Lcompile),
-        Name::Lrun => Lrun::of(words).map(Command::Lrun),
-        Name::Mrun => Mrun::of(words).map(Command::Mrun),
+        Name::Lrun(kind) => Lrun::of(kind, words).map(Command::Lrun),
+        Name::Mrun(kind) => Mrun::of(kind, words).map(Command::Mrun),
         Name::Run(kind, width) => Run::of(kind, width, words).map(Command::Run),
-        Name::Srun => Srun::of(words).map(Command::Srun),
+        Name::Srun(kind) => Srun::of(kind, words).map(Command::Srun),
     }
 }
 

@@ -10,7 +10,7 @@ ghost use Rattle.fz_top.specs.{Keeping.AcceptedIsDone, Keeping.OkKeepsPromise, R
 
 use crate::command::command_of;
 use crate::delivery::deliver;
-use crate::laws::{accepted_commands_make_output, outputs_have_no_fault};
+use crate::laws::commands_are_settled;
 use crate::reading::{Stop, read_all};
 use fz_shelf::{Shelf, Sink};
 use fz_status::{Status, report};
@@ -129,8 +129,7 @@ pub fn fuzz12<S: Shelf, O: Sink, F: Sink>(
     ensures out_reliable { O.reliable out.old → O.reliable out.new }
     ensures err_reliable { F.reliable err.old → F.reliable err.new }
 {
-    outputs_have_no_fault();
-    accepted_commands_make_output();
+    commands_are_settled();
     certified_runs_keep_promise();
     accepted_files_give_firmware();
     let status = run(alloc, words, shelf, out);

@@ -1,12 +1,21 @@
 -- A certified run, and what refuses one.
 use Rattle.run_commands.proofs.Words.{◌≡◌, Alone, AnswersAreReported, AnswersItsBlock, AnswersUnderPlans, Block}
-use Rattle.run_commands.proofs.Words.{Firmware, firmware_rows, GivesFirmware, GivesImage, input_bytes, input_refusals}
-use Rattle.run_commands.proofs.Words.{left_of, List, refl, report_of, Request, RowSeen, Run, run_refusals, RunFiles}
-use Rattle.run_commands.proofs.Words.{Sample, Status, subst, ℕ}
-use Rattle.run_reports.specs.CertifiedRun.{AcceptsRun, CertifiedRun}
-use Rattle.run_commands.specs.Run.{AcceptedRunsMakeOutput}
+use Rattle.run_commands.proofs.Words.{Firmware, firmware_rows, input_bytes, left_of, List, only_lines, refl, report_of}
+use Rattle.run_commands.proofs.Words.{Request, RowSeen, Run, run_lines, RunFiles, Sample, subst, sym, ℕ, ◌∙◌}
+use Rattle.command_parts.proofs.Algebra.{settled}
+use Rattle.command_parts.specs.{Certs.CertsAreExact, Firmwares.FirmwaresAreExact, Images.ImagesAreExact}
+use Rattle.command_parts.specs.Readings.{AreExact, GivesSome, Reading, seen_of}
+use Rattle.command_parts.specs.SeenOutputs.{SeenOutput}
+use Rattle.eval_code.specs.Bounds.{instruction_bound}
+use Rattle.run_reports.proofs.Algebra.{rows_ran}
+use Rattle.run_reports.specs.CertifiedRun.{AcceptsRun, CertifiedRun, run_reading}
+use Rattle.box_tree.specs.declared.cert.CertKind.{CertKind}
+use Rattle.byte_scaling.specs.declared.width.Width.{Width}
+use Rattle.run_reports.specs.Inputs.{PlansAreExact, TracesAreExact}
+use Rattle.std.proofs.Common.{◌<◌, ◌^◌}
+use Rattle.run_commands.specs.Run.{AcceptedRunsMakeOutput, RunGives, RunIsSettled}
+use Rattle.command_parts.specs.declared.firmware.Compiled.{Compiled}
 use Rattle.std.specs.Prelude.{map}
-use Rattle.fz_status.specs.declared.status.Status.TheVariants as status
 
 -- what it answers of accepted files is a certified run
 abbrev pub certifies : (reported : AnswersAreReported) (run : Run) (files : RunFiles) (block : Block)
@@ -25,8 +34,8 @@ certifies reported run files block firmware errors samples slice plan rows left 
       samples = samples;
       plan = plan;
       accepts = a;
-      reported = reported run.width run.flags files.fcl block firmware a.inputs.accepted.cert errors files.inputs.trace
-          samples plan rows a.compiled a.inputs.accepted.accepted a.inputs.in_range answers_there;
+      reported = reported run.width run.flags files.fcl block firmware a.1.1.0.cert errors files.inputs.trace
+          samples plan rows a.0 a.1.1.0.accepted a.1.1.1.0 answers_there;
       left = left;
       left_is = subst (λ (ss : List Sample). left
           ≡ left_of (firmware_rows firmware (map input_bytes ss) plan run.flags).state.mem) same left_is;
@@ -41,16 +50,65 @@ accepted_made reported under run files block firmware errors samples plan byte a
       record {
         report = report_of errors firmware.instr_bound all.rows;
         certified = certifies reported run files block firmware errors samples samples plan all.rows
-            (left_of all.state.mem) a refl (under firmware run.flags bytes plan byte a.inputs.good_plan.good) refl;
+            (left_of all.state.mem) a refl (under firmware run.flags bytes plan byte a.1.1.1.1.good) refl;
         output_is = refl;
       },
       refl,
     )
 
--- what refuses the files behind IMAGE refuses the run
-pub run_refused : (run : Run) (files : RunFiles) (block : Block) (firmware : Firmware)
-    → GivesFirmware (Alone run.width) files.fcl block firmware → GivesImage files.image firmware.image → (s : Status)
-    → input_refusals run.kind run.width block files.inputs s → run_refusals run files s
-run_refused run files block firmware gives image (status.Fcl f) r = absurd r.2
-run_refused run files block firmware gives image (status.Image f) r = absurd r.2
-run_refused run files block firmware gives image s r = (block, firmware, gives, (image, r))
+-- ---- what it makes of its files
+
+pub run_exact : FirmwaresAreExact → ImagesAreExact → CertsAreExact → TracesAreExact → PlansAreExact
+    → (kind : CertKind) (width : Width) (files : RunFiles) → AreExact (run_reading kind width files)
+run_exact firmwares images certs traces plans kind width files = (
+  firmwares (Alone width) files.fcl,
+  λ c compiled. (
+    images files.image c.firmware.image,
+    λ held image. (
+      certs kind width c.block files.inputs.cert compiled.spelled.valid,
+      λ errors accepted. (traces c.block files.inputs.trace, λ samples in_range. plans files.inputs.plan),
+    ),
+  ),
+)
+
+module _ (run : Run) (files : RunFiles) where
+  abbrev reading : Reading (Compiled × (Unit {0} × (List ℕ × (List Sample × List Request))))
+  reading = run_reading run.kind run.width files
+
+  abbrev run_given : (output : SeenOutput) → RunGives run files output → GivesSome reading
+  run_given output a =
+      let r = a.certified in (
+        (record { block = r.block; firmware = r.firmware }, (tt, (a.report.errors, (r.samples, r.plan)))),
+        r.accepts,
+      )
+
+  -- its output is one, where what is seen of the files is
+  run_one : (output other : SeenOutput) (a : RunGives run files output) (b : RunGives run files other)
+      → seen_of reading (run_given output a).0 ≡ seen_of reading (run_given other b).0
+      → output ≡ other
+  run_one output other a b same =
+      let p = a.certified in
+      let q = b.certified in
+      let rows : a.report.rows ≡ b.report.rows =
+      rows_ran p.reported.follows
+      ∙ (λ i. (firmware_rows (same i).0.firmware (same i).1.1.1.0.1 (same i).1.1.1.1 run.flags).rows)
+      ∙ sym (rows_ran q.reported.follows) in
+      let bound : a.report.bound ≡ b.report.bound =
+      p.reported.bound ∙ (λ i. instruction_bound run.width (same i).0.block) ∙ sym q.reported.bound in
+      let report : a.report ≡ b.report = (λ i. record { errors = (same i).1.1.0; bound = bound i; rows = rows i }) in
+      let left : p.left ≡ q.left =
+      p.left_is
+      ∙ (λ i. left_of (firmware_rows (same i).0.firmware (same i).1.1.1.0.1 (same i).1.1.1.1 run.flags).state.mem)
+      ∙ sym q.left_is in
+      a.output_is ∙ (λ i. only_lines (run_lines (report i) (left i))) ∙ sym b.output_is
+
+pub run_settled : ((kind : CertKind) (width : Width) (files : RunFiles) → AreExact (run_reading kind width files))
+    → AcceptedRunsMakeOutput → RunIsSettled
+run_settled exact made run files =
+    settled (reading run files) (RunGives run files) ((run.flags < 2 ^ 8) × GivesSome (reading run files))
+    (exact run.kind run.width files) (run_given run files) (run_one run files) some
+  where
+    some : (run.flags < 2 ^ 8) × GivesSome (reading run files) → (output : SeenOutput) × RunGives run files output
+    some (byte, ((c, (held, (errors, (samples, plan)))), a)) =
+        let gives = made run files c.block c.firmware errors samples plan byte a in
+        (gives.0, gives.1)

@@ -1,14 +1,25 @@
 -- What a debugged run gives.
 use Rattle.run_commands.proofs.Words.{[], ◌∙◌, ◌∷◌, ◌≡◌, Alone, AnswersItsBlock, AnswersUnderPlans, ap, ap₂}
-use Rattle.run_commands.proofs.Words.{bare-append, behind_blank, Block, Byte, debug_lines, debug_refusals, DebugFiles}
-use Rattle.run_commands.proofs.Words.{DebugRun, Firmware, firmware_rows, flat_map, GivesFirmware, GivesImage}
-use Rattle.run_commands.proofs.Words.{input_bytes, List, only_lines, refl, Request, RowSeen, Sample, sample_refusals}
+use Rattle.run_commands.proofs.Words.{bare-append, behind_blank, Block, Byte, debug_lines, DebugFiles}
+use Rattle.run_commands.proofs.Words.{DebugRun, Firmware, firmware_rows, flat_map}
+use Rattle.run_commands.proofs.Words.{input_bytes, List, only_lines, refl, Request, RowSeen, Sample}
 use Rattle.run_commands.proofs.Words.{shown, Status, subst, true, ℕ}
-use Rattle.run_commands.specs.Debug.{DebugGives, Debugs, run_positions, AcceptedDebugRunsMakeOutput}
+use Rattle.run_commands.proofs.Words.{Err, sym}
+use Rattle.run_commands.specs.Debug.{DebugGives, DebugIsSettled, Debugs, debug_reading, run_positions}
+use Rattle.run_commands.specs.Debug.{script_in, script_refusals}
+use Rattle.command_parts.proofs.Algebra.{exact_of, settled}
+use Rattle.command_parts.specs.{Firmwares.FirmwaresAreExact, Images.ImagesAreExact, SeenOutputs.SeenOutput}
+use Rattle.command_parts.specs.Readings.{AreExact, GivesSome, IsExact, seen_of}
+use Rattle.alone_runs.specs.Rows.{first_state}
+use Rattle.debug_script.specs.Scripts.{script_of}
+use Rattle.run_forms.specs.Positions.{positions}
+use Rattle.run_reports.proofs.Algebra.{rows_ran}
+use Rattle.run_reports.specs.Inputs.{PlansAreExact, TracesAreExact}
+use Rattle.std.proofs.Common.{◌<◌, ◌^◌}
 use Rattle.fz_shelf.proofs.{Algebra.bare-byte}
 use Rattle.debug_script.specs.{declared.order.Order.Order, declared.shown.Shown.Shown}
 use Rattle.run_reports.specs.{Laws.SpelledBytesFit}
-use Rattle.std.specs.Prelude.{map}
+use Rattle.std.specs.Prelude.{map, Ok}
 use Rattle.fz_shelf.specs.{Lines.has_no_end, Parts.byte_digits}
 use Rattle.fz_status.specs.declared.status.Status.TheVariants as status
 
@@ -38,30 +49,70 @@ gives fit debug files block firmware samples slice plan script orders items item
       script = script;
       accepts = a;
       rows = rows;
-      follows = all block a.compiled.spelled.valid a.compiled.limits a.compiled.compiled.0
-          (fit block files.trace samples a.in_range);
+      follows = all block a.0.spelled.valid a.0.limits a.0.compiled.0
+          (fit block files.trace samples a.1.1.0);
       output_is = ap only_lines (written ∙ ap₂ debug_lines shown_is same_rows);
     }
 
--- accepted files make an output
-pub debug_made : SpelledBytesFit → AnswersUnderPlans → AcceptedDebugRunsMakeOutput
-debug_made fit under debug files byte (block, firmware, samples, plan, script, a) =
-    let bytes = map input_bytes samples in
-    let rows = (firmware_rows firmware bytes plan debug.flags).rows in
-    let items = shown script (run_positions firmware debug.flags samples plan) in (
-      _,
-      gives fit debug files block firmware samples samples plan script script items items rows rows _ a refl refl refl
-          (under firmware debug.flags bytes plan byte a.good_plan.good) refl refl refl,
-    )
+-- ---- what it makes of its files
 
--- what refuses the trace or the plan refuses the run
-pub debug_refused : (files : DebugFiles) (block : Block) (firmware : Firmware)
-    → GivesFirmware (Alone Byte) files.fcl block firmware → GivesImage files.image firmware.image → (s : Status)
-    → sample_refusals block files.trace files.plan s → debug_refusals files s
-debug_refused files block firmware gives image (status.Fcl f) r = absurd r
-debug_refused files block firmware gives image (status.Image f) r = absurd r
-debug_refused files block firmware gives image (status.Script n) r = absurd r
-debug_refused files block firmware gives image s r = (block, firmware, gives, (image, r))
+script_has : (text : List ℕ) (s : Status) → script_refusals text s
+    → (n : ℕ) × (s ≡ status.Script n) × (script_of text ≡ Err n)
+script_has text (status.Script n) w = (n, refl, w)
+script_has text s w = absurd w
+
+pub debug_exact : FirmwaresAreExact → ImagesAreExact → TracesAreExact → PlansAreExact → (files : DebugFiles)
+    → AreExact (debug_reading files)
+debug_exact firmwares images traces plans files = (
+  firmwares (Alone Byte) files.fcl,
+  λ c compiled. (
+    images files.image c.firmware.image,
+    λ held image. (traces c.block files.trace, λ samples in_range. (plans files.plan, λ plan good. script)),
+  ),
+)
+  where
+    script : IsExact (script_in files.script)
+    script =
+        exact_of (script_in files.script) status.Script (λ n. script_of files.script ≡ Err n) (λ n. tt)
+        (script_has files.script) (λ x y g h. let e : Ok x ≡ Ok y = sym g ∙ h in cc)
+        (λ x n g carries w. let e : Ok x ≡ Err n = sym g ∙ w in cc)
+
+module _ (debug : DebugRun) (files : DebugFiles) where
+  abbrev debug_given : (output : SeenOutput) → DebugGives debug files output → GivesSome (debug_reading files)
+  debug_given output a =
+      ((record { block = a.block; firmware = a.firmware }, (tt, (a.samples, (a.plan, a.script)))), a.accepts)
+
+  -- its output is one, where what is seen of the files is
+  debug_one : (output other : SeenOutput) (a : DebugGives debug files output) (b : DebugGives debug files other)
+      → seen_of (debug_reading files) (debug_given output a).0 ≡ seen_of (debug_reading files) (debug_given other b).0
+      → output ≡ other
+  debug_one output other a b same =
+      let rows : a.rows ≡ b.rows =
+      rows_ran a.follows
+      ∙ (λ i. (firmware_rows (same i).0.firmware (same i).1.1.0.1 (same i).1.1.1.0 debug.flags).rows)
+      ∙ sym (rows_ran b.follows) in
+      a.output_is
+      ∙ (λ i. only_lines (debug_lines (shown (same i).1.1.1.1 (positions (first_state (same i).0.firmware debug.flags)
+      (firmware_rows (same i).0.firmware (same i).1.1.0.1 (same i).1.1.1.0 debug.flags))) (rows i)))
+      ∙ sym b.output_is
+
+-- accepted files make an output
+pub debug_settled : ((files : DebugFiles) → AreExact (debug_reading files)) → SpelledBytesFit → AnswersUnderPlans
+    → DebugIsSettled
+debug_settled exact fit under debug files =
+    settled (debug_reading files) (DebugGives debug files) ((debug.flags < 2 ^ 8) × GivesSome (debug_reading files))
+    (exact files) (debug_given debug files) (debug_one debug files) some
+  where
+    some : (debug.flags < 2 ^ 8) × GivesSome (debug_reading files)
+        → (output : SeenOutput) × DebugGives debug files output
+    some (byte, ((c, (held, (samples, (plan, script)))), a)) =
+        let bytes = map input_bytes samples in
+        let rows = (firmware_rows c.firmware bytes plan debug.flags).rows in
+        let items = shown script (run_positions c.firmware debug.flags samples plan) in (
+          _,
+          gives fit debug files c.block c.firmware samples samples plan script script items items rows rows _ a refl
+              refl refl (under c.firmware debug.flags bytes plan byte a.1.1.1.0.good) refl refl refl,
+        )
 
 -- ---- no line ends in what is shown of bytes
 

@@ -1,14 +1,26 @@
--- A number that is accepted makes an output.
+-- What a number gives.
 use Rattle.run_commands.proofs.Words.{[], ◌++◌, ◌∙◌, ◌∷◌, ◌≡◌, answers_of, AnswersAreReported, AnswersUnderPlans, ap}
 use Rattle.run_commands.proofs.Words.{arith, Byte, codes, firmware_rows, frames_of, generate_lines, input_bytes}
 use Rattle.run_commands.proofs.Words.{length, line, List, made_with, map, refl, report_of, resumed_of, RowSeen, ℕ}
-use Rattle.run_commands.specs.{Generate.AcceptedNumbersMakeOutput}
-use Rattle.command_parts.specs.{Firmwares.GivenBlocksHaveFirmware, Lines.error_lines}
+use Rattle.run_commands.proofs.Words.{Block, generated_target, Named, subst, sym}
+use Rattle.alone_code.specs.{Alike.FirmwaresAreOne, Firmwares.IsFirmwareOf}
+use Rattle.box_tree.specs.declared.cert.Cert.{Cert}
+use Rattle.byte_scaling.specs.Widths.{parts}
+use Rattle.command_parts.proofs.Algebra.{settled}
+use Rattle.command_parts.specs.{Certs.HalvingsAreExact, Firmwares.GivenBlocksHaveFirmware, Lines.error_lines}
+use Rattle.command_parts.specs.{Readings.GivesSome, SeenOutputs.SeenOutput, SeenOutputs.only_lines}
 use Rattle.command_parts.specs.declared.firmware.Form.TheVariants.{Alone}
+use Rattle.error_certifier.specs.Halving.{IsHalving}
+use Rattle.eval_code.specs.Bounds.{instruction_bound}
+use Rattle.run_reports.proofs.Algebra.{rows_ran}
 use Rattle.workload.specs.{Blocks.drawn_block, Draws.draw, Laws.DrawnBlocksAreWithinLimits, Laws.NumbersHaveWorkloads}
+use Rattle.workload.specs.Laws.{WorkloadsAreOne}
+use Rattle.run_commands.specs.Generate.{GenerateGives, GenerateIsSettled, generate_reading}
+use Rattle.run_commands.specs.declared.generate.Generate.{Generate}
 
-pub generate_made : AnswersAreReported → AnswersUnderPlans → NumbersHaveWorkloads → DrawnBlocksAreWithinLimits
-    → GivenBlocksHaveFirmware → AcceptedNumbersMakeOutput
+generate_made : AnswersAreReported → AnswersUnderPlans → NumbersHaveWorkloads → DrawnBlocksAreWithinLimits
+    → GivenBlocksHaveFirmware → (generate : Generate) → GivesSome (generate_reading generate)
+    → (output : SeenOutput) × GenerateGives generate.number output
 generate_made reported under workloads limits firmwares generate (cert, halving) =
     let number = generate.number in
     let shift = draw number 0 5 in
@@ -45,6 +57,38 @@ generate_made reported under workloads limits firmwares generate (cert, halving)
         output_is = refl;
       },
     )
+
+-- its output is one, where its certificate is
+generate_one : WorkloadsAreOne → FirmwaresAreOne → (number : ℕ) (output other : SeenOutput)
+    (a : GenerateGives number output) (b : GenerateGives number other) → a.cert ≡ b.cert → output ≡ other
+generate_one workloads firmwares number output other a b cert =
+    let one = workloads number a.text a.trace a.plan b.text b.trace b.plan a.block b.block a.samples b.samples
+    a.requests b.requests a.workload b.workload in
+    let firmware : a.firmware ≡ b.firmware =
+    firmwares a.block a.firmware b.firmware (a.gives.compiled.1 ∙ sym b.gives.compiled.1) a.gives.compiled.0
+    (subst (λ (c : Block). IsFirmwareOf c b.firmware) (sym one.0) b.gives.compiled.0) in
+    let errors : a.report.errors ≡ b.report.errors = a.errors ∙ ap (λ (c : Cert). c.claims) cert ∙ sym b.errors in
+    let rows : a.report.rows ≡ b.report.rows =
+    rows_ran a.reported.follows ∙ (λ i. (firmware_rows (firmware i) (one.1 i) (one.2 i) 0).rows)
+    ∙ sym (rows_ran b.reported.follows) in
+    let bound : a.report.bound ≡ b.report.bound =
+    a.reported.bound ∙ ap (instruction_bound Byte) one.0 ∙ sym b.reported.bound in
+    a.output_is ∙ (λ i. only_lines (generate_lines number (errors i) (bound i) (rows i))) ∙ sym b.output_is
+
+pub generate_settled : HalvingsAreExact → WorkloadsAreOne → FirmwaresAreOne → AnswersAreReported → AnswersUnderPlans
+    → NumbersHaveWorkloads → DrawnBlocksAreWithinLimits → GivenBlocksHaveFirmware → GenerateIsSettled
+generate_settled halvings once firmwares reported under workloads limits given generate =
+    let number = generate.number in
+    let drawn = workloads number in
+    settled (generate_reading generate) (GenerateGives number) (GivesSome (generate_reading generate))
+    (halvings Named Byte generated_target (drawn_block (draw number 0 5)) drawn.5.spelled.valid)
+    (λ output a. (
+      a.cert,
+      subst (λ (b : Block). IsHalving Named b (parts Byte) generated_target a.cert)
+          a.workload.block_is a.halving,
+    ))
+    (λ output other a b same. generate_one once firmwares number output other a b same)
+    (generate_made reported under workloads limits given generate)
 
 -- ---- its lines
 

@@ -1,6 +1,5 @@
 pub mod AnswerLemmas
 pub mod DebugLemmas
 pub mod GenerateLemmas
-pub mod OneLemmas
 pub mod SumLemmas
 pub mod Words

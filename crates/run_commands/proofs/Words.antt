@@ -1,5 +1,5 @@
 -- The names that most proofs of this crate cite, passed on from one place.
-pub use Rattle.run_commands.specs.Debug.{behind_blank, debug_lines, debug_refusals, shown_line}
+pub use Rattle.run_commands.specs.Debug.{behind_blank, debug_lines, shown_line}
 pub use Rattle.run_commands.specs.Generate.{GenerateMakes, answers_of, frames_of, generate_lines, generated_target}
 pub use Rattle.run_commands.specs.Generate.{resumed_of}
 pub use Rattle.std.proofs.Common.{Err, List, [], ap, ap₂, arith, drop, length, map, refl, rules, subst, sym, take}
@@ -19,10 +19,10 @@ pub use Rattle.fuzzy_meaning.specs.{declared.block.Block.Block}
 pub use Rattle.fz_shelf.proofs.{Algebra.bare-address, Algebra.bare-append}
 pub use Rattle.fz_status.specs.{declared.status.Status.Status}
 pub use Rattle.interrupt_plan.specs.{declared.Request.Request}
-pub use Rattle.run_commands.specs.{Run.run_refusals, declared.debug.DebugFiles.DebugFiles}
+pub use Rattle.run_commands.specs.{declared.debug.DebugFiles.DebugFiles}
 pub use Rattle.run_commands.specs.{declared.debug.DebugRun.DebugRun, declared.run.Run.Run}
 pub use Rattle.run_law.specs.{Forms.RowSeen}
-pub use Rattle.run_reports.specs.{Inputs.input_refusals, Inputs.sample_refusals, Laws.AnswersAreReported}
+pub use Rattle.run_reports.specs.{Laws.AnswersAreReported}
 pub use Rattle.run_reports.specs.{Reports.left_of, Reports.report_of, RowLines.row_lines, RowLines.run_lines}
 pub use Rattle.run_reports.specs.{declared.files.RunFiles.RunFiles}
 pub use Rattle.srecord.specs.{Texts.GivesImage}

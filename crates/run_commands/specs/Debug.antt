@@ -7,23 +7,23 @@ use Rattle.fuzzy_meaning.specs.declared.block.Block.{Block}
 use Rattle.alone_code.specs.declared.firmware.Firmware.{Firmware}
 use Rattle.byte_scaling.specs.declared.width.Width.TheVariants.{Byte}
 use Rattle.fz_shelf.specs.Parts.{address_digits, byte_digits, ended}
-use Rattle.interrupt_plan.specs.{Plans.Spells as SpellsPlan, declared.Request.Request}
+use Rattle.interrupt_plan.specs.declared.Request.{Request}
 use Rattle.run_law.specs.Forms.{RowSeen}
-use Rattle.srecord.specs.Texts.{GivesImage}
-use Rattle.trace_io.specs.{Traces.Spells as SpellsTrace, declared.sample.Sample.Sample}
+use Rattle.trace_io.specs.declared.sample.Sample.{Sample}
 use Rattle.alone_runs.specs.{Answering.AnswersUnder, Rows.first_state, Rows.firmware_rows}
 use Rattle.trace_io.specs.Traces.{input_bytes}
 use Rattle.run_forms.specs.Positions.{Position, positions}
 use Rattle.debug_script.specs.{Scripts.script_of, Showing.shown}
 use Rattle.debug_script.specs.declared.{order.Order.Order, shown.Shown.Shown}
 use Rattle.debug_script.specs.declared.shown.Shown.TheVariants.{Stop, Registers, Bytes}
-use Rattle.command_parts.specs.{Contents.content_at, SeenOutputs.HasOutput, SeenOutputs.SeenOutput}
-use Rattle.command_parts.specs.{Images.RefusesImage, Lines.counted, Lines.registers_told}
-use Rattle.command_parts.specs.Firmwares.{GivesFirmware, OfFirmware, RefusesText}
-use Rattle.command_parts.specs.{SeenOutputs.only_lines, declared.firmware.Form.TheVariants.Alone}
-use Rattle.fz_status.specs.{Words.flags_of, Words.Text, Words.word_at, Refusals.Refusals, Refusals.Refuses}
+use Rattle.command_parts.specs.{Contents.content_at, Firmwares.firmware_in, Images.image_in, Lines.counted}
+use Rattle.command_parts.specs.{Lines.registers_told, SeenOutputs.SeenOutput}
+use Rattle.command_parts.specs.Readings.{Gives, GivesSome, IsSettled, Reading, Stage, last, made_of, ◌then◌}
+use Rattle.command_parts.specs.SeenOutputs.{only_lines}
+use Rattle.command_parts.specs.declared.firmware.{Compiled.Compiled, Form.TheVariants.Alone}
+use Rattle.fz_status.specs.{Words.flags_of, Words.Text, Words.word_at, Refusals.Refusals}
 use Rattle.fz_status.specs.declared.status.Status.{Status}
-use Rattle.run_reports.specs.{Inputs.sample_refusals, RowLines.row_lines}
+use Rattle.run_reports.specs.{Inputs.plan_in, Inputs.trace_in, RowLines.row_lines}
 use Rattle.run_commands.specs.declared.debug.{DebugFiles.DebugFiles, DebugRun.DebugRun}
 use Rattle.fz_status.specs.declared.status.Status.TheVariants as status
 
@@ -66,15 +66,34 @@ debug_lines shown rows = map shown_line shown ++ counted row_lines 1 rows
 
 -- ---- what it makes of its files
 
--- FCL spells a block, IMAGE holds exactly its firmware's image, the trace spells samples within their inputs' ranges,
--- the plan interrupts that write only free bytes, and SCRIPT a script
-pub record Debugs (files : DebugFiles) (block : Block) (firmware : Firmware) (samples : List Sample)
-    (plan : List Request) (script : List Order) : Type 0 where
-  pub compiled : GivesFirmware (Alone Byte) files.fcl block firmware
-  pub image : GivesImage files.image firmware.image
-  pub in_range : SpellsTrace block.inputs files.trace samples
-  pub good_plan : SpellsPlan files.plan plan
-  pub spelled : script_of files.script ≡ Ok script
+-- why a text is no script
+abbrev pub script_refusals : List ℕ → Refusals
+script_refusals text (status.Script n) = script_of text ≡ Err n
+script_refusals text s = ⊥
+
+-- the orders of a script
+abbrev pub script_in : List ℕ → Stage (List Order)
+script_in text = record {
+  gives = λ script. script_of text ≡ Ok script;
+  Seen = List Order;
+  seen = λ script. script;
+  refuses = script_refusals text;
+}
+
+-- FCL's firmware that stands alone, IMAGE of this firmware, TRACE, PLAN and SCRIPT
+abbrev pub debug_reading : DebugFiles
+    → Reading (Compiled × (Unit {0} × (List Sample × (List Request × List Order))))
+debug_reading files =
+    firmware_in (Alone Byte) files.fcl then λ c.
+    image_in files.image c.firmware.image then λ held.
+    trace_in c.block files.trace then λ seen.
+    plan_in files.plan then λ plan.
+    last (script_in files.script)
+
+-- the files are accepted, and give this
+abbrev pub Debugs : DebugFiles → Block → Firmware → List Sample → List Request → List Order → Type 0
+Debugs files block firmware samples plan script =
+    Gives (debug_reading files) (record { block = block; firmware = firmware }, (tt, (samples, (plan, script))))
 
 -- the positions of the firmware's run over the samples under the plan
 abbrev pub run_positions : Firmware → ℕ → List Sample → List Request → List Position
@@ -95,28 +114,10 @@ pub record DebugGives (debug : DebugRun) (files : DebugFiles) (output : SeenOutp
   pub output_is : output
       ≡ only_lines (debug_lines (shown script (run_positions firmware debug.flags samples plan)) rows)
 
--- why FCL is refused; why IMAGE is, FCL giving firmware; why a script is, all other files being accepted; and why the
--- files between are, IMAGE holding its image
-abbrev pub debug_refusals : DebugFiles → Refusals
-debug_refusals files (status.Fcl f) = RefusesText files.fcl f
-debug_refusals files (status.Image f) =
-    OfFirmware (Alone Byte) files.fcl (λ block firmware. RefusesImage files.image firmware.image f)
-debug_refusals files (status.Script n) = OfFirmware (Alone Byte) files.fcl (λ block firmware.
-    GivesImage files.image firmware.image
-    × (samples : List Sample) × SpellsTrace block.inputs files.trace samples
-    × (plan : List Request) × SpellsPlan files.plan plan × (script_of files.script ≡ Err n))
-debug_refusals files s = OfFirmware (Alone Byte) files.fcl (λ block firmware.
-    GivesImage files.image firmware.image × sample_refusals block files.trace files.plan s)
-
 abbrev pub DebugMakes : DebugRun → DebugFiles → Result SeenOutput Status → Type 0
-DebugMakes debug files (Ok output) = DebugGives debug files output
-DebugMakes debug files (Err s) = Refuses (debug_refusals files) s
+DebugMakes debug files = made_of (debug_reading files) (DebugGives debug files)
 
-abbrev pub DebugAccepts : DebugFiles → Type 0
-DebugAccepts files = (block : Block) × (firmware : Firmware) × (samples : List Sample) × (plan : List Request)
-    × (script : List Order) × Debugs files block firmware samples plan script
-
--- files that are accepted make an output
-abbrev pub AcceptedDebugRunsMakeOutput : Type 0
-AcceptedDebugRunsMakeOutput = (debug : DebugRun) (files : DebugFiles) → debug.flags < 2 ^ 8 → DebugAccepts files
-    → HasOutput (DebugMakes debug files)
+-- files make at most one output, and then no fault; and one where they are accepted
+abbrev pub DebugIsSettled : Type 0
+DebugIsSettled = (debug : DebugRun) (files : DebugFiles)
+    → IsSettled (DebugMakes debug files) ((debug.flags < 2 ^ 8) × GivesSome (debug_reading files))

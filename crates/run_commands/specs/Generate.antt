@@ -1,7 +1,7 @@
 -- The command `gen NUMBER`.
 -- Beside the promise.
 use Rattle.std.specs.Prelude.{◌≡◌, ℕ, List, [], ◌∷◌, ◌++◌, length, sum, sum_by, codes, Option, option_map}
-use Rattle.std.specs.Prelude.{Result, Ok, Err}
+use Rattle.std.specs.Prelude.{Result}
 use Rattle.fuzzy_meaning.specs.declared.block.Block.{Block}
 use Rattle.byte_scaling.specs.{Widths.parts, declared.width.Width.TheVariants.Byte}
 use Rattle.alone_code.specs.declared.firmware.Firmware.{Firmware}
@@ -11,14 +11,14 @@ use Rattle.interrupt_plan.specs.declared.Request.{Request}
 use Rattle.trace_io.specs.declared.sample.Sample.{Sample}
 use Rattle.run_law.specs.Forms.{RowSeen}
 use Rattle.workload.specs.{Blocks.drawn_block, Draws.draw, Workloads.IsWorkload}
-use Rattle.fz_status.specs.{Refusals.Refusals, Refusals.Refuses, Words.Text, Words.word_at}
+use Rattle.fz_status.specs.{Words.Text, Words.word_at}
 use Rattle.fz_status.specs.declared.status.Status.{Status}
-use Rattle.fz_status.specs.declared.status.Status.TheVariants as status
 use Rattle.run_reports.specs.Reports.{IsReportOf, Report}
-use Rattle.command_parts.specs.{Certs.StopsHalving, Firmwares.GivesFirmware, Lines.line}
+use Rattle.command_parts.specs.{Certs.halving_in, Firmwares.GivesFirmware, Lines.line}
+use Rattle.command_parts.specs.Readings.{GivesSome, IsSettled, Reading, last, made_of}
 use Rattle.command_parts.specs.{Words.number_up_to}
 use Rattle.command_parts.specs.{declared.firmware.Form.TheVariants.Alone}
-use Rattle.command_parts.specs.SeenOutputs.{HasOutput, SeenOutput, only_lines}
+use Rattle.command_parts.specs.SeenOutputs.{SeenOutput, only_lines}
 use Rattle.command_parts.specs.Lines.{error_lines}
 use Rattle.run_commands.specs.declared.generate.Generate.{Generate}
 
@@ -80,21 +80,14 @@ pub record GenerateGives (number : ℕ) (output : SeenOutput) : Type 0 where
   pub reported : IsReportOf Byte 0 block firmware samples requests report
   pub output_is : output ≡ only_lines (generate_lines number report.errors report.bound report.rows)
 
--- there is none where halving stops at the block that the number draws
-abbrev pub generate_refusals : ℕ → Refusals
-generate_refusals number (status.NotReached stop) =
-    StopsHalving Named Byte generated_target (drawn_block (draw number 0 5)) stop
-generate_refusals number s = ⊥
+-- the certificate of halving the block that the number draws
+abbrev pub generate_reading : Generate → Reading Cert
+generate_reading generate = last (halving_in Named Byte generated_target (drawn_block (draw generate.number 0 5)))
 
 abbrev pub GenerateMakes : Generate → Result SeenOutput Status → Type 0
-GenerateMakes generate (Ok output) = GenerateGives generate.number output
-GenerateMakes generate (Err s) = Refuses (generate_refusals generate.number) s
+GenerateMakes generate = made_of (generate_reading generate) (GenerateGives generate.number)
 
--- halving the block that is drawn ends with a certificate
-abbrev pub GenerateAccepts : Generate → Type 0
-GenerateAccepts generate =
-    (cert : Cert) × IsHalving Named (drawn_block (draw generate.number 0 5)) (parts Byte) generated_target cert
-
--- a number that is accepted makes an output
-abbrev pub AcceptedNumbersMakeOutput : Type 0
-AcceptedNumbersMakeOutput = (generate : Generate) → GenerateAccepts generate → HasOutput (GenerateMakes generate)
+-- a number makes at most one output, and then no fault; and one where halving ends with a certificate
+abbrev pub GenerateIsSettled : Type 0
+GenerateIsSettled = (generate : Generate)
+    → IsSettled (GenerateMakes generate) (GivesSome (generate_reading generate))

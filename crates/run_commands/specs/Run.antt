@@ -1,26 +1,21 @@
 -- The commands `run FCL IMAGE CERT TRACE PLAN FLAGS`, `run16 ..` with answers of 16 bits, and `trun ..` and `trun16 ..`
 -- under tight certificates.
 -- Beside the promise.
-use Rattle.std.specs.Prelude.{◌≡◌, ◌<◌, ◌^◌, ℕ, List, [], ◌∷◌, Option, option_map}
-use Rattle.std.specs.Prelude.{Result, Ok, Err}
+use Rattle.std.specs.Prelude.{◌≡◌, ◌<◌, ◌^◌, ℕ, List, [], ◌∷◌, Option, option_map, Result}
 use Rattle.fuzzy_meaning.specs.declared.block.Block.{Block}
 use Rattle.alone_code.specs.declared.firmware.Firmware.{Firmware}
 use Rattle.box_tree.specs.declared.cert.CertKind.{CertKind}
 use Rattle.byte_scaling.specs.declared.width.Width.{Width}
 use Rattle.interrupt_plan.specs.declared.Request.{Request}
 use Rattle.trace_io.specs.declared.sample.Sample.{Sample}
-use Rattle.srecord.specs.Texts.{GivesImage}
-use Rattle.command_parts.specs.{SeenOutputs.SeenOutput, SeenOutputs.only_lines, Images.RefusesImage}
-use Rattle.command_parts.specs.{Contents.content_at}
-use Rattle.command_parts.specs.Firmwares.{OfFirmware, RefusesText}
-use Rattle.command_parts.specs.declared.firmware.Form.TheVariants.{Alone}
-use Rattle.fz_status.specs.{Words.flags_of, declared.status.Status.Status, Refusals.Refusals, Refusals.Refuses}
+use Rattle.command_parts.specs.{Contents.content_at, SeenOutputs.SeenOutput, SeenOutputs.only_lines}
+use Rattle.command_parts.specs.Readings.{GivesSome, IsSettled, made_of}
+use Rattle.fz_status.specs.{Words.flags_of, declared.status.Status.Status}
 use Rattle.fz_status.specs.{Words.Text, Words.word_at}
-use Rattle.run_reports.specs.{Inputs.input_refusals, Reports.Report}
-use Rattle.run_reports.specs.CertifiedRun.{AcceptsRun, CertifiedRun}
+use Rattle.run_reports.specs.Reports.{Report}
+use Rattle.run_reports.specs.CertifiedRun.{AcceptsRun, CertifiedRun, run_reading}
 use Rattle.run_reports.specs.declared.files.RunFiles.{RunFiles}
 use Rattle.run_commands.specs.declared.run.Run.{Run}
-use Rattle.fz_status.specs.declared.status.Status.TheVariants as status
 use Rattle.run_reports.specs.RowLines.{run_lines}
 
 abbrev pub run_with : CertKind → Width → ℕ → Run
@@ -49,18 +44,8 @@ pub record RunGives (run : Run) (files : RunFiles) (output : SeenOutput) : Type 
   pub certified : CertifiedRun run.kind run.width run.flags files report
   pub output_is : output ≡ only_lines (run_lines report certified.left)
 
--- why FCL is refused; why IMAGE is, FCL giving firmware; and why the files behind are, IMAGE holding its image
-abbrev pub run_refusals : Run → RunFiles → Refusals
-run_refusals run files (status.Fcl f) = RefusesText files.fcl f
-run_refusals run files (status.Image f) =
-    OfFirmware (Alone run.width) files.fcl (λ block firmware. RefusesImage files.image firmware.image f)
-run_refusals run files s = OfFirmware (Alone run.width) files.fcl (λ block firmware.
-    GivesImage files.image firmware.image
-    × input_refusals run.kind run.width block files.inputs s)
-
 abbrev pub RunMakes : Run → RunFiles → Result SeenOutput Status → Type 0
-RunMakes run files (Ok output) = RunGives run files output
-RunMakes run files (Err s) = Refuses (run_refusals run files) s
+RunMakes run files = made_of (run_reading run.kind run.width files) (RunGives run files)
 
 -- files that are accepted make an output, with the errors that the certificate is accepted with
 abbrev pub AcceptedRunsMakeOutput : Type 0
@@ -69,6 +54,7 @@ AcceptedRunsMakeOutput = (run : Run) (files : RunFiles) (block : Block) (firmwar
     → AcceptsRun run.kind run.width files block firmware errors samples plan
     → (output : SeenOutput) × (gives : RunGives run files output) × (gives.report.errors ≡ errors)
 
-abbrev pub RunAccepts : Run → RunFiles → Type 0
-RunAccepts run files = (block : Block) × (firmware : Firmware) × (errors : List ℕ) × (samples : List Sample)
-    × (plan : List Request) × AcceptsRun run.kind run.width files block firmware errors samples plan
+-- files make at most one output, and then no fault; and one where they are accepted
+abbrev pub RunIsSettled : Type 0
+RunIsSettled = (run : Run) (files : RunFiles)
+    → IsSettled (RunMakes run files) ((run.flags < 2 ^ 8) × GivesSome (run_reading run.kind run.width files))

@@ -1,12 +1,15 @@
 //! The command `debug FCL IMAGE TRACE PLAN FLAGS SCRIPT`: what a script shows of a run, and the run.
-ghost use Rattle.std.specs.Prelude.{◌≡◌, ◌≤◌, length, IfOk, IfErr};
+ghost use Rattle.std.specs.Prelude.{◌≡◌, ◌≤◌, length, IfOk, IfErr, Ok};
 ghost use Rattle.std.specs.List.{All};
 ghost use Rattle.fz_status.specs.{Refusals.IsRefusal, Words.texts_of};
 ghost use Rattle.command_parts.specs.Contents.{bytes_of};
 ghost use Rattle.command_parts.specs.SeenOutputs.{IsResultOf};
+ghost use Rattle.command_parts.specs.Readings.{IsRefused};
+ghost use Rattle.debug_script.specs.Scripts.{script_of as script_in};
 ghost use Rattle.run_commands.specs.Debug.{DebugMakes, Debugs, debug_files, debug_in};
-ghost use Rattle.run_commands.specs.Debug.{debug_refusals};
+ghost use Rattle.run_commands.specs.Debug.{debug_reading, script_refusals};
 
+use crate::laws::debug_is_settled;
 use crate::shown_lines::lines;
 use byte_scaling::Width;
 use command_parts::contents::Content;
@@ -17,7 +20,7 @@ use command_parts::words::flags;
 use debug_script::{Script, ScriptFault, debug, read_script};
 use fz_status::{Status, word};
 use interrupt_plan::Plan;
-use run_reports::inputs::samples_and_plan;
+use run_reports::inputs::{plan_of, samples_of};
 use run_reports::laws::{spelled_bytes_fit, spelled_traces_are_short};
 use std::alloc::Global;
 use trace_io::Sample;
@@ -73,21 +76,19 @@ impl Accepted {
     fn of(alloc: Global, files: &DebugFiles) -> Result<Accepted, Status>
         ensures accepted { IfOk result (λ a. Debugs files.now
             a.compiled.block a.compiled.firmware a.samples.items a.plan a.script) }
-        ensures fault { IfErr result (IsRefusal (debug_refusals files.now)) }
+        ensures fault { IfErr result (IsRefused (debug_reading files.now)) }
     {
         let compiled = firmware_of(alloc, Form::Alone(Width::Byte), &files.fcl)?;
         require_image(alloc, &files.image, &compiled.firmware.image)?;
-        let (samples, plan) = samples_and_plan(alloc, &compiled.block, &files.trace, &files.plan)?;
-        match read_script(alloc, files.script.bytes()) {
-            Ok(script) => Ok(Accepted {
-                compiled,
-                samples,
-                plan,
-                script,
-            }),
-            Err(ScriptFault::Memory) => Err(Status::Memory),
-            Err(ScriptFault::Line(line)) => Err(Status::Script(line)),
-        }
+        let samples = samples_of(alloc, &compiled.block, &files.trace)?;
+        let plan = plan_of(alloc, &files.plan)?;
+        let script = script_of(alloc, &files.script)?;
+        Ok(Accepted {
+            compiled,
+            samples,
+            plan,
+            script,
+        })
     }
 }
 
@@ -107,6 +108,7 @@ impl DebugRun {
     {
         spelled_bytes_fit();
         spelled_traces_are_short();
+        debug_is_settled();
         let accepted = Accepted::of(alloc, files)?;
         let (shown, rows) = debug(
             alloc,
@@ -118,5 +120,17 @@ impl DebugRun {
         )?;
         let lines = lines(alloc, &shown, &rows)?;
         Ok(Output { lines, file: None })
+    }
+}
+
+/// The script that a text spells.
+fn script_of(alloc: Global, text: &Content) -> Result<Script, Status>
+    ensures script { IfOk result (λ script. script_in text.now ≡ Ok script) }
+    ensures fault { IfErr result (IsRefusal (script_refusals text.now)) }
+{
+    match read_script(alloc, text.bytes()) {
+        Ok(script) => Ok(script),
+        Err(ScriptFault::Memory) => Err(Status::Memory),
+        Err(ScriptFault::Line(line)) => Err(Status::Script(line)),
     }
 }

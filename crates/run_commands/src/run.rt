@@ -2,13 +2,15 @@
 ghost use Rattle.std.specs.Prelude.{◌≡◌, ◌≤◌, length, map, IfOk, IfErr};
 ghost use Rattle.std.specs.List.{All};
 ghost use Rattle.alone_runs.specs.Rows.{row_seen};
-ghost use Rattle.fz_status.specs.{Refusals.IsRefusal, Words.texts_of};
-ghost use Rattle.command_parts.specs.Contents.{bytes_of};
+ghost use Rattle.fz_status.specs.Words.{texts_of};
+ghost use Rattle.command_parts.specs.{Contents.bytes_of, Readings.IsRefused};
 ghost use Rattle.command_parts.specs.SeenOutputs.{IsResultOf};
-ghost use Rattle.run_reports.specs.{CertifiedRun.AcceptsRun, Reports.report_of, Reports.left_of, RowLines.run_lines};
+ghost use Rattle.run_reports.specs.{CertifiedRun.AcceptsRun, CertifiedRun.run_reading, Reports.report_of};
+ghost use Rattle.run_reports.specs.{Reports.left_of, RowLines.run_lines};
 ghost use Rattle.run_reports.specs.declared.files.RunFiles.{RunFiles};
-ghost use Rattle.run_commands.specs.Run.{RunMakes, files_in, run_in, run_refusals};
+ghost use Rattle.run_commands.specs.Run.{RunMakes, files_in, run_in};
 
+use crate::laws::run_is_settled;
 use alone_runs::{Row, run_on};
 use box_tree::CertKind;
 use byte_scaling::Width;
@@ -74,7 +76,7 @@ impl Accepted {
     fn of(alloc: Global, run: Run, files: &RunFiles) -> Result<Accepted, Status>
         ensures accepted { IfOk result (λ a. AcceptsRun run.kind run.width files.now a.compiled.block
             a.compiled.firmware a.inputs.errors.items a.inputs.samples.items a.inputs.plan) }
-        ensures fault { IfErr result (IsRefusal (run_refusals run files.now)) }
+        ensures fault { IfErr result (IsRefused (run_reading run.kind run.width files.now)) }
     {
         let compiled = firmware_of(alloc, Form::Alone(run.width), &files.fcl)?;
         require_image(alloc, &files.image, &compiled.firmware.image)?;
@@ -98,6 +100,7 @@ impl Run {
         ensures { IsResultOf (RunMakes self files.now) result }
     {
         answers_are_reported();
+        run_is_settled();
         let accepted = Accepted::of(alloc, self, files)?;
         let firmware = &accepted.compiled.firmware;
         let (rows, memory) = run_on::<PageMem>(

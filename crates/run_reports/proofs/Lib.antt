@@ -1,7 +1,6 @@
 pub mod Algebra
 pub mod FaultlessRows
+pub mod InputLemmas
 pub mod NearRows
-pub mod OneLemmas
 pub mod PostedAnswers
-pub mod RefusalLemmas
 pub mod ReportLemmas

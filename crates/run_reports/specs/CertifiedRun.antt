@@ -5,22 +5,29 @@ use Rattle.fuzzy_meaning.specs.declared.block.Block.{Block}
 use Rattle.alone_code.specs.declared.firmware.Firmware.{Firmware}
 use Rattle.box_tree.specs.declared.cert.CertKind.{CertKind}
 use Rattle.byte_scaling.specs.declared.width.Width.{Width}
-use Rattle.srecord.specs.Texts.{GivesImage}
 use Rattle.trace_io.specs.declared.sample.Sample.{Sample}
 use Rattle.interrupt_plan.specs.declared.Request.{Request}
 use Rattle.alone_runs.specs.Rows.{firmware_rows}
 use Rattle.trace_io.specs.Traces.{input_bytes}
-use Rattle.command_parts.specs.Firmwares.{GivesFirmware}
-use Rattle.command_parts.specs.declared.firmware.Form.TheVariants.{Alone}
-use Rattle.run_reports.specs.{Inputs.AcceptsInputs, Reports.IsReportOf, Reports.Report, Reports.left_of}
+use Rattle.command_parts.specs.{Firmwares.firmware_in, Images.image_in}
+use Rattle.command_parts.specs.Readings.{Gives, Reading, ◌then◌}
+use Rattle.command_parts.specs.declared.firmware.{Compiled.Compiled, Form.TheVariants.Alone}
+use Rattle.run_reports.specs.{Inputs.inputs_reading, Reports.IsReportOf, Reports.Report, Reports.left_of}
 use Rattle.run_reports.specs.declared.files.RunFiles.{RunFiles}
 
+-- FCL's firmware that stands alone, IMAGE of this firmware, CERT, TRACE and PLAN
+abbrev pub run_reading : CertKind → Width → RunFiles
+    → Reading (Compiled × (Unit {0} × (List ℕ × (List Sample × List Request))))
+run_reading kind width files =
+    firmware_in (Alone width) files.fcl then λ c.
+    image_in files.image c.firmware.image then λ held.
+    inputs_reading kind width c.block files.inputs
+
 -- the files are accepted, and give this
-pub record AcceptsRun (kind : CertKind) (width : Width) (files : RunFiles) (block : Block) (firmware : Firmware)
-    (errors : List ℕ) (samples : List Sample) (plan : List Request) : Type 0 where
-  pub compiled : GivesFirmware (Alone width) files.fcl block firmware
-  pub image : GivesImage files.image firmware.image
-  pub inputs : AcceptsInputs kind width block files.inputs errors samples plan
+abbrev pub AcceptsRun : CertKind → Width → RunFiles → Block → Firmware → List ℕ → List Sample → List Request → Type 0
+AcceptsRun kind width files block firmware errors samples plan =
+    Gives (run_reading kind width files)
+    (record { block = block; firmware = firmware }, (tt, (errors, (samples, plan))))
 
 -- Compile accepts the FCL text, IMAGE holds exactly its firmware's image, the checker accepts the certificate, the
 -- trace spells samples within their inputs' ranges, and the plan interrupts that write only free bytes. The report is

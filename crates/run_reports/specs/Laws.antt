@@ -1,32 +1,24 @@
 -- What is so of every run and of every run's files.
 -- Beside the promise.
-use Rattle.std.specs.Prelude.{◌≡◌, ℕ, ◌≤◌, List, All, length, map}
-use Rattle.fuzzy_meaning.specs.{Blocks.IsValid, declared.block.Block.Block, declared.block.Input.Input}
-use Rattle.box_tree.specs.declared.{cert.Cert.Cert, cert.CertKind.CertKind}
+use Rattle.std.specs.Prelude.{ℕ, ◌≤◌, List, All, length, map}
+use Rattle.fuzzy_meaning.specs.declared.{block.Block.Block, block.Input.Input}
+use Rattle.box_tree.specs.declared.cert.Cert.{Cert}
 use Rattle.cert_check.specs.Acceptance.{IsAccepted}
 use Rattle.eval_code.specs.Firing.{AreInputBytes}
 use Rattle.byte_scaling.specs.{Widths.parts, declared.width.Width.Width}
 use Rattle.alone_code.specs.{Uninterrupted.Answer, Uninterrupted.AreAnswersOf, declared.firmware.Firmware.Firmware}
-use Rattle.interrupt_plan.specs.{OneReading.SpelledPlansAreOne, Plans.Spells as SpellsPlan}
 use Rattle.interrupt_plan.specs.declared.Request.{Request}
 use Rattle.trace_io.specs.{Traces.Spells as SpellsTrace, declared.sample.Sample.Sample}
 use Rattle.run_law.specs.Forms.{RowSeen}
 use Rattle.alone_runs.specs.Answering.{AnswersItsBlock}
 use Rattle.trace_io.specs.Traces.{input_bytes}
-use Rattle.fz_status.specs.declared.status.Status.{Status}
 use Rattle.command_parts.specs.{Firmwares.GivesFirmware, declared.firmware.Form.TheVariants.Alone}
-use Rattle.run_reports.specs.Inputs.{AcceptsInputs, input_refusals, sample_refusals}
-use Rattle.run_reports.specs.{Reports.IsReportOf, Reports.report_of, declared.files.InputFiles.InputFiles}
+use Rattle.run_reports.specs.{Reports.IsReportOf, Reports.report_of}
 
 -- a trace spells at most 10000 samples
 abbrev pub SpelledTracesAreShort : Type 0
 SpelledTracesAreShort = (inputs : List Input) (trace : List ℕ) (samples : List Sample)
     → SpellsTrace inputs trace samples → length samples ≤ 10000
-
--- and equally many whatever the inputs are
-abbrev pub SpelledTracesAreOneLong : Type 0
-SpelledTracesAreOneLong = (inputs others : List Input) (trace : List ℕ) (samples those : List Sample)
-    → SpellsTrace inputs trace samples → SpellsTrace others trace those → length samples ≡ length those
 
 -- the bytes of the samples of a trace are input bytes of the block
 abbrev pub SpelledBytesFit : Type 0
@@ -48,26 +40,3 @@ AnswersAreReported = (width : Width) (flags : ℕ) (text : List ℕ) (block : Bl
     → SpellsTrace block.inputs trace samples
     → AnswersItsBlock firmware flags (map input_bytes samples) plan rows
     → IsReportOf width flags block firmware samples plan (report_of errors firmware.instr_bound rows)
-
--- a trace and a plan that are accepted are not refused
-abbrev pub SpelledSamplesHaveNoFault : Type 0
-SpelledSamplesHaveNoFault = (block : Block) (trace plan : List ℕ) (samples : List Sample) (requests : List Request)
-    (s : Status)
-    → SpellsTrace block.inputs trace samples → SpellsPlan plan requests → sample_refusals block trace plan s → ⊥
-
--- and so it is with a certificate before them
-abbrev pub AcceptedInputsHaveNoFault : Type 0
-AcceptedInputsHaveNoFault = (kind : CertKind) (width : Width) (block : Block) (files : InputFiles) (errors : List ℕ)
-    (samples : List Sample) (requests : List Request) (s : Status) → IsValid block
-    → AcceptsInputs kind width block files errors samples requests → input_refusals kind width block files s → ⊥
-
--- a trace spells the bytes of one list of samples
-abbrev pub SpelledSamplesAreOne : Type 0
-SpelledSamplesAreOne = (inputs : List Input) (trace : List ℕ) (samples those : List Sample)
-    → SpellsTrace inputs trace samples → SpellsTrace inputs trace those
-    → map input_bytes samples ≡ map input_bytes those
-
--- and a text one plan
-pub record SpelledInputsAreOne : Type 0 where
-  pub samples : SpelledSamplesAreOne
-  pub plans : SpelledPlansAreOne

@@ -1,19 +1,23 @@
--- The run of two blocks at two levels: what the program's answer to `lrun` says.
+-- The run of two blocks at two levels: what the program's answer to `lrun` and `tlrun` says.
 -- Beside the promise.
 use Rattle.std.specs.Prelude.{◌≡◌, ℕ, ◌≤◌, List, All, length, map}
 use Rattle.fuzzy_meaning.specs.declared.block.Block.{Block}
 use Rattle.eval_code.specs.Bounds.{instruction_bound}
 use Rattle.byte_scaling.specs.declared.width.Width.TheVariants.{Byte}
-use Rattle.box_tree.specs.declared.cert.CertKind.TheVariants.{Named}
-use Rattle.srecord.specs.Texts.{GivesImage}
-use Rattle.trace_io.specs.{Traces.Spells as SpellsTrace, declared.sample.Sample.Sample}
-use Rattle.interrupt_plan.specs.{Levels.SpellsLevels, declared.levels.Level.Level}
+use Rattle.box_tree.specs.declared.cert.CertKind.{CertKind}
+use Rattle.trace_io.specs.declared.sample.Sample.{Sample}
+use Rattle.interrupt_plan.specs.{Levels.LevelsHaveFault, Levels.SpellsLevels, declared.levels.Level.Level}
 use Rattle.trace_io.specs.Traces.{input_bytes}
 use Rattle.two_level_code.specs.{Images.fast_most, declared.two.Two.Two}
 use Rattle.two_level_runs.specs.Answering.{AnswersAtTwoLevels, answer_of_fast, fast_runs, plan_of}
 use Rattle.two_level_runs.specs.Rows.{TwoSeen, two_seen}
 use Rattle.run_reports.specs.{Posted.ArePostedWithinErrors, Reports.IsReportOf, Reports.Report}
-use Rattle.command_parts.specs.{Certs.AcceptsCert, Twos.GivesTwo}
+use Rattle.command_parts.specs.{Certs.cert_in, Images.image_in, Twos.twos_in}
+use Rattle.command_parts.specs.declared.twos.CompiledTwo.{CompiledTwo}
+use Rattle.command_parts.specs.Readings.{Gives, Reading, Stage, for_fast, last, ◌then◌}
+use Rattle.fz_status.specs.Refusals.{Refusals}
+use Rattle.fz_status.specs.declared.status.Status.TheVariants as status
+use Rattle.run_reports.specs.Inputs.{trace_in}
 use Rattle.run_reports.specs.declared.files.LevelFiles.{LevelFiles}
 
 -- what is told of a run: an error for each output of the slow block and of the fast one, in millionths of its range,
@@ -34,24 +38,40 @@ slow_report r = record { errors = r.errors; bound = r.bound; rows = map (λ row.
 abbrev pub fast_numbers : List TwoSeen → List ℕ
 fast_numbers rows = map (λ f. f.number) (fast_runs rows)
 
--- both certificates are accepted, with these errors
-pub record AcceptsCerts (files : LevelFiles) (slow fast : Block) (errors fast_errors : List ℕ) : Type 0 where
-  pub slow_accepted : AcceptsCert Named Byte slow files.slow_cert errors
-  pub fast_accepted : AcceptsCert Named Byte fast files.fast_cert fast_errors
+-- why a text gives no levels over so many fast samples
+abbrev pub levels_refusals : ℕ → List ℕ → Refusals
+levels_refusals fast text (status.Plan f) = LevelsHaveFault fast text f
+levels_refusals fast text s = ⊥
 
--- both traces spell samples within their inputs' ranges
-pub record SpellTraces (files : LevelFiles) (slow fast : Block) (samples fast_samples : List Sample) : Type 0 where
-  pub slow_in_range : SpellsTrace slow.inputs files.slow_trace samples
-  pub fast_in_range : SpellsTrace fast.inputs files.fast_trace fast_samples
+-- the levels over so many fast samples
+abbrev pub levels_in : ℕ → List ℕ → Stage (List Level)
+levels_in fast text = record {
+  gives = SpellsLevels fast text;
+  Seen = List Level;
+  seen = λ levels. levels;
+  refuses = levels_refusals fast text;
+}
+
+-- the firmware of SLOW and FAST, IMAGE of it, SCERT and FCERT, STRACE and FTRACE, and LEVELS over the fast samples
+abbrev pub level_reading : CertKind → LevelFiles
+    → Reading (CompiledTwo × (Unit {0} × (List ℕ × (List ℕ × (List Sample × (List Sample × List Level))))))
+level_reading kind files =
+    twos_in files.slow files.fast then λ c.
+    image_in files.image c.two.image then λ held.
+    cert_in kind Byte c.slow files.slow_cert then λ errors.
+    for_fast (cert_in kind Byte c.fast files.fast_cert) then λ fast_errors.
+    trace_in c.slow files.slow_trace then λ seen.
+    for_fast (trace_in c.fast files.fast_trace) then λ (fast_samples, fast_bytes).
+    last (levels_in fast_samples files.levels)
 
 -- all are accepted, and give this
-pub record AcceptsLevels (files : LevelFiles) (slow fast : Block) (two : Two) (errors fast_errors : List ℕ)
-    (samples fast_samples : List Sample) (levels : List Level) : Type 0 where
-  pub compiled : GivesTwo files.slow files.fast slow fast two
-  pub image : GivesImage files.image two.image
-  pub certs : AcceptsCerts files slow fast errors fast_errors
-  pub traces : SpellTraces files slow fast samples fast_samples
-  pub good_levels : SpellsLevels (length fast_samples) files.levels levels
+abbrev pub AcceptsLevels : CertKind → LevelFiles → Block → Block → Two → List ℕ → List ℕ → List Sample → List Sample
+    → List Level → Type 0
+AcceptsLevels kind files slow fast two errors fast_errors samples fast_samples levels =
+    Gives (level_reading kind files) (
+      record { slow = slow; fast = fast; two = two },
+      (tt, (errors, (fast_errors, (samples, (fast_samples, levels))))),
+    )
 
 -- Compile accepts the texts of both blocks, IMAGE holds exactly the image of both, the checker accepts a certificate
 -- for each block, the traces spell samples of each within its inputs' ranges, and LEVELS asks for interrupts that
@@ -59,14 +79,14 @@ pub record AcceptsLevels (files : LevelFiles) (slow fast : Block) (two : Two) (e
 -- runs they are the slow block's certified run under a plan at the same places that writes nothing. Each fast run is of
 -- a whole sample: it answers it by the fast block over bytes, in at most the printed number of instructions, and within
 -- the printed error of FCL's exact fraction of the fast samples that were answered up to it.
-pub record LevelRun (flags : ℕ) (files : LevelFiles) (report : LevelReport) : Type 0 where
+pub record LevelRun (kind : CertKind) (flags : ℕ) (files : LevelFiles) (report : LevelReport) : Type 0 where
   pub slow : Block
   pub fast : Block
   pub two : Two
   pub samples : List Sample
   pub fast_samples : List Sample
   pub levels : List Level
-  pub accepts : AcceptsLevels files slow fast two report.errors report.fast_errors samples fast_samples levels
+  pub accepts : AcceptsLevels kind files slow fast two report.errors report.fast_errors samples fast_samples levels
   pub ran : report.rows ≡ two_seen two (map input_bytes samples) (map input_bytes fast_samples) levels flags
   pub answers : AnswersAtTwoLevels slow fast two flags (map input_bytes samples) (map input_bytes fast_samples) levels
   pub reported : IsReportOf Byte flags slow two.slow samples (plan_of levels) (slow_report report)

@@ -1,20 +1,23 @@
--- The run of a mailbox firmware under posts: what the program's answer to `mrun` says.
+-- The run of a mailbox firmware under posts: what the program's answer to `mrun` and `tmrun` says.
 -- Beside the promise.
 use Rattle.std.specs.Prelude.{◌≡◌, ◌≢◌, ℕ, ◌≤◌, true, List, [], ◌∷◌, ◌++◌, All, length, map}
 use Rattle.fuzzy_meaning.specs.declared.block.Block.{Block}
 use Rattle.cpu12_emul.specs.Take.{FrameSeen}
 use Rattle.alone_code.specs.{Mailboxes.mailbox_bound, declared.firmware.Firmware.Firmware}
-use Rattle.box_tree.specs.declared.cert.CertKind.TheVariants.{Named}
+use Rattle.box_tree.specs.declared.cert.CertKind.{CertKind}
 use Rattle.byte_scaling.specs.declared.width.Width.TheVariants.{Byte}
-use Rattle.srecord.specs.Texts.{GivesImage}
-use Rattle.trace_io.specs.{Traces.Spells as SpellsTrace, declared.sample.Sample.Sample}
-use Rattle.interrupt_plan.specs.{Posts.SpellsPosts, declared.Post.Post}
+use Rattle.trace_io.specs.declared.sample.Sample.{Sample}
+use Rattle.interrupt_plan.specs.{Posts.PostsHaveFault, Posts.SpellsPosts, declared.Post.Post}
 use Rattle.trace_io.specs.Traces.{input_bytes}
 use Rattle.mailbox_runs.specs.{Answering.AnswersUnderPosts, Answering.answer_in, Turns.waiting}
 use Rattle.mailbox_runs.specs.Runs.{AnswerSeen, RunSeen, run_under_posts}
 use Rattle.run_reports.specs.{Posted.ArePostedWithinErrors, declared.files.PostedFiles.PostedFiles}
-use Rattle.command_parts.specs.{Certs.AcceptsCert, Firmwares.GivesFirmware}
-use Rattle.command_parts.specs.declared.firmware.Form.TheVariants.{Mailbox}
+use Rattle.command_parts.specs.{Certs.cert_in, Firmwares.firmware_in, Images.image_in}
+use Rattle.command_parts.specs.Readings.{Gives, Reading, Stage, last, ◌then◌}
+use Rattle.fz_status.specs.Refusals.{Refusals}
+use Rattle.fz_status.specs.declared.status.Status.TheVariants as status
+use Rattle.run_reports.specs.Inputs.{trace_in}
+use Rattle.command_parts.specs.declared.firmware.{Compiled.Compiled, Form.TheVariants.Mailbox}
 
 -- what is told of a run: an error for each output, in millionths of its range, the bound on instructions, the answers,
 -- the frames with their boundaries, and at how many boundaries inside an instruction an interrupt was taken
@@ -33,14 +36,35 @@ run_of r = record { arrived = true; answers = r.answers; frames = r.frames; resu
 abbrev pub answered_samples : PostedReport → List ℕ
 answered_samples r = map (λ a. a.sample) r.answers
 
+-- why a text gives no posts of so many samples
+abbrev pub posts_refusals : ℕ → List ℕ → Refusals
+posts_refusals samples text (status.Plan f) = PostsHaveFault samples text f
+posts_refusals samples text s = ⊥
+
+-- the posts of so many samples
+abbrev pub posts_in : ℕ → List ℕ → Stage (List Post)
+posts_in samples text = record {
+  gives = SpellsPosts samples text;
+  Seen = List Post;
+  seen = λ posts. posts;
+  refuses = posts_refusals samples text;
+}
+
+-- FCL's firmware in the mailbox form, IMAGE of this firmware, CERT, TRACE, and POSTS of its samples
+abbrev pub posted_reading : CertKind → PostedFiles
+    → Reading (Compiled × (Unit {0} × (List ℕ × (List Sample × List Post))))
+posted_reading kind files =
+    firmware_in Mailbox files.fcl then λ c.
+    image_in files.image c.firmware.image then λ held.
+    cert_in kind Byte c.block files.cert then λ errors.
+    trace_in c.block files.trace then λ (samples, bytes).
+    last (posts_in samples files.posts)
+
 -- all are accepted, and give this
-pub record AcceptsPosted (files : PostedFiles) (block : Block) (firmware : Firmware) (errors : List ℕ)
-    (samples : List Sample) (posts : List Post) : Type 0 where
-  pub compiled : GivesFirmware Mailbox files.fcl block firmware
-  pub image : GivesImage files.image firmware.image
-  pub accepted : AcceptsCert Named Byte block files.cert errors
-  pub in_range : SpellsTrace block.inputs files.trace samples
-  pub good_posts : SpellsPosts (length samples) files.posts posts
+abbrev pub AcceptsPosted : CertKind → PostedFiles → Block → Firmware → List ℕ → List Sample → List Post → Type 0
+AcceptsPosted kind files block firmware errors samples posts =
+    Gives (posted_reading kind files)
+    (record { block = block; firmware = firmware }, (tt, (errors, (samples, posts))))
 
 -- Compile accepts the FCL text, IMAGE holds exactly the image of its firmware in the mailbox form, the checker accepts
 -- the certificate, the trace spells samples within their inputs' ranges, and POSTS posts of these samples that write
@@ -48,12 +72,12 @@ pub record AcceptsPosted (files : PostedFiles) (block : Block) (firmware : Firmw
 -- which answers a whole sample as without interrupts, by the block over bytes, in at most the printed number of
 -- instructions; the sample that is posted last is answered last; and each answer is within the printed error of FCL's
 -- exact fraction of the samples that were answered up to it.
-pub record PostedRun (flags : ℕ) (files : PostedFiles) (report : PostedReport) : Type 0 where
+pub record PostedRun (kind : CertKind) (flags : ℕ) (files : PostedFiles) (report : PostedReport) : Type 0 where
   pub block : Block
   pub firmware : Firmware
   pub samples : List Sample
   pub posts : List Post
-  pub accepts : AcceptsPosted files block firmware report.errors samples posts
+  pub accepts : AcceptsPosted kind files block firmware report.errors samples posts
   pub ran : run_of report ≡ run_under_posts firmware (map input_bytes samples) posts flags
   pub follows : AnswersUnderPosts block firmware flags (map input_bytes samples) posts (run_of report)
   pub last : waiting 0 posts ≢ 0

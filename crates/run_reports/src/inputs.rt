@@ -4,7 +4,8 @@ ghost use Rattle.fuzzy_meaning.specs.Blocks.{IsValid};
 ghost use Rattle.interrupt_plan.specs.Plans.{Spells as SpellsPlan};
 ghost use Rattle.trace_io.specs.Traces.{Spells};
 ghost use Rattle.fz_status.specs.Refusals.{IsRefusal};
-ghost use Rattle.run_reports.specs.Inputs.{AcceptsInputs, input_refusals, sample_refusals, trace_refusals};
+ghost use Rattle.command_parts.specs.Readings.{IsRefused};
+ghost use Rattle.run_reports.specs.Inputs.{AcceptsInputs, inputs_reading, plan_refusals, trace_refusals};
 
 use crate::files::InputFiles;
 use box_tree::CertKind;
@@ -39,32 +40,16 @@ pub fn inputs_of(
     requires { IsValid block.now }
     ensures inputs { IfOk result (λ i.
         AcceptsInputs kind width block.now files.now i.errors.items i.samples.items i.plan) }
-    ensures fault { IfErr result (IsRefusal (input_refusals kind width block.now files.now)) }
+    ensures fault { IfErr result (IsRefused (inputs_reading kind width block.now files.now)) }
 {
     let errors = errors_under(alloc, kind, width, block, &files.cert)?;
-    let (samples, plan) = samples_and_plan(alloc, block, &files.trace, &files.plan)?;
+    let samples = samples_of(alloc, block, &files.trace)?;
+    let plan = plan_of(alloc, &files.plan)?;
     Ok(Inputs {
         errors,
         samples,
         plan,
     })
-}
-
-/// The samples that a trace spells for a block, and the plan that a text spells.
-pub fn samples_and_plan(
-    alloc: Global,
-    block: &Block,
-    trace: &Content,
-    plan: &Content,
-) -> Result<(Vec<Sample>, Plan), Status>
-    requires { IsValid block.now }
-    ensures samples { IfOk result (λ r. Spells block.now.inputs trace.now r.0.items) }
-    ensures plan { IfOk result (λ r. SpellsPlan plan.now r.1) }
-    ensures fault { IfErr result (IsRefusal (sample_refusals block.now trace.now plan.now)) }
-{
-    let samples = read_trace(alloc, trace.bytes(), block)?;
-    let plan = read_plan(alloc, plan.bytes())?;
-    Ok((samples, plan))
 }
 
 /// The samples that a trace spells for a block.
@@ -74,4 +59,12 @@ pub fn samples_of(alloc: Global, block: &Block, text: &Content) -> Result<Vec<Sa
     ensures fault { IfErr result (IsRefusal (trace_refusals block.now text.now)) }
 {
     Ok(read_trace(alloc, text.bytes(), block)?)
+}
+
+/// The plan that a text spells.
+pub fn plan_of(alloc: Global, text: &Content) -> Result<Plan, Status>
+    ensures plan { IfOk result (SpellsPlan text.now) }
+    ensures fault { IfErr result (IsRefusal (plan_refusals text.now)) }
+{
+    Ok(read_plan(alloc, text.bytes())?)
 }

@@ -1,11 +1,9 @@
 //! Laws of reports and of the files that runs share, each the contract of a function that does nothing.
-ghost use Rattle.run_reports.specs.Laws.{AcceptedInputsHaveNoFault, AnswersAreReported, AnswersKeepTheBound};
-ghost use Rattle.run_reports.specs.Laws.{SpelledBytesFit, SpelledSamplesHaveNoFault, SpelledTracesAreOneLong};
-ghost use Rattle.run_reports.specs.Laws.{SpelledInputsAreOne, SpelledTracesAreShort};
+ghost use Rattle.run_reports.specs.Laws.{AnswersAreReported, AnswersKeepTheBound, SpelledBytesFit};
+ghost use Rattle.run_reports.specs.Laws.{SpelledTracesAreShort};
 ghost use Rattle.run_reports.specs.{Nearness.AnswersAreWithinErrors, Faultless.FaultlessAnswersAreNear};
-ghost use Rattle.run_reports.specs.{Posted.PostedAnswersAreNear};
+ghost use Rattle.run_reports.specs.{Inputs.PlansAreExact, Inputs.TracesAreExact, Posted.PostedAnswersAreNear};
 
-use command_parts::laws::accepted_certs_have_no_fault;
 use fz_rows::laws::first_rows_are_one;
 use interrupt_plan::laws::{spelled_entries_are_one, spelled_plans_have_no_fault};
 use trace_io::laws::spelled_traces_have_no_fault;
@@ -14,13 +12,6 @@ use trace_io::laws::spelled_traces_have_no_fault;
 pub fn spelled_traces_are_short()
     ensures { SpelledTracesAreShort }
 {}
-
-/// A trace spells equally many samples whatever the inputs are.
-pub fn spelled_traces_are_one_long()
-    ensures { SpelledTracesAreOneLong }
-{
-    first_rows_are_one()
-}
 
 /// The bytes of a trace's samples are input bytes of the block.
 pub fn spelled_bytes_fit()
@@ -39,28 +30,20 @@ pub fn answers_are_reported()
     answers_are_within_errors()
 }
 
-/// A trace and a plan that are accepted are not refused.
-pub fn spelled_samples_have_no_fault()
-    ensures { SpelledSamplesHaveNoFault }
-{
-    spelled_traces_have_no_fault();
-    spelled_plans_have_no_fault()
-}
-
-/// A certificate, a trace and a plan that are accepted are not refused.
-pub fn accepted_inputs_have_no_fault()
-    ensures { AcceptedInputsHaveNoFault }
-{
-    accepted_certs_have_no_fault();
-    spelled_samples_have_no_fault()
-}
-
-/// A trace spells the bytes of one list of samples, and a text one plan.
-pub fn spelled_inputs_are_one()
-    ensures { SpelledInputsAreOne }
+/// A trace spells samples that are seen as one list of bytes, or it is refused.
+pub fn traces_are_exact()
+    ensures { TracesAreExact }
 {
     first_rows_are_one();
-    spelled_entries_are_one()
+    spelled_traces_have_no_fault()
+}
+
+/// A text spells one plan, or it is refused.
+pub fn plans_are_exact()
+    ensures { PlansAreExact }
+{
+    spelled_entries_are_one();
+    spelled_plans_have_no_fault()
 }
 
 /// The rows of a block's firmware are within the errors of each accepted certificate of the exact

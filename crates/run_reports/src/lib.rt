@@ -4,8 +4,8 @@
 //! how far its answers are from the exact ones ([`laws`]).
 //!
 //! Of CERT, TRACE and PLAN [`inputs::inputs_of`] answers what they give ([`inputs::Inputs`]), or the first
-//! fault in their order, and never a fault of files that are accepted
-//! ([`laws::accepted_inputs_have_no_fault`]). What a firmware answers of a trace's samples is a report, with
+//! fault in their order; of each file it is a law that it gives one thing or is refused
+//! ([`laws::traces_are_exact`]). What a firmware answers of a trace's samples is a report, with
 //! all answers within the accepted errors ([`laws::answers_are_reported`]), and its lines are just those of
 //! each row in turn ([`row_lines::push_rows`]), or memory was wanted.
 #![tactic(auto)]

@@ -1,9 +1,9 @@
 use Rattle.std.proofs.Common.{inl, inr, ⊎_elim}
 use Rattle.fz_status.specs.Words.{texts_of, word_at}
-use Rattle.fz_top.proofs.{FlagsLemmas.byte_flags, FlagsLemmas.flags_small, FaultLemmas.carries, KeepsLemmas.ok_keeps}
+use Rattle.fz_top.proofs.{FlagsLemmas.byte_flags, FlagsLemmas.flags_small, KeepsLemmas.ok_keeps}
 use Rattle.fz_top.proofs.CompletenessLemmas.{asked, can, contents_of, room_for}
 use Rattle.fz_top.proofs.RunLemmas.{does, no_read_fault, no_write_fault, settles, completes, known_there, long_status}
-use Rattle.fz_top.proofs.RunLemmas.{usage_status, usage_cause}
+use Rattle.fz_top.proofs.RunLemmas.{carries, usage_status, usage_cause}
 use Rattle.fz_top.proofs.program.fuzz12.Goals as goal
 
 pub returns-clause-settled : goal.returns-clause-settled
@@ -34,8 +34,9 @@ returns-clause-done g c = λ command contents can why.
     let words = texts_of c.args.words.now in
     let run = c.run-status.ensures in
     let byte = byte_flags words command can.is in
-    let made = c.accepted_commands_make_output.ensures command contents byte can.accepted in
-    let ends = does c.outputs_have_no_fault.ensures words _ _ command contents can.is can.known made _ run.runs in
+    let made = c.commands_are_settled.ensures command contents in
+    let ends = does words _ _ command contents can.is can.known made.no_fault (made.some (byte, can.accepted)) _
+    run.runs in
     elim why [
       | inl none ↦ ends (no_read_fault words _ _ none _ run.runs) (no_write_fault words _ _ none _ run.runs)
       | inr reliable ↦ ends (run.reads_steady reliable.0 command can.is (known_there _ _ contents can.known))
@@ -44,7 +45,8 @@ returns-clause-done g c = λ command contents can why.
     ]
 
 pub returns-clause-carried : goal.returns-clause-carried
-returns-clause-carried g c = carries (texts_of c.args.words.now) _ _ _ c.run-status.ensures.runs
+returns-clause-carried g c =
+    carries c.commands_are_settled.ensures (texts_of c.args.words.now) _ _ _ c.run-status.ensures.runs
 
 pub returns-clause-promise : goal.returns-clause-promise
 returns-clause-promise g c =
@@ -55,7 +57,7 @@ returns-clause-accepted g c = λ kind width flags files are told accepted why.
     let words = texts_of c.args.words.now in
     let byte = flags_small (word_at words 7) flags are.run.flags_are in
     let keep = c.certified_runs_keep_promise.ensures in
-    let given = c.accepted_files_give_firmware.ensures kind width flags files accepted in
+    let given = c.accepted_files_give_firmware.ensures kind width files accepted in
     returns-clause-done g c (asked kind width flags) (contents_of files)
     (can words kind width flags files _ are told given)
     (⊎_elim inl (λ r. inr (r.0.0, r.0.1, room_for keep words kind width flags files _ _ byte r.1)) why)

@@ -1,5 +1,5 @@
 use Rattle.form_commands.proofs.Words.{◌≡◌, Err, rules}
-use Rattle.form_commands.proofs.PostedLemmas.{refused_posts}
+use Rattle.std.proofs.Common.{inl, inr}
 use Rattle.form_commands.proofs.mrun.Accepted.of.Goals as goal
 
 pub posts_of-requires : goal.posts_of-requires
@@ -7,11 +7,42 @@ posts_of-requires c =
     rw c.deref.ensures.value
     (c.spelled_traces_are_short.ensures _ _ c.in_ok-samples.samples.items c.in_ok-samples.ensures.samples)
 
+pub returns-in_err-samples-clause-fault : goal.returns-in_err-samples-clause-fault
+returns-in_err-samples-clause-fault c =
+    let compiled = c.in_ok-compiled.compiled in
+    let passed : c.from_residual-in_err-samples.result ≡ Err c.in_err-samples.field-0.0 = search rules in
+    rw passed (inr (
+      compiled,
+      c.in_ok-compiled.ensures.gives,
+      inr (
+        tt,
+        c.in_ok-require_image.ensures.image,
+        inr (
+          c.in_ok-errors.errors.items,
+          c.in_ok-errors.ensures.accepts,
+          inl c.in_err-samples.ensures.fault,
+        ),
+      ),
+    ))
+
 pub returns-in_err-posts-clause-fault : goal.returns-in_err-posts-clause-fault
 returns-in_err-posts-clause-fault c =
     let compiled = c.in_ok-compiled.compiled in
     let passed : c.from_residual-in_err-posts.result ≡ Err c.in_err-posts.field-0.0 = search rules in
-    rw passed (refused_posts c.args.files.now compiled.block compiled.firmware c.in_ok-errors.errors.items
-    c.in_ok-samples.samples.items c.in_err-posts.field-0.0 c.in_ok-compiled.ensures.gives
-    c.in_ok-require_image.ensures.image c.in_ok-errors.ensures.accepts c.in_ok-samples.ensures.samples
-    (rw c.deref.ensures.value at c.in_err-posts.ensures.fault))
+    rw passed (inr (
+      compiled,
+      c.in_ok-compiled.ensures.gives,
+      inr (
+        tt,
+        c.in_ok-require_image.ensures.image,
+        inr (
+          c.in_ok-errors.errors.items,
+          c.in_ok-errors.ensures.accepts,
+          inr (
+            c.in_ok-samples.samples.items,
+            c.in_ok-samples.ensures.samples,
+            (rw c.deref.ensures.value at c.in_err-posts.ensures.fault),
+          ),
+        ),
+      ),
+    ))

@@ -1,12 +1,43 @@
-use Rattle.run_commands.proofs.Words.{◌≡◌, debug_refusals, Err, refused, rules, sample_refusals}
-use Rattle.run_commands.proofs.DebugLemmas.{debug_refused}
+use Rattle.run_commands.proofs.Words.{◌≡◌, Err, rules}
+use Rattle.std.proofs.Common.{inl, inr}
 use Rattle.run_commands.proofs.debug.Accepted.of.Goals as goal
 
-pub returns-in_err-samples-clause-fault : goal.returns-in_err-samples-clause-fault
-returns-in_err-samples-clause-fault c =
-    let files = c.args.files.now in
+pub returns-in_err-plan-clause-fault : goal.returns-in_err-plan-clause-fault
+returns-in_err-plan-clause-fault c =
     let compiled = c.in_ok-compiled.compiled in
-    let passed : c.from_residual-in_err-samples.result ≡ Err c.in_err-samples.field-0.0 = search rules in
-    rw passed (refused (sample_refusals compiled.block files.trace files.plan) (debug_refusals files)
-    (debug_refused files compiled.block compiled.firmware c.in_ok-compiled.ensures.gives
-    c.in_ok-require_image.ensures.image) c.in_err-samples.field-0.0 c.in_err-samples.ensures.fault)
+    let passed : c.from_residual-in_err-plan.result ≡ Err c.in_err-plan.field-0.0 = search rules in
+    rw passed (inr (
+      compiled,
+      c.in_ok-compiled.ensures.gives,
+      inr (
+        tt,
+        c.in_ok-require_image.ensures.image,
+        inr (
+          c.in_ok-samples.samples.items,
+          c.in_ok-samples.ensures.samples,
+          inl c.in_err-plan.ensures.fault,
+        ),
+      ),
+    ))
+
+pub returns-in_err-script-clause-fault : goal.returns-in_err-script-clause-fault
+returns-in_err-script-clause-fault c =
+    let compiled = c.in_ok-compiled.compiled in
+    let passed : c.from_residual-in_err-script.result ≡ Err c.in_err-script.field-0.0 = search rules in
+    rw passed (inr (
+      compiled,
+      c.in_ok-compiled.ensures.gives,
+      inr (
+        tt,
+        c.in_ok-require_image.ensures.image,
+        inr (
+          c.in_ok-samples.samples.items,
+          c.in_ok-samples.ensures.samples,
+          inr (
+            c.in_ok-plan.plan,
+            c.in_ok-plan.ensures.plan,
+            c.in_err-script.ensures.fault,
+          ),
+        ),
+      ),
+    ))
