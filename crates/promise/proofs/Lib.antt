@@ -1,5 +1,6 @@
 pub mod AcceptedLemmas
 pub mod BenchLemmas
+pub mod OneRunLemmas
 pub mod OtherLemmas
 pub mod PrintedLemmas
 pub mod PromiseLemmas

@@ -22,14 +22,14 @@ generated keep number output g =
 debugged : AnswersServe → DebuggedRunsServe
 debugged keep debug files output d byte =
     keep Byte debug.flags d.block d.firmware (map input_bytes d.samples) d.plan d.rows byte
-    d.accepts.compiled.spelled.valid d.accepts.compiled.limits d.accepts.compiled.compiled.0
-    d.accepts.compiled.compiled.1 d.follows
+    d.accepts.0.spelled.valid d.accepts.0.limits d.accepts.0.compiled.0
+    d.accepts.0.compiled.1 d.follows
 
 handled : AnswersServe → HandledRunsServe
-handled keep flags files report h byte = record {
+handled keep kind flags files report h byte = record {
   serves = keep Byte flags h.block h.firmware (map input_bytes h.samples) h.plan (map (λ row. row.row) report.rows) byte
-      h.accepts.compiled.spelled.valid h.accepts.compiled.limits h.accepts.compiled.compiled.0
-      h.accepts.compiled.compiled.1 h.reported.follows;
+      h.accepts.0.spelled.valid h.accepts.0.limits h.accepts.0.compiled.0
+      h.accepts.0.compiled.1 h.reported.follows;
   last = _;
   ran = record {
     most = h.firmware.step_bound;
@@ -40,11 +40,11 @@ handled keep flags files report h byte = record {
 }
 
 slow : AnswersServe → SlowRunsServe
-slow keep flags files report l byte = record {
+slow keep kind flags files report l byte = record {
   serves = keep Byte flags l.slow l.two.slow (map input_bytes l.samples) (plan_of l.levels)
       (map (λ row. row.row) report.rows) byte
-      l.accepts.compiled.slow_is.spelled.valid l.accepts.compiled.slow_is.limits
-      l.accepts.compiled.both.slow_alone.firmware l.accepts.compiled.both.slow_alone.width
+      l.accepts.0.slow_is.spelled.valid l.accepts.0.slow_is.limits
+      l.accepts.0.both.slow_alone.firmware l.accepts.0.both.slow_alone.width
       l.reported.follows;
   last = _;
   ran = record {
@@ -56,7 +56,7 @@ slow keep flags files report l byte = record {
 }
 
 watched : TakenAtOnce → WatchedRunsServe
-watched law flags files report w =
+watched law kind flags files report w =
     let form = watched_form flags w.firmware in
     let samples = with_upsets w.upsets (map input_bytes w.samples) in
     let first = first_state w.firmware flags in

@@ -103,24 +103,24 @@ pub certified_keep : FirmwareAnswers → PlainIsOneStep → ArrivesPlainly → B
 unfolding served
 certified_keep answers one arrives few kind width flags files report r byte = record {
   block = r.block;
-  spelled = r.accepts.compiled.spelled;
+  spelled = r.accepts.0.spelled;
   image = r.firmware.image;
-  records = r.accepts.image;
+  records = r.accepts.1.0;
   samples = r.samples;
-  in_range = r.accepts.inputs.in_range;
+  in_range = r.accepts.1.1.1.0;
   plan = r.plan;
-  free_writes = r.accepts.inputs.good_plan;
+  free_writes = r.accepts.1.1.1.1;
   serves = served answers one arrives width flags r.block r.firmware (map input_bytes r.samples) r.plan report.rows byte
-      r.accepts.compiled.spelled.valid r.accepts.compiled.limits r.accepts.compiled.compiled.0
-      r.accepts.compiled.compiled.1 r.reported.follows;
+      r.accepts.0.spelled.valid r.accepts.0.limits r.accepts.0.compiled.0
+      r.accepts.0.compiled.1 r.reported.follows;
   within = r.reported.within;
   instructions = r.reported.instructions;
   printable = record {
-    count = r.accepts.inputs.accepted.accepted.errors_count;
-    errors = errors_capped r.block (parts width) r.accepts.inputs.accepted.cert report.errors
-        r.accepts.inputs.accepted.spelled.good.claims r.accepts.inputs.accepted.accepted;
+    count = r.accepts.1.1.0.accepted.errors_count;
+    errors = errors_capped r.block (parts width) r.accepts.1.1.0.cert report.errors
+        r.accepts.1.1.0.spelled.good.claims r.accepts.1.1.0.accepted;
     bound = subst (λ (n : ℕ). n ≤ 2000) (sym r.reported.bound)
-        (few r.block width 0 r.accepts.compiled.spelled.valid r.accepts.compiled.limits).1;
+        (few r.block width 0 r.accepts.0.spelled.valid r.accepts.0.limits).1;
   };
   printed = ap (λ left. concat (run_lines report left)) r.left_is;
 }

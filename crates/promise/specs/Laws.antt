@@ -1,7 +1,7 @@
 -- Laws of the promise.
 -- Beside the promise.
 use Rattle.box_tree.specs.declared.cert.CertKind.{CertKind}
-use Rattle.command_parts.specs.Certs.{AcceptsCert}
+use Rattle.command_parts.specs.{Certs.AcceptsCert, Readings.GivesSome}
 use Rattle.alone_code.specs.{Firmwares.IsFirmwareOf, Images.IsImageOf, Images.firmware_items}
 use Rattle.alone_code.specs.declared.firmware.Firmware.{Firmware}
 use Rattle.cpu12_asm.specs.declared.image.Image.{Image}
@@ -12,9 +12,9 @@ use Rattle.fuzzy_meaning.specs.{Blocks.IsValid, declared.block.Block.Block}
 use Rattle.interrupt_plan.specs.{Plans.Spells as SpellsPlan, declared.Request.Request}
 use Rattle.promise.specs.Promise.{IsPrintable, Promise, Serves}
 use Rattle.rule_layout.specs.Layouts.{IsWithinLimits}
-use Rattle.run_reports.specs.{CertifiedRun.CertifiedRun, Reports.Report, RowLines.run_lines}
+use Rattle.run_reports.specs.CertifiedRun.{CertifiedRun, run_reading}
+use Rattle.run_reports.specs.{Reports.Report, RowLines.run_lines}
 use Rattle.run_reports.specs.declared.files.RunFiles.{RunFiles}
-use Rattle.run_commands.specs.Run.{RunAccepts, run_with}
 use Rattle.alone_runs.specs.Answering.{AnswersUnder}
 use Rattle.run_law.specs.Forms.{RowSeen}
 use Rattle.srecord.specs.Texts.{GivesImage}
@@ -60,8 +60,8 @@ pub record AreAccepted (kind : CertKind) (width : Width) (files : RunFiles) : Ty
 -- Such files are those that the command accepts.
 abbrev pub AcceptedFilesGiveFirmware : Type 0
 AcceptedFilesGiveFirmware =
-    (kind : CertKind) (width : Width) (flags : ℕ) (files : RunFiles) → AreAccepted kind width files
-    → RunAccepts (run_with kind width flags) files
+    (kind : CertKind) (width : Width) (files : RunFiles) → AreAccepted kind width files
+    → GivesSome (run_reading kind width files)
 
 -- The sentence with no program: accepted files have lines that keep the promise, with the errors that the certificate
 -- is accepted with.

@@ -1,4 +1,5 @@
 pub mod Bench
 pub mod Laws
+pub mod OneRun
 pub mod OtherRuns
 pub mod Promise

@@ -1,6 +1,7 @@
 -- What `gen`, `debug`, `hrun`, `lrun` and `srun` tell of their rows.
 -- Beside the promise.
 use Rattle.std.specs.Prelude.{◌≡◌, ◌<◌, ◌^◌, ℕ, List, length, map}
+use Rattle.box_tree.specs.declared.cert.CertKind.{CertKind}
 use Rattle.byte_scaling.specs.declared.width.Width.TheVariants.{Byte}
 use Rattle.command_parts.specs.SeenOutputs.{SeenOutput}
 use Rattle.trace_io.specs.Traces.{input_bytes}
@@ -26,8 +27,8 @@ GeneratedRunsServe = (number : ℕ) (output : SeenOutput) (g : GenerateGives num
     → Serves Byte (length g.block.outputs) 0 g.firmware.image (map input_bytes g.samples) g.requests g.report.rows
 
 -- the rows are those of listed writes, and those of the machine in which the handler's code runs
-pub record HandledServes (flags : ℕ) (files : HandledFiles) (report : HandledReport) (h : HandledRun flags files report)
-    : Type 0 where
+pub record HandledServes (kind : CertKind) (flags : ℕ) (files : HandledFiles) (report : HandledReport)
+    (h : HandledRun kind flags files report) : Type 0 where
   pub serves : Serves Byte (length h.block.outputs) flags h.firmware.image (map input_bytes h.samples) h.plan
       (map (λ row. row.row) report.rows)
   pub last : State
@@ -35,12 +36,13 @@ pub record HandledServes (flags : ℕ) (files : HandledFiles) (report : HandledR
       (first_handled h.firmware h.handler.bytes flags) (map (λ row. row.row) report.rows) last
 
 abbrev pub HandledRunsServe : Type 0
-HandledRunsServe = (flags : ℕ) (files : HandledFiles) (report : HandledReport) (h : HandledRun flags files report)
-    → flags < 2 ^ 8 → HandledServes flags files report h
+HandledRunsServe = (kind : CertKind) (flags : ℕ) (files : HandledFiles) (report : HandledReport)
+    (h : HandledRun kind flags files report)
+    → flags < 2 ^ 8 → HandledServes kind flags files report h
 
 -- the slow rows are those of the slow firmware alone, and those of the machine in which fast runs stand in interrupts
-pub record SlowServes (flags : ℕ) (files : LevelFiles) (report : LevelReport) (l : LevelRun flags files report)
-    : Type 0 where
+pub record SlowServes (kind : CertKind) (flags : ℕ) (files : LevelFiles) (report : LevelReport)
+    (l : LevelRun kind flags files report) : Type 0 where
   pub serves : Serves Byte (length l.slow.outputs) flags l.two.slow.image (map input_bytes l.samples)
       (plan_of l.levels) (map (λ row. row.row) report.rows)
   pub last : State
@@ -48,13 +50,14 @@ pub record SlowServes (flags : ℕ) (files : LevelFiles) (report : LevelReport) 
       (map input_bytes l.samples) (first_two l.two flags) (map (λ row. row.row) report.rows) last
 
 abbrev pub SlowRunsServe : Type 0
-SlowRunsServe = (flags : ℕ) (files : LevelFiles) (report : LevelReport) (l : LevelRun flags files report)
-    → flags < 2 ^ 8 → SlowServes flags files report l
+SlowRunsServe = (kind : CertKind) (flags : ℕ) (files : LevelFiles) (report : LevelReport)
+    (l : LevelRun kind flags files report)
+    → flags < 2 ^ 8 → SlowServes kind flags files report l
 
 -- the rows, before FAULT is taken from the answers, are those of the machine in which the tables are upset, and are
 -- read off its run without interrupts
-pub record WatchedServes (flags : ℕ) (files : WatchedFiles) (report : WatchedReport) (w : WatchedRun flags files report)
-    : Type 0 where
+pub record WatchedServes (kind : CertKind) (flags : ℕ) (files : WatchedFiles) (report : WatchedReport)
+    (w : WatchedRun kind flags files report) : Type 0 where
   pub rows : List (RowSeen Watched)
   pub seen : report.rows ≡ map (fault_seen w.firmware.outputs) rows
   pub last : State
@@ -64,8 +67,9 @@ pub record WatchedServes (flags : ℕ) (files : WatchedFiles) (report : WatchedR
       (with_upsets w.upsets (map input_bytes w.samples)) rows (first_state w.firmware flags)
 
 abbrev pub WatchedRunsServe : Type 0
-WatchedRunsServe = (flags : ℕ) (files : WatchedFiles) (report : WatchedReport) (w : WatchedRun flags files report)
-    → WatchedServes flags files report w
+WatchedRunsServe = (kind : CertKind) (flags : ℕ) (files : WatchedFiles) (report : WatchedReport)
+    (w : WatchedRun kind flags files report)
+    → WatchedServes kind flags files report w
 
 abbrev pub DebuggedRunsServe : Type 0
 DebuggedRunsServe = (debug : DebugRun) (files : DebugFiles) (output : SeenOutput) (d : DebugGives debug files output)

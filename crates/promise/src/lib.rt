@@ -7,13 +7,17 @@
 
 ghost use Rattle.promise.specs.Laws.{AcceptedFilesGiveFirmware, AcceptedFilesKeepPromise, CertifiedRunsKeepPromise};
 ghost use Rattle.promise.specs.Laws.{PrintedNumbersAreOne};
-ghost use Rattle.promise.specs.OtherRuns.{OtherRunsServe};
+ghost use Rattle.promise.specs.{OneRun.PromisedRowsAreOne, OtherRuns.OtherRunsServe};
 
 use alone_code::laws::firmware_answers;
+use cpu12_emul::laws::images_load_alike;
 use eval_code::laws::bounds_are_few;
+use fcl_check::laws::spelled_blocks_are_one;
 use run_commands::laws::accepted_runs_make_output;
 use run_forms::laws::{arrives_plainly, plain_is_one_step};
 use run_law::laws::taken_at_once;
+use run_reports::laws::{plans_are_exact, traces_are_exact};
+use srecord::laws::images_are_one;
 
 /// A certified run keeps its promise.
 pub fn certified_runs_keep_promise()
@@ -29,6 +33,17 @@ pub fn certified_runs_keep_promise()
 pub fn printed_numbers_are_one()
     ensures { PrintedNumbersAreOne }
 {}
+
+/// Promises over the same files have the same rows and the same last sum.
+pub fn promised_rows_are_one()
+    ensures { PromisedRowsAreOne }
+{
+    spelled_blocks_are_one();
+    images_are_one();
+    images_load_alike();
+    traces_are_exact();
+    plans_are_exact();
+}
 
 /// Files that are accepted give firmware, and are those that the command accepts.
 pub fn accepted_files_give_firmware()
