@@ -7,12 +7,12 @@ use test_program_calls::{
     push_room, reads_are, shelf_of,
 };
 use test_texts::{
-    BLOCK, HALVES, MAILBOX_RECORDS, RECORDS, RECORDS_OF_BOTH, SOURCE, SOURCE_RECORDS,
+    BLOCK, CELLS, HALVES, MAILBOX_RECORDS, RECORDS, RECORDS_OF_BOTH, SOURCE, SOURCE_RECORDS,
     WATCHED_RECORDS, joined,
 };
 
 // The files, but for OUT and the records of 16 bits.
-static FILES: [(&str, &[&str]); 17] = [
+static FILES: [(&str, &[&str]); 18] = [
     ("a.fcl", &[BLOCK]),
     ("a.s19", &[RECORDS]),
     ("both.s19", &[RECORDS_OF_BOTH]),
@@ -20,6 +20,7 @@ static FILES: [(&str, &[&str]); 17] = [
     ("watched.s19", &[WATCHED_RECORDS]),
     ("a.cert", &["FZC 1\nclaim 19609\n", HALVES]),
     ("wide.cert", &["FZC 2\nclaim 15702\n", HALVES]),
+    ("cells.cert", &[CELLS]),
     (
         "tight.cert",
         &["FZC 3\nclaim 19547\nsplit 1 128\nleaf\nleaf\n"],
@@ -150,19 +151,19 @@ static COMMANDS: [Accepted; 19] = accepted! {
 };
 
 // Those of tight certificates.
-static TIGHT: [Accepted; 6] = accepted! {
+static TIGHT: [Accepted; 10] = accepted! {
     ["tcertify", "a.fcl", "20000", "out"] reads ["a.fcl"] writes true
-        leaves ["error 1 19547\n", "leaves 2\n"] start "err";
+        leaves ["error 1 11735\n", "leaves 2\n"] start "err";
     ["tcertify16", "a.fcl", "20000", "out"] reads ["a.fcl"] writes true
-        leaves ["error 1 15641\n", "leaves 2\n"] start "err";
+        leaves ["error 1 7828\n", "leaves 2\n"] start "err";
     ["tcheck", "a.fcl", "tight.cert"] reads ["a.fcl", "tight.cert"] writes false
-        leaves ["error 1 19547\n", "instructions 28\n"] start "err";
+        leaves ["error 1 11735\n", "instructions 28\n"] start "err";
     ["tcheck16", "a.fcl", "tight16.cert"] reads ["a.fcl", "tight16.cert"] writes false
-        leaves ["error 1 15641\n", "instructions 31\n"] start "err";
+        leaves ["error 1 7828\n", "instructions 31\n"] start "err";
     ["trun", "a.fcl", "a.s19", "tight.cert", "a.csv", "empty", "00"]
         reads ["a.fcl", "a.s19", "tight.cert", "a.csv", "empty"] writes false
         leaves [
-            "error 1 19547\n",
+            "error 1 11735\n",
             "instructions 28\n",
             "sample 1 bytes 64 answers 64 instructions 28 steps 36 resumed 0 frames 0\n",
             "left 208\n"
@@ -170,10 +171,45 @@ static TIGHT: [Accepted; 6] = accepted! {
     ["trun16", "a.fcl", "wide.s19", "tight16.cert", "a.csv", "empty", "00"]
         reads ["a.fcl", "wide.s19", "tight16.cert", "a.csv", "empty"] writes false
         leaves [
-            "error 1 15641\n",
+            "error 1 7828\n",
             "instructions 31\n",
             "sample 1 bytes 64 answers 16384 instructions 31 steps 39 resumed 0 frames 0\n",
             "left 208\n"
+        ] start "err";
+    ["thrun", "a.fcl", "handler.s19", "cells.cert", "a.csv", "empty", "00"]
+        reads ["a.fcl", "handler.s19", "cells.cert", "a.csv", "empty"] writes false
+        leaves [
+            "error 1 3907\n",
+            "instructions 28\n",
+            "sample 1 bytes 64 answers 64 instructions 28 steps 36 resumed 0 frames 0 handler 0\n"
+        ] start "err";
+    ["tmrun", "a.fcl", "mailbox.s19", "cells.cert", "a.csv", "posts", "00"]
+        reads ["a.fcl", "mailbox.s19", "cells.cert", "a.csv", "posts"] writes false
+        leaves [
+            "error 1 3907\n",
+            "instructions 31\n",
+            "answer 1 sample 1 at 39 bytes 64 answers 64 instructions 31\n",
+            "frame 0 C008 1FF7 9\n",
+            "resumed 0\n"
+        ] start "err";
+    ["tlrun", "a.fcl", "a.fcl", "both.s19", "cells.cert", "cells.cert", "a.csv", "a.csv", "levels", "00"]
+        reads ["a.fcl", "a.fcl", "both.s19", "cells.cert", "cells.cert", "a.csv", "a.csv", "levels"] writes false
+        leaves [
+            "error 1 3907\n",
+            "fast error 1 3907\n",
+            "instructions 28\n",
+            "fast instructions 24\n",
+            "sample 1 bytes 64 answers 64 instructions 28 steps 36 resumed 1 frames 1\n",
+            "frame 1 26 C03C 1FEF 15\n",
+            "fast 1 answers 64 instructions 24 steps 32 resumed 1\n",
+            "inner 24 4028 1FE0 15\n"
+        ] start "err";
+    ["tsrun", "a.fcl", "watched.s19", "cells.cert", "a.csv", "empty", "empty", "00"]
+        reads ["a.fcl", "watched.s19", "cells.cert", "a.csv", "empty", "empty"] writes false
+        leaves [
+            "error 1 3907\n",
+            "instructions 89\n",
+            "sample 1 bytes 64 answers 64 instructions 89 steps 97 resumed 0 frames 0 fault 0\n"
         ] start "err";
 };
 

@@ -2,7 +2,7 @@
 use super::five_files::{FiveFiles, run_each};
 use std::test::Fail;
 use test_program_calls::{Left, rows};
-use test_texts::{BLOCK, HALVES};
+use test_texts::{BLOCK, CELLS, HALVES};
 
 /// `INC $1800`, RTI
 const COUNT: &str = "S10740007218000B23\nS9030000FC\n";
@@ -26,7 +26,7 @@ sample 1 bytes 64 answers 64 instructions 28 steps 36 resumed 0 frames 0 handler
 };
 
 // The lines are those of `run` under the same plan, and each interrupt does the steps of the handler's path.
-static RUNS: [FiveFiles; 17] = rows! { FiveFiles:
+static RUNS: [FiveFiles; 18] = rows! { FiveFiles:
     HEATER {};
     HEATER { trace: "" } leaves "error 1 19609\ninstructions 28\n";
     // inside REV
@@ -79,12 +79,32 @@ frame 2 26 C03C 1FEF 9
     HEATER { records: "S9030000FC\n", cert: &[] } refused 14 "handler: empty\n";
     HEATER { cert: &["FZC 1\nclaim 19608\n", HALVES], trace: "256.0001" }
         refused 6 "cert: output 1 claims 19608, computed 19609\n";
+    HEATER { cert: &[CELLS] } refused 6 "cert: line 1: bad line\n";
     HEATER { trace: "256.0001", requests: "0,1\n" } refused 7 "trace: row 1: input 1 out of range\n";
     HEATER { requests: "1,0,17FF,00\n" } refused 7 "plan: row 1: not free 17FF\n";
+};
+
+/// The same under a tight certificate.
+const TIGHT: FiveFiles = FiveFiles {
+    cert: &[CELLS],
+    ..HEATER
+};
+
+static TIGHT_RUNS: [FiveFiles; 5] = rows! { FiveFiles:
+    TIGHT { requests: "1,17\n" } leaves "error 1 3907
+instructions 28
+sample 1 bytes 64 answers 64 instructions 28 steps 36 resumed 1 frames 1 handler 2
+frame 1 17 C031 1FF5 9
+";
+    TIGHT { cert: &["FZC 1\nclaim 19609\n", HALVES] } refused 6 "cert: line 1: bad line\n";
+    TIGHT { cert: &["FZC 3\nclaim 3907\nleaf\n"] } refused 6 "cert: line 3: unsure output 1\n";
+    TIGHT { cert: &["FZC 3\nclaim 3907\ncells\n"] } refused 6 "cert: line 3: too many cells\n";
+    TIGHT { records: "S9030000FC\n", cert: &[] } refused 14 "handler: empty\n";
 };
 
 #[test]
 fn handled_runs(rt: HostRuntime) -> Result<(), Fail> {
     run_each(rt.alloc(), "hrun", &RUNS)?;
+    run_each(rt.alloc(), "thrun", &TIGHT_RUNS)?;
     Ok(())
 }

@@ -5,7 +5,9 @@ use std::test::Fail;
 use test_program_calls::{
     Difference, Left, NONE, call, code_of, push_file, push_room, rows, shelf_of,
 };
-use test_texts::{BLOCK, HALF_WEIGHT, HALVES, LATCH, NODES_OF_THE_LATCH, RECORDS, RECORDS_OF_BOTH};
+use test_texts::{
+    BLOCK, CELLS, HALF_WEIGHT, HALVES, LATCH, NODES_OF_THE_LATCH, RECORDS, RECORDS_OF_BOTH,
+};
 
 /// What `lrun` is given, and what it leaves.
 #[derive(Clone, Copy)]
@@ -184,7 +186,7 @@ const WEIGHTED: &[&str] = &["FZC 1\nclaim 51417\nsplit 1 128\nleaf 1 63\nleaf 2 
 const LOW_CLAIM: &[&str] = &["FZC 1\nclaim 19608\n", HALVES];
 
 // Of two faults the first is told.
-static REFUSED: [AtLevels; 13] = rows! { AtLevels:
+static REFUSED: [AtLevels; 15] = rows! { AtLevels:
     HEATERS { slow: &[], fast: &["x"] } refused 4 "fcl: at 0: expected\n";
     HEATERS { fast: &["x"], image: Some("") } refused 4 "fast fcl: at 0: expected\n";
     HEATERS { image: Some(""), slow_cert: &[] } refused 5 "image: no end\n";
@@ -194,6 +196,8 @@ static REFUSED: [AtLevels; 13] = rows! { AtLevels:
     HEATERS { fast_cert: LOW_CLAIM, slow_trace: "256.0001" }
         refused 6 "fast cert: output 1 claims 19608, computed 19609\n";
     HEATERS { fast_cert: &[] } refused 6 "fast cert: early\n";
+    HEATERS { slow_cert: &[CELLS] } refused 6 "cert: line 1: bad line\n";
+    HEATERS { fast_cert: &[CELLS] } refused 6 "fast cert: line 1: bad line\n";
     HEATERS { slow_trace: "256.0001", fast_trace: "x" } refused 7 "trace: row 1: input 1 out of range\n";
     HEATERS { fast_trace: "0\n256.0001", levels: "x" } refused 7 "fast trace: row 2: input 1 out of range\n";
     // There is one fast sample.
@@ -201,6 +205,35 @@ static REFUSED: [AtLevels; 13] = rows! { AtLevels:
     HEATERS { fast_trace: "", levels: "1,26,0\n1,26,1\n" } refused 7 "plan: row 2: bad row\n";
     HEATERS { levels: "1,26,1,5,4\n" } refused 7 "plan: row 1: bad row\n";
     HEATERS { levels: "2,5,0\n1,9,1\n" } refused 7 "plan: row 2: not ascending\n";
+};
+
+/// The heater at both levels under tight certificates.
+const TIGHT: AtLevels = AtLevels {
+    slow_cert: &[CELLS],
+    fast_cert: &[CELLS],
+    ..HEATERS
+};
+
+const UNSURE: &[&str] = &["FZC 3\nclaim 3907\nleaf\n"];
+
+const MANY: &[&str] = &["FZC 3\nclaim 3907\ncells\n"];
+
+static TIGHT_RUNS: [AtLevels; 7] = rows! { AtLevels:
+    TIGHT { levels: "1,26,1,24\n" } leaves "error 1 3907
+fast error 1 3907
+instructions 28
+fast instructions 24
+sample 1 bytes 64 answers 64 instructions 28 steps 36 resumed 1 frames 1
+frame 1 26 C03C 1FEF 15
+fast 1 answers 0 instructions 24 steps 32 resumed 1
+inner 24 4028 1FE0 15
+";
+    TIGHT { slow_cert: CERT, fast_cert: &[] } refused 6 "cert: line 1: bad line\n";
+    TIGHT { fast_cert: CERT, slow_trace: "256.0001" } refused 6 "fast cert: line 1: bad line\n";
+    TIGHT { slow_cert: UNSURE } refused 6 "cert: line 3: unsure output 1\n";
+    TIGHT { fast_cert: UNSURE } refused 6 "fast cert: line 3: unsure output 1\n";
+    TIGHT { slow_cert: MANY } refused 6 "cert: line 3: too many cells\n";
+    TIGHT { fast_cert: MANY } refused 6 "fast cert: line 3: too many cells\n";
 };
 
 /// The eight files, the image being empty where `lcompile` is to write it.
@@ -229,14 +262,14 @@ fn compile(alloc: Global, shelf: &mut MemShelf) -> Result<(), Difference> {
     }
 }
 
-fn case(alloc: Global, run: &AtLevels) -> Result<(), Difference> {
+fn case(alloc: Global, command: &str, run: &AtLevels) -> Result<(), Difference> {
     let mut shelf = shelf(alloc, run)?;
     if run.image.is_none() {
         compile(alloc, &mut shelf)?;
     }
     let line = [
         "fuzz12",
-        "lrun",
+        command,
         "slow",
         "fast",
         "image",
@@ -253,7 +286,10 @@ fn case(alloc: Global, run: &AtLevels) -> Result<(), Difference> {
 #[test]
 fn runs_at_two_levels(rt: HostRuntime) -> Result<(), Fail> {
     for run in RUNS.iter() {
-        case(rt.alloc(), run)?;
+        case(rt.alloc(), "lrun", run)?;
+    }
+    for run in TIGHT_RUNS.iter() {
+        case(rt.alloc(), "tlrun", run)?;
     }
     Ok(())
 }
@@ -261,7 +297,7 @@ fn runs_at_two_levels(rt: HostRuntime) -> Result<(), Fail> {
 #[test]
 fn refused_runs_at_two_levels(rt: HostRuntime) -> Result<(), Fail> {
     for run in REFUSED.iter() {
-        case(rt.alloc(), run)?;
+        case(rt.alloc(), "lrun", run)?;
     }
     Ok(())
 }

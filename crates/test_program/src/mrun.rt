@@ -2,7 +2,7 @@
 use super::five_files::{FiveFiles, run_each};
 use std::test::Fail;
 use test_program_calls::{Left, rows};
-use test_texts::{BLOCK, HALVES, MAILBOX_RECORDS, RECORDS};
+use test_texts::{BLOCK, CELLS, HALVES, MAILBOX_RECORDS, RECORDS};
 
 /// The heater's run with no post.
 const HEATER: FiveFiles = FiveFiles {
@@ -16,7 +16,7 @@ const HEATER: FiveFiles = FiveFiles {
 
 // A turn that answers takes the 36 steps of `run`, without CLR READY, and with ORCC, a copy, CLR POSTED and ANDCC: 39.
 // I is 1 from its boundary 3 to 6; REV begins at boundary 18, and WAV at 29.
-static RUNS: [FiveFiles; 18] = rows! { FiveFiles:
+static RUNS: [FiveFiles; 19] = rows! { FiveFiles:
     HEATER {};
     // The second comes while the first is copied.
     HEATER { requests: "0,1\n3,2\n" } leaves "error 1 19609
@@ -72,6 +72,7 @@ resumed 0
     HEATER { cert: &["FZC 1\nclaim 19608\n", HALVES], trace: "256.0001" }
         refused 6 "cert: output 1 claims 19608, computed 19609\n";
     HEATER { trace: "256.0001", requests: "x" } refused 7 "trace: row 1: input 1 out of range\n";
+    HEATER { cert: &[CELLS] } refused 6 "cert: line 1: bad line\n";
     HEATER { requests: "3,1\n0,2\n" } refused 7 "plan: row 2: not ascending\n";
     HEATER { requests: "0,2\n0,3\n" } refused 7 "plan: row 2: bad row\n";
     HEATER { trace: "", requests: "0,1\n" } refused 7 "plan: row 1: bad row\n";
@@ -80,8 +81,32 @@ resumed 0
     HEATER { requests: "0\n" } refused 7 "plan: row 1: bad row\n";
 };
 
+/// The same under a tight certificate.
+const TIGHT: FiveFiles = FiveFiles {
+    cert: &[CELLS],
+    left: Left::Lines("error 1 3907\ninstructions 31\nresumed 0\n"),
+    ..HEATER
+};
+
+static TIGHT_RUNS: [FiveFiles; 6] = rows! { FiveFiles:
+    TIGHT {};
+    TIGHT { requests: "0,1\n3,2\n" } leaves "error 1 3907
+instructions 31
+answer 1 sample 1 at 39 bytes 64 answers 64 instructions 31
+answer 2 sample 2 at 78 bytes 0 answers 0 instructions 31
+frame 0 C008 1FF7 9
+frame 6 C01A 1FF7 9
+resumed 0
+";
+    TIGHT { cert: &["FZC 1\nclaim 19609\n", HALVES] } refused 6 "cert: line 1: bad line\n";
+    TIGHT { cert: &["FZC 3\nclaim 3907\nleaf\n"] } refused 6 "cert: line 3: unsure output 1\n";
+    TIGHT { cert: &["FZC 3\nclaim 3907\ncells\n"] } refused 6 "cert: line 3: too many cells\n";
+    TIGHT { requests: "0,3\n" } refused 7 "plan: row 1: bad row\n";
+};
+
 #[test]
 fn posted_runs(rt: HostRuntime) -> Result<(), Fail> {
     run_each(rt.alloc(), "mrun", &RUNS)?;
+    run_each(rt.alloc(), "tmrun", &TIGHT_RUNS)?;
     Ok(())
 }

@@ -136,7 +136,7 @@ const TIGHT: Ran = Ran {
     command: "trun",
     cert: &["FZC 3\nclaim 19547\nsplit 1 128\nleaf\nleaf\n"],
     left: Left::Lines(
-        "error 1 19547
+        "error 1 11735
 instructions 28
 sample 1 bytes 64 answers 64 instructions 28 steps 36 resumed 0 frames 0
 left 208
@@ -160,13 +160,13 @@ frame 1 26 C03C 1FEF 9
 left 1139
 ";
     TIGHT { command: "trun16", cert: &["FZC 4\nclaim 15641\nsplit 1 128\nleaf\nleaf\n"] }
-        leaves "error 1 15641
+        leaves "error 1 7828
 instructions 31
 sample 1 bytes 64 answers 16384 instructions 31 steps 39 resumed 0 frames 0
 left 208
 ";
-    TIGHT { cert: &["FZC 3\nclaim 19546\nsplit 1 128\nleaf\nleaf\n"], trace: "256.0001" }
-        refused 6 "cert: output 1 claims 19546, computed 19547\n";
+    TIGHT { cert: &["FZC 3\nclaim 11734\nsplit 1 128\nleaf\nleaf\n"], trace: "256.0001" }
+        refused 6 "cert: output 1 claims 11734, computed 11735\n";
     TIGHT { cert: &["FZC 1\nclaim 19609\n", HALVES] } refused 6 "cert: line 1: bad line\n";
     TIGHT { command: "run" } refused 6 "cert: line 1: bad line\n";
 };

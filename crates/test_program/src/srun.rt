@@ -6,11 +6,12 @@ use std::test::Fail;
 use test_program_calls::{
     Difference, Left, NONE, call, code_of, push_file, push_room, rows, shelf_of,
 };
-use test_texts::{BLOCK, HALF_WEIGHT, HALVES, LATCH, NODES_OF_THE_LATCH};
+use test_texts::{BLOCK, CELLS, HALF_WEIGHT, HALVES, LATCH, NODES_OF_THE_LATCH};
 
-/// What `srun` is given, with the command that writes its image, and what it leaves.
+/// What `srun` or `tsrun` is given, with the command that writes its image, and what it leaves.
 #[derive(Clone, Copy)]
 struct Ran {
+    command: &'static str,
     image_by: &'static str,
     fcl: &'static [&'static str],
     cert: &'static [&'static str],
@@ -36,6 +37,7 @@ sample 1 bytes 64 answers 0 instructions 70 steps 70 resumed 0 frames 0 fault 1
 
 /// The heater's run with no plan and no upset.
 const HEATER: Ran = Ran {
+    command: "srun",
     image_by: "scompile",
     fcl: &[BLOCK],
     cert: &["FZC 1\nclaim 19609\n", HALVES],
@@ -47,7 +49,7 @@ const HEATER: Ran = Ran {
 
 /// The check takes 61 instructions more than the heater's 28: 3 for each of 18 bytes, 1 for each of 3 segments, and 4.
 /// Where it fails, BAD follows after 63: 5 with the return, and 2 to LOOP.
-static RUNS: [Ran; 25] = rows! { Ran:
+static RUNS: [Ran; 26] = rows! { Ran:
     HEATER {};
     HEATER { upsets: "1,D201,FE\n", left: UPSET };
     HEATER { upsets: "1,D201,FF\n" };
@@ -119,6 +121,7 @@ sample 1 bytes 64 answers 0 instructions 101 steps 101 resumed 0 frames 0 fault 
         refused 5 "image: C00F: 16, compile gives 21\n";
     HEATER { cert: &["FZC 1\nclaim 19608\n", HALVES], trace: "257\n" }
         refused 6 "cert: output 1 claims 19608, computed 19609\n";
+    HEATER { cert: &[CELLS] } refused 6 "cert: line 1: bad line\n";
     HEATER { trace: "257\n", plan: "0,1\n", upsets: "1,D202,00\n" }
         refused 7 "trace: row 1: input 1 out of range\n";
     HEATER { plan: "1,0,17FF,00\n", upsets: "1,D202,00\n" } refused 7 "plan: row 1: not free 17FF\n";
@@ -126,6 +129,25 @@ sample 1 bytes 64 answers 0 instructions 101 steps 101 resumed 0 frames 0 fault 
     HEATER { upsets: "1,D201,FE\n2,D201\n" } refused 7 "upset: row 2: bad row\n";
     HEATER { upsets: "1,D201,FE\n1,D200,01\n" } refused 7 "upset: row 2: not ascending\n";
     HEATER { upsets: "1,C000,FE\n" } refused 7 "upset: row 1: not table C000\n";
+};
+
+/// The same under a tight certificate.
+const TIGHT: Ran = Ran {
+    command: "tsrun",
+    cert: &[CELLS],
+    ..HEATER
+};
+
+static TIGHT_RUNS: [Ran; 5] = rows! { Ran:
+    TIGHT { plan: "1,7,1800,55\n", upsets: "1,D201,FE\n" } leaves "error 1 3907
+instructions 89
+sample 1 bytes 64 answers 0 instructions 70 steps 70 resumed 0 frames 1 fault 1
+frame 1 7 C02B 1FF5 9
+";
+    TIGHT { cert: &["FZC 1\nclaim 19609\n", HALVES] } refused 6 "cert: line 1: bad line\n";
+    TIGHT { cert: &["FZC 3\nclaim 3907\nleaf\n"] } refused 6 "cert: line 3: unsure output 1\n";
+    TIGHT { cert: &["FZC 3\nclaim 3907\ncells\n"] } refused 6 "cert: line 3: too many cells\n";
+    TIGHT { upsets: "1,D202,00\n" } refused 7 "upset: row 1: not table D202\n";
 };
 
 /// The six files, the image being empty.
@@ -148,10 +170,6 @@ fn write_image(alloc: Global, command: &str, shelf: &mut MemShelf) -> Result<(),
     }
 }
 
-const SRUN: [&str; 9] = [
-    "fuzz12", "srun", "n.fcl", "n.s19", "n.cert", "n.csv", "n.plan", "n.upsets", "FF",
-];
-
 /// A run of the image that is written before it, over another trace and other upsets.
 fn run_over(
     alloc: Global,
@@ -162,7 +180,18 @@ fn run_over(
 ) -> Result<(), Difference> {
     let mut shelf = shelf(alloc, ran, trace, upsets)?;
     write_image(alloc, ran.image_by, &mut shelf)?;
-    call(alloc, &SRUN, &mut shelf, &NONE, left)
+    let line = [
+        "fuzz12",
+        ran.command,
+        "n.fcl",
+        "n.s19",
+        "n.cert",
+        "n.csv",
+        "n.plan",
+        "n.upsets",
+        "FF",
+    ];
+    call(alloc, &line, &mut shelf, &NONE, left)
 }
 
 fn run(alloc: Global, ran: &Ran) -> Result<(), Difference> {
@@ -181,6 +210,9 @@ fn run_with(alloc: Global, upsets: u32, left: &Left) -> Result<(), Difference> {
 #[test]
 fn runs_under_upsets(rt: HostRuntime) -> Result<(), Fail> {
     for ran in RUNS.iter() {
+        run(rt.alloc(), ran)?;
+    }
+    for ran in TIGHT_RUNS.iter() {
         run(rt.alloc(), ran)?;
     }
     run_with(rt.alloc(), 10_000, &ANSWERED)?;

@@ -3,26 +3,28 @@ use super::certify::{Search, find};
 use super::certs::{Certificate, judge};
 use std::test::Fail;
 use test_program_calls::{BEFORE, Left, rows};
-use test_texts::{BACK, BLOCK, FRONT, HALF_WEIGHT, HALVES, LATCH, MIDDLE};
+use test_texts::{BACK, BLOCK, FRONT, HALF_WEIGHT, HALVES, LATCH, LATE, MIDDLE};
 
 /// The heater, halved once to tight leaves.
 const HEATER: Search = Search {
     command: "tcertify",
     fcl: &[BLOCK],
     target: "20000",
-    left: Left::Lines("error 1 19547\nleaves 2\n"),
-    out: Some("FZC 3\nclaim 19547\nsplit 1 128\nleaf\nleaf\n"),
+    left: Left::Lines("error 1 11735\nleaves 2\n"),
+    out: Some("FZC 3\nclaim 11735\nsplit 1 128\nleaf\nleaf\n"),
 };
 
-static HEATERS: [Search; 6] = rows! { Search:
+static HEATERS: [Search; 7] = rows! { Search:
     HEATER {};
-    HEATER { target: "11734" } leaves "error 1 11724\nleaves 4\n"
-        makes "FZC 3\nclaim 11724\nsplit 1 128\nsplit 1 64\ncells\nleaf\nsplit 1 192\nleaf\ncells\n";
+    HEATER { target: "11734" } leaves "error 1 9130\nleaves 3\n"
+        makes "FZC 3\nclaim 9130\nsplit 1 128\nsplit 1 64\nleaf\nleaf\nleaf\n";
     HEATER { target: "3907" } leaves "error 1 3907\nleaves 4\n"
         makes "FZC 3\nclaim 3907\nsplit 1 128\nsplit 1 64\ncells\ncells\nsplit 1 192\ncells\ncells\n";
     HEATER { target: "3906" } refused 8 "not reached: cell 0 output 1 bound 3907\n" makes BEFORE;
-    HEATER { command: "tcertify16" } leaves "error 1 15641\nleaves 2\n"
-        makes "FZC 4\nclaim 15641\nsplit 1 128\nleaf\nleaf\n";
+    HEATER { command: "tcertify16" } leaves "error 1 7828\nleaves 2\n"
+        makes "FZC 4\nclaim 7828\nsplit 1 128\nleaf\nleaf\n";
+    HEATER { command: "tcertify16", target: "3907" } leaves "error 1 3907\nleaves 4\n"
+        makes "FZC 4\nclaim 3907\nsplit 1 128\nsplit 1 64\ncells\ncells\nsplit 1 192\nleaf\ncells\n";
     HEATER { command: "tcertify16", target: "3906" } refused 8 "not reached: cell 0 output 1 bound 3907\n"
         makes BEFORE;
 };
@@ -31,8 +33,8 @@ static HEATERS: [Search; 6] = rows! { Search:
 const HALF: Search = Search {
     fcl: &HALF_WEIGHT,
     target: "60000",
-    left: Left::Lines("error 1 50858\nleaves 2\n"),
-    out: Some("FZC 3\nclaim 50858\nsplit 1 128\nleaf\nleaf\n"),
+    left: Left::Lines("error 1 19547\nleaves 2\n"),
+    out: Some("FZC 3\nclaim 19547\nsplit 1 128\nleaf\nleaf\n"),
     ..HEATER
 };
 
@@ -45,11 +47,18 @@ const ONE_RULE: Search = Search {
     ..HEATER
 };
 
-static OTHERS: [Search; 9] = rows! { Search:
+static OTHERS: [Search; 14] = rows! { Search:
+    HEATER { fcl: &[LATE], target: "7813" } leaves "error 1 7813\nleaves 7\n"
+        makes "FZC 3\nclaim 7813\nsplit 1 128\nsplit 2 128\nsplit 1 64\ncells\ncells\nsplit 1 64\nsplit 2 192\n\
+            cells\ncells\nsplit 2 192\ncells\nleaf\nleaf\n";
+    HEATER { fcl: &[LATE], target: "7752", out: None } leaves "error 1 7752\nleaves 10\n";
+    HEATER { fcl: &[LATE], target: "7751" } refused 8 "not reached: cell 1 192 output 1 bound 7752\n" makes BEFORE;
     HALF {};
-    HALF { target: "20000", out: None } leaves "error 1 19567\nleaves 4\n";
+    HALF { target: "20000" };
     HALF { target: "11583", out: None } leaves "error 1 11583\nleaves 4\n";
     HALF { target: "11582" } refused 8 "not reached: cell 1 output 1 bound 11583\n" makes BEFORE;
+    HALF { command: "tcertify16", out: None } leaves "error 1 18213\nleaves 2\n";
+    HALF { command: "tcertify16", target: "11582", out: None } leaves "error 1 10438\nleaves 4\n";
     ONE_RULE {};
     ONE_RULE { target: "501960" } refused 8 "not reached: cell 255 output 1 bound 501961\n" makes BEFORE;
     ONE_RULE { fcl: &[FRONT, "NC", MIDDLE, BACK] } refused 8 "not reached: cell 255 output 1 bound 1000001\n"
@@ -76,18 +85,25 @@ const TIGHT: Certificate = Certificate {
     command: "tcheck",
     fcl: &[BLOCK],
     cert: &["FZC 3\nclaim 19547\nsplit 1 128\nleaf\nleaf\n"],
-    left: Left::Lines("error 1 19547\ninstructions 28\n"),
+    left: Left::Lines("error 1 11735\ninstructions 28\n"),
 };
 
-static CERTIFICATES: [Certificate; 9] = rows! { Certificate:
+/// Four leaves of cells, each of 64 bytes of the first input.
+const QUARTERS: &str = "split 1 128\nsplit 1 64\ncells\ncells\nsplit 1 192\ncells\ncells\n";
+
+static CERTIFICATES: [Certificate; 11] = rows! { Certificate:
     TIGHT {};
-    TIGHT { command: "tcheck16", cert: &["FZC 4\nclaim 15641\nsplit 1 128\nleaf\nleaf\n"] }
-        leaves "error 1 15641\ninstructions 31\n";
-    TIGHT { cert: &["FZC 3\nclaim 19546\nsplit 1 128\nleaf\nleaf\n"] }
-        refused 6 "cert: output 1 claims 19546, computed 19547\n";
-    TIGHT { cert: &["FZC 3\nclaim 19547\nleaf\n"] } refused 6 "cert: line 3: unsure output 1\n";
-    TIGHT { cert: &["FZC 3\nclaim 19547\ncells\n"] } refused 6 "cert: line 3: too many cells\n";
+    TIGHT { command: "tcheck16", cert: &["FZC 4\nclaim 11735\nsplit 1 128\nleaf\nleaf\n"] }
+        leaves "error 1 7828\ninstructions 31\n";
+    TIGHT { cert: &["FZC 3\nclaim 11734\nsplit 1 128\nleaf\nleaf\n"] }
+        refused 6 "cert: output 1 claims 11734, computed 11735\n";
+    TIGHT { cert: &["FZC 3\nclaim 11735\nleaf\n"] } refused 6 "cert: line 3: unsure output 1\n";
+    TIGHT { cert: &["FZC 3\nclaim 11735\ncells\n"] } refused 6 "cert: line 3: too many cells\n";
     TIGHT { cert: &["FZC 3\nclaim 19547\nsplit 1 0\nleaf\nleaf\n"] } refused 6 "cert: line 3: bad cut\n";
+    // Where each byte of an input gives the same it is not counted.
+    TIGHT { fcl: &[LATE], cert: &["FZC 3\nclaim 1000000\nsplit 2 192\n", QUARTERS, QUARTERS] }
+        leaves "error 1 7752\ninstructions 30\n";
+    TIGHT { fcl: &[LATE], cert: &["FZC 3\nclaim 1000000\n", QUARTERS] } refused 6 "cert: line 5: too many cells\n";
     // A certificate of another kind or width is none.
     TIGHT { cert: &["FZC 1\nclaim 19609\n", HALVES] } refused 6 "cert: line 1: bad line\n";
     TIGHT { command: "tcheck16" } refused 6 "cert: line 1: bad line\n";

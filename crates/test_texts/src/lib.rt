@@ -83,6 +83,21 @@ END_RULEBLOCK
 END_FUNCTION_BLOCK
 ";
 
+/// The heater with a second input, for which one rule asks: it has no strength before 18 o'clock, and degree 1 after.
+pub const LATE: &str = "FUNCTION_BLOCK heater
+VAR_INPUT too_cold, hour : REAL; END_VAR
+VAR_OUTPUT power : REAL; END_VAR
+FUZZIFY too_cold TERM warm := (0, 1) (256, 0); TERM cold := (0, 0) (256, 1); END_FUZZIFY
+FUZZIFY hour RANGE := (0 .. 24); TERM late := (18, 0) (18, 1); END_FUZZIFY
+DEFUZZIFY power TERM off := 0; TERM full := 100; METHOD : COGS; DEFAULT := 0; END_DEFUZZIFY
+RULEBLOCK rules
+RULE 1 : IF too_cold IS warm THEN power IS off;
+RULE 2 : IF too_cold IS cold THEN power IS full;
+RULE 3 : IF hour IS late THEN power IS off;
+END_RULEBLOCK
+END_FUNCTION_BLOCK
+";
+
 /// The records of the heater's image.
 pub const RECORDS: &str = "S0070000465A3132F5
 S123C000CF200079100010EFB6100027FB16C01679100020F30BCED000CD1100B6100101E6
@@ -180,6 +195,10 @@ S903C0003C
 
 /// The lines of the heater's certificate behind its first two.
 pub const HALVES: &str = "split 1 128\nleaf 1 127\nleaf 2 127\n";
+
+/// A tight certificate of the heater, cell by cell.
+pub const CELLS: &str =
+    "FZC 3\nclaim 3907\nsplit 1 128\nsplit 1 64\ncells\ncells\nsplit 1 192\ncells\ncells\n";
 
 /// The heater with half the weight on its first rule.
 pub const HALF_WEIGHT: [&str; 6] = [FRONT, "0", MIDDLE, " WITH 0.5", SECOND, BACK];

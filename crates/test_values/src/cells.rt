@@ -72,11 +72,12 @@ fn is_walked(rt: &impl Abort, block: &Block, table: &BlockTable, walk: &Walked) 
     requires block { IsValid block.now }
     requires table { IsBlockTable block.now table.now }
     requires input { length block.now.inputs ≡ 1 }
+    requires output { length block.now.outputs ≡ 1 }
 {
     let (from, to, parts, limit, wanted) = *walk;
     assert!(rt; from <= to && 1 <= parts && parts <= 256 && limit <= 1_000_000);
     let bytes = box_of(block, from, to);
-    match (cells_bounds(block, table, &bytes, parts, limit), wanted) {
+    match (cells_bounds(block, table, &bytes, parts, &[limit]), wanted) {
         (Ok(bounds), Ok(greatest)) => assert!(rt; bounds[0] == greatest),
         (Err(CellAbove { bytes, out, bound }), Err((byte, count))) => {
             assert!(rt; bytes.as_slice() == [byte].as_slice());
@@ -116,7 +117,7 @@ fn boxes_have_tight_bounds(rt: HostRuntime) -> Result<(), Fail> {
     let block = block_of(rt.alloc(), BLOCK.as_bytes())?;
     assert!(rt; block.inputs.len() == 1);
     assert!(rt; block.outputs.len() == 1);
-    for (parts, wanted) in [(1, 19_547), (256, 15_641)] {
+    for (parts, wanted) in [(1, 11_735), (256, 7_828)] {
         let low = BoxTable::new(&block, box_of(&block, 0, 127)).tight_bound(&block, 1, parts);
         let high = BoxTable::new(&block, box_of(&block, 128, 255)).tight_bound(&block, 1, parts);
         assert!(rt; low.max(high) == Some(wanted));

@@ -14,6 +14,10 @@ fn operations_are_exact(rt: HostRuntime) {
     assert!(rt; third.times(Dec(5000)).num == 5000);
     assert!(rt; third.times(Dec(5000)).den == 30_000);
     assert!(rt; third.floor_nano() == Nano(333_333_333));
-    assert!(rt; Frac::gap(85, third) == Nano(0));
-    assert!(rt; Frac::gap(84, third) == Nano(3_921_569));
+    assert!(rt; third.rise(85) == Nano(0));
+    assert!(rt; third.fall(85) == Nano(0));
+    assert!(rt; third.rise(84) == Nano(3_921_569));
+    assert!(rt; third.fall(84) == Nano(0));
+    assert!(rt; third.rise(86) == Nano(0));
+    assert!(rt; third.fall(86) == Nano(3_921_569));
 }

@@ -9,10 +9,10 @@ use std::test::Fail;
 
 /// Targets, and the texts of the certificates that halving gives for them.
 static HALVED: [(u32, &[u8]); 3] = [
-    (20_000, b"FZC 3\nclaim 19547\nsplit 1 128\nleaf\nleaf\n"),
+    (20_000, b"FZC 3\nclaim 11735\nsplit 1 128\nleaf\nleaf\n"),
     (
         11_734,
-        b"FZC 3\nclaim 11724\nsplit 1 128\nsplit 1 64\ncells\nleaf\nsplit 1 192\nleaf\ncells\n",
+        b"FZC 3\nclaim 9130\nsplit 1 128\nsplit 1 64\nleaf\nleaf\nleaf\n",
     ),
     (
         3_907,
@@ -30,10 +30,10 @@ fn a_heater_is_halved_to_tight_leaves(rt: HostRuntime) -> Result<(), Fail> {
         assert!(rt; write_for(alloc, &cert, Tight, Byte)?.as_slice() == *text);
     }
     let cert = certify_for(alloc, &block, 20_000, Tight, Word)?;
-    let text = b"FZC 4\nclaim 15641\nsplit 1 128\nleaf\nleaf\n";
+    let text = b"FZC 4\nclaim 7828\nsplit 1 128\nleaf\nleaf\n";
     assert!(rt; write_for(alloc, &cert, Tight, Word)?.as_slice() == text.as_slice());
     let errors = check_text_for(alloc, &block, text, Tight, Word)?;
-    assert!(rt; errors.as_slice() == [15641].as_slice());
+    assert!(rt; errors.as_slice() == [7828].as_slice());
     Ok(())
 }
 
@@ -53,11 +53,11 @@ fn a_cell_is_out_of_reach_for_all(rt: HostRuntime) -> Result<(), Fail> {
 /// Texts whose certificates are refused, each with the certificate's first fault.
 static REFUSED: [(&[u8], CheckFault); 3] = [
     (
-        b"FZC 3\nclaim 19546\nsplit 1 128\nleaf\nleaf\n",
-        CheckFault::Claimed(1, 19546, 19547),
+        b"FZC 3\nclaim 11734\nsplit 1 128\nleaf\nleaf\n",
+        CheckFault::Claimed(1, 11734, 11735),
     ),
-    (b"FZC 3\nclaim 19547\nleaf\n", CheckFault::Unsure(3, 1)),
-    (b"FZC 3\nclaim 19547\ncells\n", CheckFault::TooManyCells(3)),
+    (b"FZC 3\nclaim 11735\nleaf\n", CheckFault::Unsure(3, 1)),
+    (b"FZC 3\nclaim 11735\ncells\n", CheckFault::TooManyCells(3)),
 ];
 
 #[test]
