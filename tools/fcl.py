@@ -5,9 +5,15 @@ from fractions import Fraction
 
 from fuzz12 import Wrong
 
+MOST_BOXES = 4096
 # Blanks and comments, or a token.
 TOKEN = re.compile(r"\(\*.*?\*\)|//[^\n]*|\s+|([A-Za-z_]\w*|\d+(?:\.\d+)?|:=|\.\.|[-+:;,()])", re.S)
 DECLARED = re.compile(r"(\w+)\s*:\s*REAL\s*;[ \t]*(?:\(\*(.*?)\*\)|//([^\n]*))", re.I)
+
+
+def comments_of(text):
+    """What the comment behind a variable's declaration says, by the variable's name in small letters."""
+    return {name.lower(): (a or b).strip() for name, a, b in DECLARED.findall(text)}
 
 
 @dataclass
@@ -62,7 +68,7 @@ class Reader:
 
     def __init__(self, text):
         self.tokens = [it for it in TOKEN.findall(text) if it]
-        self.comments = {name.lower(): (a or b).strip() for name, a, b in DECLARED.findall(text)}
+        self.comments = comments_of(text)
         self.spelled = {}
         self.inputs, self.outputs, self.rules = {}, {}, []
         parts = {"var_input": self.variables, "var_output": self.variables, "fuzzify": self.section,
@@ -322,6 +328,36 @@ def literals(condition):
     """The pairs of input and term that a condition names."""
     kind, *parts = condition
     return [tuple(parts)] if kind == "is" else [it for part in parts for it in literals(part)]
+
+
+def boxes_of(block, condition, negated=False):
+    """Where a condition, or its NOT, is above 0: boxes, each with corners and middles between them of some inputs.
+    Where there are very many it is anywhere."""
+    kind, *parts = condition
+    if kind == "not":
+        return boxes_of(block, parts[0], not negated)
+    if kind == "is":
+        variable = next(it for it in block.inputs if it.name == parts[0])
+        ends = sorted({*variable.span, *(x for term in variable.terms.values() for x, _ in term)})
+        places = {*ends, *((a + b) / 2 for a, b in zip(ends, ends[1:]))}
+        found = {x for x in places if degree(variable.terms[parts[1]], x) != int(negated)}
+        return [{variable.name: found}] if found else []
+    lists = [boxes_of(block, it, negated) for it in parts]
+    if (kind == "or") != negated:
+        return [box for boxes in lists for box in boxes]
+    joined = [{}]
+    for boxes in lists:
+        joined = [{name: a.get(name, b.get(name)) & b.get(name, a.get(name)) for name in {*a, *b}}
+                  for a in joined for b in boxes]
+        joined = [box for box in joined if all(box.values())]
+        if len(joined) > MOST_BOXES:
+            return [{}]
+    return joined
+
+
+def can_hold(block, condition):
+    """Whether some sample has a condition above 0."""
+    return bool(boxes_of(block, condition))
 
 
 def strengths_of(block, sample):

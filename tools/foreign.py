@@ -4,10 +4,13 @@ from contextlib import contextmanager
 from dataclasses import dataclass, field
 from fractions import Fraction
 
+from fcl import comments_of
 from fuzz12 import Wrong
-from shapes import HEDGES, OTHERS
+from shapes import CURVES, HEDGES, OTHERS
 
 NUMBER = r"[-+]?(?:\d+\.?\d*|\.\d+)(?:[eE][-+]?\d+)?(?![\w.])"
+# The words for shapes that fuzzylite has, and jFuzzyLogic has not.
+FUZZYLITE = {"triangle", "trapezoid", "ramp", "rectangle", "discrete", *CURVES} - {"cosine"}
 BLANK = r"\(\*.*?\*\)|/\*.*?\*/|//[^\n]*|#[^\n]*|\s+"
 TOKEN = re.compile(rf"{BLANK}|(\.\.|:=|{NUMBER}|[-+]?\d+(?=\.\.)|[A-Za-z_][\w-]*|.)", re.S)
 
@@ -50,6 +53,7 @@ class Engine:
     operators: list = field(default_factory=list)  # pairs of what, and its name
     left_out: list = field(default_factory=list)  # what the reader passed over, as text
     blocks: int = 0
+    adds: bool = False  # fuzzylite's meaning: a weighted average adds the strengths of rules that conclude one term
 
 
 @contextmanager
@@ -74,6 +78,8 @@ def term_of(name, shape, words):
     found, order = OTHERS.get(shape.lower(), (shape.lower(), range(len(numbers))))
     if len(order) != len(numbers):
         raise Wrong(f"{name} := {shape}: {len(order)} numbers are wanted")
+    if found == "discrete" and len(numbers) % 2:
+        raise Wrong(f"{name} := {shape}: pairs of numbers are wanted")
     return Term(name, found, [numbers[k] for k in order])
 
 
@@ -156,11 +162,12 @@ class Rules:
 
 
 def read_fll(text):
-    engine, here, enabled = Engine("engine"), None, True
+    engine, here, enabled = Engine("engine", adds=True), None, True
     for line_number, line in enumerate(text.splitlines(), start=1):
-        key, _, value = (it.strip() for it in line.partition("#")[0].partition(":"))
+        said, _, comment = line.partition("#")
+        key, _, value = (it.strip() for it in said.partition(":"))
         if key in ("InputVariable", "OutputVariable"):
-            here, enabled = Variable(value), True
+            here, enabled = Variable(value, comment.strip()), True
             (engine.inputs if key == "InputVariable" else engine.outputs).append(here)
         elif key == "RuleBlock":
             here, enabled, engine.blocks = None, True, engine.blocks + 1
@@ -198,8 +205,8 @@ def read_line_of_variable(variable, key, value):
 def read_line_of_rules(engine, key, value):
     if key == "rule":
         engine.rules.append(Rules(re.findall(r"[\w.+-]+|[(),]", value)).rule())
-    elif key in ("conjunction", "disjunction"):
-        engine.operators.append((key, value.lower()))
+    elif key in ("conjunction", "disjunction", "activation"):
+        engine.operators.append((key, value.lower().split()[0] if value else ""))
 
 
 # ---------------------------------------------------------------------------------------------------------------------
@@ -209,7 +216,8 @@ def read_line_of_rules(engine, key, value):
 class Fcl:
     def __init__(self, text):
         self.tokens = [it for it in TOKEN.findall(text) if it.strip()]
-        self.engine = Engine("engine")
+        self.comments = comments_of(re.sub(r"/\*(.*?)\*/", r"(*\1*)", text.replace("#", "//"), flags=re.S))
+        self.engine = Engine("engine", adds="fuzzylite" in text)
         self.variables = {}
 
     def peek(self, ahead=0):
@@ -249,7 +257,7 @@ class Fcl:
         into = self.engine.inputs if word == "var_input" else self.engine.outputs
         while self.peek() != "end_var":
             for it in " ".join(self.line()).partition(":")[0].split(","):
-                variable = Variable(it.strip())
+                variable = Variable(it.strip(), self.comments.get(it.strip().lower(), ""))
                 self.variables[variable.name.lower()] = variable
                 into.append(variable)
         self.next()
@@ -270,11 +278,17 @@ class Fcl:
     def setting(self, variable, key, words):
         if key == "term":
             variable.terms.append(self.term(words))
+            self.engine.adds |= len(words) > 2 and words[1].lower() in FUZZYLITE
+        elif key in ("enabled", "lock"):
+            self.engine.adds = True
+            if key == "enabled" and words[-1].lower() == "false":
+                self.engine.left_out.append(f"{variable.name} is not enabled")
         elif key == "range":
             variable.span = tuple(number(it) for it in words if number(it) is not None)
         elif key == "default":
             variable.default = number(words[0])
             variable.keeps = words[-1].lower() == "nc"
+            self.engine.adds |= words[0].lower() == "nan" or len(words) > 1
         elif key == "method":
             variable.method = words[-1].lower()
         elif key == "accu":
@@ -304,6 +318,7 @@ class Fcl:
                 words = []
                 while self.peek() not in (*ends, ";", ""):
                     words.append(self.next())
+                self.engine.adds |= self.peek() != ";"
                 behind = next((k for k, it in enumerate(words) if it == ":"), -1)
                 self.engine.rules.append(Rules(words[behind + 1:]).rule())
         self.next()

@@ -93,11 +93,15 @@ class Program:
         self.path = next((it for it in found if it and os.access(it, os.X_OK)), None)
         if self.path is None:
             raise Wrong("the program is not there: build it, or name it with --program")
-        self.calls = 0
 
-    def call(self, *words):
-        self.calls += 1
-        done = subprocess.run([self.path, *map(str, words)], capture_output=True, check=False)
+    def call(self, *words, seconds=None):
+        """The answer, or None where it takes longer than so many seconds."""
+        if seconds is not None and seconds <= 0:
+            return None
+        try:
+            done = subprocess.run([self.path, *map(str, words)], capture_output=True, check=False, timeout=seconds)
+        except subprocess.TimeoutExpired:
+            return None
         return Answer(done.returncode, done.stdout.decode("ascii").splitlines(), done.stderr.decode().strip())
 
     def ask(self, *words):
@@ -162,6 +166,7 @@ class Row:
     steps: list
     end: list  # the boundary at which a turn ends
     fault: list
+    instructions: list
 
 
 @dataclass
@@ -184,7 +189,8 @@ class Lines:
 
 
 def row_of(line, sample):
-    return Row(sample, *(numbers_behind(line, word) for word in ("bytes", "answers", "steps", "at", "fault")))
+    words = ("bytes", "answers", "steps", "at", "fault", "instructions")
+    return Row(sample, *(numbers_behind(line, word) for word in words))
 
 
 def read_lines(text, fast=False):

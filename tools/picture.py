@@ -1,6 +1,10 @@
 """Pictures as SVG: panels with axes, and what the scripts draw into them."""
+import re
+from fractions import Fraction
 from html import escape
 from math import floor, log10
+
+from fuzz12 import Wrong
 
 STYLE = {
     "text": "font: 12px sans-serif; fill: #222", ".title": "font-weight: bold", ".note": "fill: #555",
@@ -10,12 +14,25 @@ STYLE = {
     ".band": "fill: #9ecae1; fill-opacity: .55", ".exact": "fill: none; stroke: #08519c; stroke-width: 1.5",
     ".answer": "fill: #d94801", ".fault": "fill: none; stroke: #cb181d; stroke-width: 1.5",
     ".interrupt": "stroke: #6a51a3; stroke-dasharray: 3 3",
-    ".box": "fill: none; stroke: #222; stroke-width: .5; stroke-opacity: .7",
-    ".cells": "fill: none; stroke: #cb181d; stroke-width: .5",
+    ".box": "fill: none; stroke: #222; stroke-width: .5; stroke-opacity: .4",
+    ".cells": "fill: none; stroke: #f03b20; stroke-width: 1.6; stroke-linecap: round",
+    ".term": "stroke: white; stroke-width: 3; paint-order: stroke",
     ".level": "font-size: 9px; fill: #222; stroke: white; stroke-width: 2; stroke-opacity: .7; paint-order: stroke",
     ".contour": "fill: none; stroke: #222; stroke-width: 1.1",
 }
 COLOURS = ["#1f77b4", "#d94801", "#2ca02c", "#9467bd", "#8c564b", "#e377c2", "#7f7f7f", "#bcbd22", "#17becf", "#222"]
+
+UNITS = {"s": 1, "min": 60, "h": 3600}  # in seconds
+NO_BOUND = 1000000  # an error that is the whole range says nothing
+BOLD, PLAIN, SMALL = 7.3, 6.2, 5.4  # how wide a letter is, taken over words
+
+
+def time_of(words, option):
+    """The number and the unit of a time."""
+    parts = re.fullmatch(r"(\d+(?:\.\d+)?)(s|min|h)", words)
+    if not parts or not Fraction(parts[1]):
+        raise Wrong(f"{option} {words}: a time as 0.5s, 10min or 1h is wanted")
+    return Fraction(parts[1]), parts[2]
 
 
 def short(number):
@@ -81,11 +98,19 @@ class Panel:
     def course(self, points, kind, colour=None, closed=False):
         return path(self.at(points), kind, colour, closed)
 
-    def frame(self, title, note=""):
+    def frame(self, title, note="", above=0):
+        """The frame with its title, so far above it, and a note at the right, as text or as words with their colours.
+        Where both do not fit into one line the title stands higher."""
+        words = note if isinstance(note, str) else "  ".join(name for name, _ in note)
+        low, most = self.top - 6 - above, int(self.width / BOLD)
+        high = low - 14 if note and len(title) * BOLD + len(words) * PLAIN + 12 > self.width else low
         yield f'<rect class="frame" x="{self.left}" y="{self.top}" width="{self.width}" height="{self.height}"/>'
-        yield text(self.left, self.top - 6, title, "title")
-        if note:
-            yield text(self.right, self.top - 6, note, "note", "end")
+        yield text(self.left, high, title if len(title) <= most else title[:most - 1] + "…", "title")
+        if isinstance(note, str) and note:
+            yield text(self.right, low, note, "note", "end")
+        elif note:
+            spans = "  ".join(f'<tspan style="fill: {colour}">{escape(name)}</tspan>' for name, colour in note)
+            yield f'<text x="{self.right}" y="{low}" text-anchor="end" xml:space="preserve">{spans}</text>'
 
     def scale(self, most=4):
         """The numbers at the left side."""
@@ -113,6 +138,16 @@ def svg(width, height, title, parts):
         text(12, 20, title, "title"), drawn, "</svg>"]) + "\n"
 
 
+def dot(x, y):
+    """A part of a path that is a dot, where its ends are round."""
+    return f"M{short(x)},{short(y)}h0"
+
+
 def labelled(variable):
     """A variable's name with what its comment says of it."""
     return f"{variable.name}, {variable.comment}" if variable.comment else variable.name
+
+
+def amount(number, variable):
+    """A number with the unit of a variable; a comment that is no unit is left out."""
+    return f"{float(number):.4g} {variable.unit if len(variable.unit) <= 24 else ''}".rstrip()

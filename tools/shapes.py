@@ -96,16 +96,30 @@ def pairs(numbers):
     return list(zip(numbers[::2], numbers[1::2]))
 
 
+class Course:
+    """The degree at each number, by points or by a curve."""
+
+    def __init__(self, points=None, curve=None):
+        self.points, self.curve = points, curve
+
+    def __call__(self, x):
+        return self.curve(float(x)) if self.points is None else float(degree(self.points, x))
+
+    def breaks(self, low, high):
+        """The range's ends and the places of points between them."""
+        return sorted({low, high, *(x for x, _ in self.points if low < x < high)})
+
+
 def course(shape, numbers):
-    """The degree of a shape at each number, as a function, or None where there is no such shape."""
+    """The course of a shape, or None where there is no such shape."""
     exact = corners(shape, numbers)
     if exact:
-        return lambda x: float(min(exact.rise(x), exact.fall(x)))
-    if shape == "discrete":
-        return lambda x: float(degree(pairs(numbers), x))
-    curve = CURVES.get(shape)
-    values = [float(it) for it in numbers]
-    return curve and (lambda x: curve(float(x), *values))
+        ends = ((exact.a, 0), (exact.b, 1), (exact.c, 1), (exact.d, 0))
+        return Course([it for it in ends if it[0] is not None])
+    if shape in ("points", "discrete"):
+        return Course(numbers if shape == "points" else pairs(numbers))
+    curve, values = CURVES.get(shape), [float(it) for it in numbers]
+    return curve and Course(curve=lambda x: curve(x, *values))
 
 
 def hedged(degrees, hedges):
@@ -115,7 +129,7 @@ def hedged(degrees, hedges):
         for it in reversed(hedges):
             y = HEDGES[it](y)
         return y
-    return under_hedges
+    return Course(curve=under_hedges)
 
 
 def crossing(degrees, start, end, level):
@@ -145,18 +159,43 @@ def rounded(x):
     return None if x is None else Fraction(round(x * 10000), 10000)
 
 
-def tops_of(degrees, low, width, near=1e-9):
-    """The first and the last place from low on over a width at which a course is greatest, or near to that."""
-    places = [low + k * width / STEPS for k in range(STEPS + 1)]
-    best = max(map(degrees, places))
-    tops = [x for x in places if degrees(x) > best - near]
-    return tops[0], tops[-1]
+def refined(degrees, low, high):
+    """The place from low to high at which a course that rises and then falls is greatest."""
+    for _ in range(80):
+        third = (high - low) / 3
+        low, high = (low + third, high) if degrees(low + third) < degrees(high - third) else (low, high - third)
+    return (low + high) / 2
+
+
+def edge(degrees, inside, outside, level):
+    """The place between two at which a course goes below a level."""
+    for _ in range(60):
+        middle = (inside + outside) / 2
+        inside, outside = (middle, outside) if degrees(middle) >= level else (inside, middle)
+    return inside
+
+
+def tops_of(degrees, low, high, near=1e-12):
+    """The first and the last place of a range at which a course is greatest; of a curve, or near to that."""
+    if degrees.points is not None:
+        places = {x: degree(degrees.points, x) for x in degrees.breaks(low, high)}
+        tops = [x for x, y in places.items() if y == max(places.values())]
+        return tops[0], tops[-1]
+    low, step = float(low), (float(high) - float(low)) / STEPS
+    places = [*(low + k * step for k in range(STEPS)), float(high)]
+    best = max(places, key=degrees)
+    places = sorted({*places, refined(degrees, max(low, best - step), min(places[-1], best + step))})
+    level = max(map(degrees, places)) - near
+    inside = [k for k, x in enumerate(places) if degrees(x) >= level]
+    first, last = inside[0], inside[-1]
+    return (places[0] if first == 0 else edge(degrees, places[first], places[first - 1], level),
+            places[-1] if last == len(places) - 1 else edge(degrees, places[last], places[last + 1], level))
 
 
 def fitted(degrees, low, high):
     """The trapezoid near to a course over a range; its sides and its top may reach beyond."""
     low, width = float(low), float(high) - float(low)
-    first, last = tops_of(degrees, low - width, 3 * width)
+    first, last = map(float, tops_of(degrees, low - width, low + 2 * width))
     a, b = side(degrees, first, low - 2 * width)
     d, c = side(degrees, last, low + 3 * width)
     b, c = first if b is None else min(b, last), last if c is None else max(c, first)
@@ -165,32 +204,46 @@ def fitted(degrees, low, high):
     return Trapezoid(*map(rounded, (a, b, c, d)))
 
 
+def area_of(points, start, end):
+    """The area, and its moment about 0, below a course without a point between two places."""
+    third = (end - start) / 3
+    left, right = degree(points, start + third), degree(points, end - third)
+    first, last = 2 * left - right, 2 * right - left
+    area = (first + last) / 2 * (end - start)
+    return area, (start + end) / 2 * area + (last - first) * (end - start) ** 2 / 12
+
+
 def centroid(degrees, low, high):
-    """The middle of the area below a course over a range."""
-    low, width = float(low), float(high) - float(low)
-    places = [low + (k + 0.5) * width / STEPS for k in range(STEPS)]
-    total = sum(map(degrees, places))
-    return rounded(sum(x * degrees(x) for x in places) / total) if total else None
+    """The middle of the area below a course over a range; of a curve, by small steps."""
+    if degrees.points is not None:
+        breaks = degrees.breaks(low, high)
+        parts = [area_of(degrees.points, *it) for it in zip(breaks, breaks[1:])]
+    else:
+        width = (float(high) - float(low)) / (10 * STEPS)
+        places = [float(low) + (k + 0.5) * width for k in range(10 * STEPS)]
+        parts = [(y, x * y) for x, y in ((x, degrees(x)) for x in places)]
+    area = sum(it for it, _ in parts)
+    return rounded(sum(it for _, it in parts) / area) if area else None
 
 
 def middle_of_top(degrees, low, high):
     """The middle of the places at which a course is greatest over a range."""
-    return rounded(sum(tops_of(degrees, float(low), float(high) - float(low))) / 2)
+    return rounded(sum(tops_of(degrees, low, high)) / 2)
 
 
 def first_of_top(degrees, low, high):
-    return rounded(tops_of(degrees, float(low), float(high) - float(low))[0])
+    return rounded(tops_of(degrees, low, high)[0])
 
 
 def last_of_top(degrees, low, high):
-    return rounded(tops_of(degrees, float(low), float(high) - float(low))[1])
+    return rounded(tops_of(degrees, low, high)[1])
 
 
 def end_of_rise(degrees, low, high):
     """Where a course that only rises, or only falls, comes to 1, or near to it; else the middle of its top."""
     low, high = float(low), float(high)
     is_straight = max(map(degrees, (low, high))) == 1
-    first, last = tops_of(degrees, low, high - low, 1e-9 if is_straight else 0.01)
+    first, last = map(float, tops_of(degrees, low, high, 1e-9 if is_straight else 0.01))
     if last == high and first > low:
         return rounded(first)
     return rounded(last) if first == low and last < high else middle_of_top(degrees, low, high)

@@ -1,7 +1,10 @@
 """Certificates as trees: read, written, and joined."""
+from math import prod
+
 from fuzz12 import Wrong
 
 MOST_LEAVES = 4096
+MOST_CELLS = 64
 
 
 def read_tree(text):
@@ -95,6 +98,19 @@ def joined(trees, box):
         place, byte, *parts = part
         return (place, byte, *(graft(it, inner) for it, inner in zip(parts, halves(half, place, byte))))
     return graft(first, box)
+
+
+def cut_cells(tree, box, rows):
+    """A tight tree of several outputs, with each leaf of cells cut until its box has no more cells than it may have.
+    An output alone has fewer inputs that matter. rows has for each input what its terms are at each byte."""
+    if not is_leaf(tree):
+        place, byte, *parts = tree
+        return (place, byte, *(cut_cells(*it, rows) for it in zip(parts, halves(box, place, byte))))
+    widths = [high - low + 1 if len(set(row[low:high + 1])) > 1 else 1 for row, (low, high) in zip(rows, box)]
+    if tree != "cells" or prod(widths) <= MOST_CELLS:
+        return tree
+    widest = widths.index(max(widths))
+    return cut_cells((widest + 1, (sum(box[widest]) + 1) // 2, tree, tree), box, rows)
 
 
 def count(tree):
