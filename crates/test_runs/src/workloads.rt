@@ -51,9 +51,9 @@ fn a_number_draws_a_workload(rt: HostRuntime) -> Result<(), Fail> {
 
 /// Targets, and the error and the leaves of the tight certificates that are found for them.
 static HALVED: [(u32, u32, usize); 3] = [
-    (400_000, 244_547, 256),
-    (140_000, 139_992, 920),
-    (66_177, 66_177, 1_024),
+    (400_000, 142_586, 256),
+    (140_000, 139_442, 300),
+    (66_177, 66_177, 850),
 ];
 
 #[test]
