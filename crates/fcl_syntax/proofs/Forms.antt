@@ -17,7 +17,8 @@ use Rattle.fcl_syntax.specs.Grammar.{behind, TSigned, plus, minus, bare}
 use Rattle.fcl_syntax.specs.Grammar.{signed_text, TSignedNumber, TType, TDeclaration, declaration_text}
 use Rattle.fcl_syntax.specs.Grammar.{TVariables, variables_text, var_classes, TSection, TCoordinate, TUnit, TZero}
 use Rattle.fcl_syntax.specs.Reading.{IsBare, token_at, behind_sign, sign_at, signed, signed_at, name_at, comma_at}
-use Rattle.fcl_syntax.specs.Reading.{listed_at, declaration_at, variables_at, section_at}
+use Rattle.fcl_syntax.specs.Reading.{headed_at, listed_at, declaration_at, declaration_from, variables_at}
+use Rattle.fcl_syntax.specs.Reading.{variables_from, section_at}
 use Rattle.fcl_syntax.proofs.Form.{disjoint, Form}
 use Rattle.fcl_syntax.proofs.Chains.{bind_assoc, bind_cond, bind_ret}
 use Rattle.fcl_syntax.proofs.SingleTokens as single
@@ -164,7 +165,7 @@ pub declaration_is : Reads declaration_at (via
     (seq names_form (seq (bare_form tok.Colon refl) (seq type_form (bare_form tok.Semicolon refl) refl) refl) refl)
     (λ t. record { names = t.0; type = t.1.1.0 }) (λ d. (d.names, (tt, (d.type, tt)))) declaration_text (λ d. refl)
     (λ t. refl))
-unfolding declaration_at
+unfolding headed_at declaration_from listed_at
 declaration_is = record { same = λ ts. simp (bind_assoc) }
 
 abbrev pub declaration_form : Form TDeclaration
@@ -177,7 +178,7 @@ pub variables_is : Reads variables_at (via
     (seq direction_form (many_then declaration_form (key_form key.EndVar) refl refl refl) refl)
     (λ t. record { at = t.0.0; direction = t.0.1; declarations = t.1.0; end = t.1.1 })
     (λ v. ((v.at, v.direction), (v.declarations, v.end))) variables_text (λ v. refl) (λ t. refl))
-unfolding variables_at
+unfolding headed_at variables_from
 variables_is = record { same = λ ts. simp (bind_assoc) }
 
 abbrev pub variables_form : Form TVariables

@@ -27,7 +27,7 @@ not_at-opened zero ts z h = absurd (z refl)
 not_at-opened (suc n) ts z h = let e : suc n - 1 ≡ n = omega arith in rw (h, e) refl
 
 -- a loop of parts behind a keyword, where it is next
-module _ {A : Type 0} (k : Keyword) (inner : List Token → Read A) (ts : List Token) (at : ℕ) (after : List Token)
+module _ {A : Type 0} (k : Keyword) (inner : List Token → Read A) (ts : List Token) {at : ℕ} {after : List Token}
     (found : key_at k ts ≡ Ok (at, after)) where
   read_ok : (a : A) (rest : List Token) → inner after ≡ Ok (a, rest) → behind_key_in k inner ts ≡ Ok ((at, a), rest)
   unfolding behind_key_in
@@ -38,12 +38,12 @@ module _ {A : Type 0} (k : Keyword) (inner : List Token → Read A) (ts : List T
   read_err errors.Memory h = tt
   read_err (errors.Fault f) h = rw (found, h) refl
 
-  module _ (begins : true ≡ starts (keyword_class k ∷ []) ts) (front : List (ℕ × A))
-      (total : Result (List (ℕ × A) × List Token) Fault)
+  module _ (begins : true ≡ starts (keyword_class k ∷ []) ts) {front : List (ℕ × A)}
+      {total : Result (List (ℕ × A) × List Token) Fault}
       (going : Going (keyword_class k ∷ []) (behind_key_in k inner) front ts total) where
-    pub behind_key-goes_on : (a : A) (rest : List Token) → inner after ≡ Ok (a, rest) → length rest < length ts
+    pub behind_key-goes_on : {a : A} {rest : List Token} → inner after ≡ Ok (a, rest) → length rest < length ts
         → Going (keyword_class k ∷ []) (behind_key_in k inner) (front ++ (at, a) ∷ []) rest total
-    behind_key-goes_on a rest h shorter =
+    behind_key-goes_on {a} {rest} h shorter =
         goes_on (keyword_class k ∷ []) (behind_key_in k inner) front ts (at, a) rest total (sym begins)
         (read_ok a rest h) shorter going
 
@@ -51,6 +51,6 @@ module _ {A : Type 0} (k : Keyword) (inner : List Token → Read A) (ts : List T
     behind_key-fails e h =
         fails_in (keyword_class k ∷ []) (behind_key_in k inner) front ts e total (sym begins) (read_err e h) going
 
-  pub behind_key-shorter : TakesSome (behind_key_in k inner) → (a : A) (rest : List Token) → inner after ≡ Ok (a, rest)
+  pub behind_key-shorter : TakesSome (behind_key_in k inner) → {a : A} {rest : List Token} → inner after ≡ Ok (a, rest)
       → length rest < length ts
-  behind_key-shorter some a rest h = some.shrinks ts (at, a) rest (read_ok a rest h)
+  behind_key-shorter some {a} {rest} h = some.shrinks ts (at, a) rest (read_ok a rest h)

@@ -9,7 +9,7 @@ use Rattle.fcl_syntax.specs.Grammar.{conclusion_text, TSignedNumber, TWeight, we
 use Rattle.fcl_syntax.specs.Grammar.{option_classes, TRuleItem, and_classes, or_classes, TAct, act_text, TRuleLine}
 use Rattle.fcl_syntax.specs.Grammar.{TRulebase, rulebase_text, ruleblock_classes, TEnd, TBlock, block_text}
 use Rattle.fcl_syntax.specs.Readers.{TakesSome}
-use Rattle.fcl_syntax.specs.Reading.{comma_at, conclusion_at, with_at, rule_at}
+use Rattle.fcl_syntax.specs.Reading.{comma_at, conclusion_at, headed_at, with_at, with_from, rule_at, rule_from}
 use Rattle.fcl_syntax.specs.Reading.{rule_item_at, act_at, rule_line_at, rulebase_at, block_at}
 use Rattle.fcl_syntax.proofs.Form.{disjoint, Form}
 use Rattle.fcl_syntax.proofs.Chains.{bind_assoc}
@@ -46,7 +46,7 @@ weight_value_form = refuse 15 name_classes signed_number_form refl refl
 pub with_is : Reads with_at (via
     (seq (key_form key.With) (seq weight_value_form (bare_form tok.Semicolon refl) refl) refl)
     (λ t. record { at = t.0; value = t.1.0 }) (λ w. (w.at, (w.value, tt))) weight_text (λ w. refl) (λ t. refl))
-unfolding with_at
+unfolding headed_at with_from
 with_is = record { same = λ ts. simp (bind_assoc) }
 
 abbrev pub with_form : Form TWeight
@@ -78,7 +78,7 @@ pub rule_is : Reads rule_at (via (seq (key_form key.Rule) (seq label_form (seq (
     })
     (λ r. (r.at, (r.label, (tt, (r.if_at, (r.condition, (r.then_at, (r.conclusions, r.weight)))))))) rule_text
     (λ r. refl) (λ t. refl))
-unfolding rule_at
+unfolding headed_at rule_from
 rule_is = record { same = λ ts. simp (bind_assoc) }
 
 abbrev pub rule_form : Form TRule

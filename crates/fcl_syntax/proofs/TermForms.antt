@@ -12,9 +12,9 @@ use Rattle.fcl_syntax.specs.Grammar.{TSignedNumber, TPoint, point_text, TPoints,
 use Rattle.fcl_syntax.specs.Grammar.{opening_text, TFuzzify, fuzzify_text, TSetting, setting_text, accu_classes, TAccu}
 use Rattle.fcl_syntax.specs.Grammar.{method_classes, TMethod, TSingleton, singleton_text, TFallback, fallback_text}
 use Rattle.fcl_syntax.specs.Grammar.{TDefuzzyLine, TDefuzzify, defuzzify_text, option_classes, TPart}
-use Rattle.fcl_syntax.specs.Reading.{point_at, some_points_at, term_at, opening_at, range_at, fuzzy_line_at}
-use Rattle.fcl_syntax.specs.Reading.{fuzzify_at, setting_at, singleton_at, fallback_at, defuzzy_line_at, defuzzify_at}
-use Rattle.fcl_syntax.specs.Reading.{part_at}
+use Rattle.fcl_syntax.specs.Reading.{headed_at, point_at, point_from, some_points_at, term_at, opening_at, range_at}
+use Rattle.fcl_syntax.specs.Reading.{fuzzy_line_at, fuzzify_at, setting_at, singleton_at, fallback_at, defuzzy_line_at}
+use Rattle.fcl_syntax.specs.Reading.{defuzzify_at, part_at}
 use Rattle.fcl_syntax.proofs.{Form.disjoint, Form.Form, Dead.via, Repeat.then_rep, Seq.seq}
 use Rattle.fcl_syntax.proofs.Chains.{bind_assoc, bind_cond}
 use Rattle.fcl_syntax.specs.Readers.{TakesSome}
@@ -29,7 +29,7 @@ pub point_is : Reads point_at (via (seq open_form (seq coordinate_form (seq (bar
     (seq degree_form (bare_form tok.Close refl) refl) refl) refl) refl)
     (λ t. record { open_at = t.0; x = t.1.0; degree = t.1.1.1.0 })
     (λ p. (p.open_at, (p.x, (tt, (p.degree, tt))))) point_text (λ p. refl) (λ t. refl))
-unfolding point_at
+unfolding headed_at point_from
 point_is = record { same = λ ts. simp (bind_assoc) }
 
 abbrev pub point_form : Form TPoint

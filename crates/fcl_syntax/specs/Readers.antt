@@ -53,13 +53,26 @@ Read A = Result (A × List Token) Fault
 abbrev pub expected : {A : Type 0} → List Token → Read A
 expected ts = Err (fault_at Expected (length ts))
 
-abbrev pub or_expected : {A : Type 0} → List Token → Option (A × List Token) → Read A
-or_expected ts None = expected ts
-or_expected ts (Some x) = Ok x
+-- what was left of a token that may stand: what is behind it where it was read, and all where it does not stand
+abbrev pub Tries : {A : Type 0} → Option A → List Token → List Token → Read A → Type 0
+Tries None old new read = (read ≡ expected old) × (new ≡ old)
+Tries (Some a) old new read = read ≡ Ok (a, new)
 
 abbrev pub cond_read : {A : Type 0} → Bool → A → A → A
 cond_read true a b = a
 cond_read false a b = b
+
+-- whether one stood where one may stand
+abbrev pub has_one : {X : Type 0} → Result (Option X) ParseError → Bool
+has_one (Ok None) = false
+has_one _ = true
+
+-- what was read there, and nothing where none stands
+abbrev pub GivesOne : {X A : Type 0} → (X → A) → (List Token → Read A) → Result (Option X) ParseError → List Token
+    → List Token → Type 0
+GivesOne view read (Ok None) old new = new ≡ old
+GivesOne view read (Ok (Some x)) old new = read old ≡ Ok (view x, new)
+GivesOne view read (Err e) old new = FailsAs e (read old)
 
 -- a tree, and then nothing
 abbrev pub ended : {T : Type 0} → T × List Token → Result T Fault
@@ -71,6 +84,10 @@ abbrev pub loop : {A : Type 0} → List ℕ → (List Token → Result (A × Lis
     → Result (List A × List Token) Fault
 loop first read zero ts = Ok ([], ts)
 loop first read (suc n) ts = turn (starts first ts) (read ts >>= λ a. with_front a.0 (loop first read n a.1)) ts
+
+-- as many as there are
+abbrev pub many_at : {A : Type 0} → List ℕ → (List Token → Read A) → List Token → Read (List A)
+many_at first read ts = loop first read (length ts) ts
 
 -- what is read has at least one token
 pub record TakesSome {A : Type 0} (read : List Token → Read A) : Type 0 where

@@ -23,13 +23,13 @@ use Rattle.fcl_syntax.specs.TokenClasses.{signed_classes, beyond_unit_classes, b
 use Rattle.fcl_syntax.specs.TokenClasses.{Among, comma_classes, defuzzy_line_classes, fuzzy_line_classes}
 use Rattle.fcl_syntax.specs.TokenClasses.{open_classes, opener_classes, part_classes, rule_item_classes}
 use Rattle.fcl_syntax.specs.TokenClasses.{rule_line_classes, section_classes}
-use Rattle.fcl_syntax.specs.Readers.{◌>>=◌, Read, cond_read, fault_at, starts, one_at, loop, ended}
+use Rattle.fcl_syntax.specs.Readers.{◌>>=◌, Read, cond_read, fault_at, starts, one_at, many_at, ended}
 use Rattle.fcl_syntax.specs.Grammar.{TSigned, plus, minus, bare, TSignedNumber, TType, TDeclaration, TVariables}
 use Rattle.fcl_syntax.specs.Grammar.{var_classes, TSection, TCoordinate, TUnit, TZero, TPoint, TPoints, TTerm, TRange}
-use Rattle.fcl_syntax.specs.Grammar.{TFuzzify, TSetting, accu_classes, TAccu, method_classes, TMethod, TSingleton}
-use Rattle.fcl_syntax.specs.Grammar.{TFallback, TDefuzzyLine, TDefuzzify, option_classes, TPart, TNot, neg, group, is}
-use Rattle.fcl_syntax.specs.Grammar.{TAnd, and_of, TOr, or_of, TWeight, TRule, TRuleItem, and_classes, or_classes}
-use Rattle.fcl_syntax.specs.Grammar.{TAct, TRuleLine, TRulebase, ruleblock_classes, TEnd, TBlock}
+use Rattle.fcl_syntax.specs.Grammar.{TFuzzify, TSetting, accu_classes, TAccu, method_classes, TSingleton, TFallback}
+use Rattle.fcl_syntax.specs.Grammar.{TDefuzzyLine, TDefuzzify, option_classes, TPart, TNot, neg, group, is, TAnd}
+use Rattle.fcl_syntax.specs.Grammar.{and_of, TOr, or_of, TWeight, TRule, TRuleItem, and_classes, or_classes, TAct}
+use Rattle.fcl_syntax.specs.Grammar.{TRuleLine, TRulebase, ruleblock_classes, TEnd, TBlock}
 use Rattle.fcl_syntax.specs.Conditions.{nots_of, ands_of}
 
 abbrev pub unit : Unit {0}
@@ -130,15 +130,9 @@ unit_want (tok.Number at amount.Zero w) = Some (record { at = at; is_one = false
 unit_want (tok.Number at amount.One w) = Some (record { at = at; is_one = true; whole = w })
 unit_want _ = None
 
-abbrev pub unit_number_at : List Token → Read UnitNumber
-unit_number_at = token_at unit_want
-
 abbrev pub zero_want : Token → Option ZeroNumber
 zero_want (tok.Number at amount.Zero w) = Some (record { at = at; whole = w })
 zero_want _ = None
-
-abbrev pub zero_number_at : List Token → Read ZeroNumber
-zero_number_at = token_at zero_want
 
 abbrev pub label_want : Token → Option Label
 label_want (tok.Number at n true) = Some (record { at = at; amount = n })
@@ -152,8 +146,11 @@ direction_want (tok.Word at key.VarInput) = Some (at, Input)
 direction_want (tok.Word at key.VarOutput) = Some (at, Output)
 direction_want _ = None
 
-abbrev pub direction_at : List Token → Read (ℕ × Direction)
-direction_at = token_at direction_want
+-- one, and by what it is what is behind it
+unfoldable pub headed_at : {A B : Type 0} → (List Token → Read A) → (A → List Token → Read B) → List Token → Read B
+headed_at first inner ts = do
+  x ← first ts
+  inner x.0 x.1
 
 -- ---- numbers
 
@@ -184,17 +181,14 @@ signed_at f g ts = do
 abbrev pub signed_number_at : List Token → Read TSignedNumber
 signed_number_at = signed_at number_at number_at
 
-abbrev pub coordinate_number_at : List Token → Read TCoordinate
-coordinate_number_at = refusing name_classes 10 number_at
-
 abbrev pub coordinate_at : List Token → Read (TSigned TCoordinate TCoordinate)
-coordinate_at = signed_at coordinate_number_at coordinate_number_at
+coordinate_at = signed_at (refusing name_classes 10 number_at) (refusing name_classes 10 number_at)
 
 abbrev pub unit_at : List Token → Read TUnit
-unit_at = refusing name_classes 10 (refusing beyond_unit_classes 11 unit_number_at)
+unit_at = refusing name_classes 10 (refusing beyond_unit_classes 11 (token_at unit_want))
 
 abbrev pub zero_at : List Token → Read TZero
-zero_at = refusing name_classes 10 (refusing beyond_zero_classes 11 zero_number_at)
+zero_at = refusing name_classes 10 (refusing beyond_zero_classes 11 (token_at zero_want))
 
 abbrev pub degree_at : List Token → Read (TSigned TUnit TZero)
 degree_at = signed_at unit_at zero_at
@@ -211,55 +205,53 @@ comma_at item ts = do
 unfoldable pub listed_at : {A : Type 0} → (List Token → Read A) → List Token → Read (A × List A)
 listed_at item ts = do
   a ← item ts
-  more ← loop comma_classes (comma_at item) (length a.1) a.1
+  more ← many_at comma_classes (comma_at item) a.1
   Ok ((a.0, more.0), more.1)
-
-abbrev pub names_at : List Token → Read (Name × List Name)
-names_at = listed_at name_at
 
 -- REAL, by its offset
 abbrev pub type_at : List Token → Read TType
 type_at = refusing other_type_classes 5 (word_at word.Real)
 
-unfoldable pub declaration_at : List Token → Read TDeclaration
-declaration_at ts = do
-  n ← names_at ts
-  c ← expect_at tok.Colon n.1
+unfoldable pub declaration_from : Name → List Token → Read TDeclaration
+declaration_from first ts = do
+  more ← many_at comma_classes (comma_at name_at) ts
+  c ← expect_at tok.Colon more.1
   t ← type_at c.1
   s ← expect_at tok.Semicolon t.1
-  Ok (record { names = n.0; type = t.0 }, s.1)
+  Ok (record { names = (first, more.0); type = t.0 }, s.1)
 
-abbrev pub declarations_at : List Token → Read (List TDeclaration)
-declarations_at ts = loop name_classes declaration_at (length ts) ts
+abbrev pub declaration_at : List Token → Read TDeclaration
+declaration_at = headed_at name_at declaration_from
 
-unfoldable pub variables_at : List Token → Read TVariables
-variables_at ts = do
-  v ← direction_at ts
-  ds ← declarations_at v.1
+unfoldable pub variables_from : ℕ → Direction → List Token → Read TVariables
+variables_from at direction ts = do
+  ds ← many_at name_classes declaration_at ts
   e ← key_at key.EndVar ds.1
-  Ok (record { at = v.0.0; direction = v.0.1; declarations = ds.0; end = e.0 }, e.1)
+  Ok (record { at = at; direction = direction; declarations = ds.0; end = e.0 }, e.1)
+
+abbrev pub variables_at : List Token → Read TVariables
+variables_at = headed_at (token_at direction_want) (λ v. variables_from v.0 v.1)
 
 abbrev pub section_at : List Token → Read TSection
 section_at = refusing var_classes 6 variables_at
 
-abbrev pub sections_at : List Token → Read (List TSection)
-sections_at ts = loop section_classes section_at (length ts) ts
-
 -- ---- terms of an input, and ranges
 
-unfoldable pub point_at : List Token → Read TPoint
-point_at ts = do
-  o ← open_at ts
-  x ← coordinate_at o.1
+unfoldable pub point_from : ℕ → List Token → Read TPoint
+point_from at ts = do
+  x ← coordinate_at ts
   c ← expect_at tok.Comma x.1
   d ← degree_at c.1
   e ← expect_at tok.Close d.1
-  Ok (record { open_at = o.0; x = x.0; degree = d.0 }, e.1)
+  Ok (record { open_at = at; x = x.0; degree = d.0 }, e.1)
+
+abbrev pub point_at : List Token → Read TPoint
+point_at = headed_at open_at point_from
 
 unfoldable pub some_points_at : List Token → Read (TPoint × List TPoint)
 some_points_at ts = do
   p ← point_at ts
-  more ← loop open_classes point_at (length p.1) p.1
+  more ← many_at open_classes point_at p.1
   Ok ((p.0, more.0), more.1)
 
 abbrev pub points_at : List Token → Read TPoints
@@ -296,45 +288,33 @@ range_at ts = do
 abbrev pub fuzzy_line_at : List Token → Read (TTerm ⊎ TRange)
 fuzzy_line_at = either_at (keyword_class key.Term ∷ []) term_at range_at
 
-abbrev pub fuzzy_lines_at : List Token → Read (List (TTerm ⊎ TRange))
-fuzzy_lines_at ts = loop fuzzy_line_classes fuzzy_line_at (length ts) ts
-
 unfoldable pub fuzzify_at : List Token → Read TFuzzify
 fuzzify_at ts = do
   f ← key_at key.Fuzzify ts
   n ← name_at f.1
-  ls ← fuzzy_lines_at n.1
+  ls ← many_at fuzzy_line_classes fuzzy_line_at n.1
   e ← key_at key.EndFuzzify ls.1
   Ok (record { at = f.0; name = n.0; lines = ls.0; end = e.0 }, e.1)
 
 -- ---- terms of an output
 
-abbrev pub choice_at : Word → (classes : List ℕ) → ℕ → List Token → Read (Among classes ⊎ ℕ)
-choice_at w classes code = refusing classes code (word_at w)
-
 unfoldable pub setting_at : Keyword → Word → (classes : List ℕ) → ℕ → List Token → Read (TSetting classes)
 setting_at k w classes code ts = do
   x ← key_at k ts
   c ← expect_at tok.Colon x.1
-  y ← choice_at w classes code c.1
+  y ← refusing classes code (word_at w) c.1
   s ← expect_at tok.Semicolon y.1
   Ok (record { at = x.0; word = y.0 }, s.1)
 
 abbrev pub accu_at : List Token → Read TAccu
 accu_at = setting_at key.Accu word.Max accu_classes 4
 
-abbrev pub method_at : List Token → Read TMethod
-method_at = setting_at key.Method word.Cogs method_classes 1
-
-abbrev pub singleton_value_at : List Token → Read (Among open_classes ⊎ TSignedNumber)
-singleton_value_at = refusing open_classes 13 signed_number_at
-
 unfoldable pub singleton_at : List Token → Read TSingleton
 singleton_at ts = do
   t ← key_at key.Term ts
   n ← name_at t.1
   a ← expect_at tok.Assign n.1
-  v ← singleton_value_at a.1
+  v ← refusing open_classes 13 signed_number_at a.1
   s ← expect_at tok.Semicolon v.1
   Ok (record { at = t.0; name = n.0; value = v.0 }, s.1)
 
@@ -351,25 +331,19 @@ fallback_at ts = do
 
 abbrev pub defuzzy_line_at : List Token → Read TDefuzzyLine
 defuzzy_line_at = either_at (keyword_class key.Term ∷ []) singleton_at (either_at (keyword_class key.Accu ∷ []) accu_at
-    (either_at (keyword_class key.Method ∷ []) method_at
+    (either_at (keyword_class key.Method ∷ []) (setting_at key.Method word.Cogs method_classes 1)
     (either_at (keyword_class key.Default ∷ []) fallback_at range_at)))
-
-abbrev pub defuzzy_lines_at : List Token → Read (List TDefuzzyLine)
-defuzzy_lines_at ts = loop defuzzy_line_classes defuzzy_line_at (length ts) ts
 
 unfoldable pub defuzzify_at : List Token → Read TDefuzzify
 defuzzify_at ts = do
   d ← key_at key.Defuzzify ts
   n ← name_at d.1
-  ls ← defuzzy_lines_at n.1
+  ls ← many_at defuzzy_line_classes defuzzy_line_at n.1
   e ← key_at key.EndDefuzzify ls.1
   Ok (record { at = d.0; name = n.0; lines = ls.0; end = e.0 }, e.1)
 
 abbrev pub part_at : List Token → Read TPart
 part_at = refusing option_classes 7 (either_at (keyword_class key.Fuzzify ∷ []) fuzzify_at defuzzify_at)
-
-abbrev pub parts_at : List Token → Read (List TPart)
-parts_at ts = loop part_classes part_at (length ts) ts
 
 -- ---- conditions
 
@@ -395,12 +369,15 @@ behind_key_in k inner ts = do
   t ← inner x.1
   Ok ((x.0, t.0), t.1)
 
+abbrev pub behind_keys_in : {A : Type 0} → Keyword → (List Token → Read A) → List Token → Read (List (ℕ × A))
+behind_keys_in k inner = many_at (keyword_class k ∷ []) (behind_key_in k inner)
+
 -- one, and more of them, each behind the keyword
 unfoldable pub joined_in : {A W : Type 0} → Keyword → (List Token → Read A) → (A → List (ℕ × A) → W) → List Token
     → Read W
 joined_in k inner whole ts = do
   t ← inner ts
-  more ← loop (keyword_class k ∷ []) (behind_key_in k inner) (length t.1) t.1
+  more ← behind_keys_in k inner t.1
   Ok (whole t.0 more.0, more.1)
 
 abbrev pub and_in : (List Token → Read TNot) → List Token → Read TAnd
@@ -442,23 +419,21 @@ conclusion_at ts = do
 abbrev pub conclusions_at : List Token → Read (Conclusion × List Conclusion)
 conclusions_at = listed_at conclusion_at
 
-abbrev pub weight_value_at : List Token → Read (Among name_classes ⊎ TSignedNumber)
-weight_value_at = refusing name_classes 15 signed_number_at
-
-unfoldable pub with_at : List Token → Read TWeight
-with_at ts = do
-  w ← key_at key.With ts
-  v ← weight_value_at w.1
+unfoldable pub with_from : ℕ → List Token → Read TWeight
+with_from at ts = do
+  v ← refusing name_classes 15 signed_number_at ts
   s ← expect_at tok.Semicolon v.1
-  Ok (record { at = w.0; value = v.0 }, s.1)
+  Ok (record { at = at; value = v.0 }, s.1)
+
+abbrev pub with_at : List Token → Read TWeight
+with_at = headed_at (key_at key.With) with_from
 
 abbrev pub weight_at : List Token → Read (TWeight ⊎ Unit {0})
 weight_at = either_at (keyword_class key.With ∷ []) with_at (expect_at tok.Semicolon)
 
-unfoldable pub rule_at : List Token → Read TRule
-rule_at ts = do
-  r ← key_at key.Rule ts
-  n ← label_at r.1
+unfoldable pub rule_from : ℕ → List Token → Read TRule
+rule_from at ts = do
+  n ← label_at ts
   c ← expect_at tok.Colon n.1
   i ← key_at key.If c.1
   o ← or_in (not_at 64) i.1
@@ -466,15 +441,15 @@ rule_at ts = do
   cs ← conclusions_at t.1
   w ← weight_at cs.1
   Ok (
-    record { at = r.0; label = n.0; if_at = i.0; condition = o.0; then_at = t.0; conclusions = cs.0; weight = w.0 },
+    record { at = at; label = n.0; if_at = i.0; condition = o.0; then_at = t.0; conclusions = cs.0; weight = w.0 },
     w.1,
   )
 
+abbrev pub rule_at : List Token → Read TRule
+rule_at = headed_at (key_at key.Rule) rule_from
+
 abbrev pub rule_item_at : List Token → Read TRuleItem
 rule_item_at = refusing option_classes 7 rule_at
-
-abbrev pub rules_at : List Token → Read (List TRuleItem)
-rules_at ts = loop rule_item_classes rule_item_at (length ts) ts
 
 abbrev pub act_word_at : List Token → Read (ℕ ⊎ ℕ)
 act_word_at = either_at (word_class word.Min ∷ []) (word_at word.Min) (word_at word.Prod)
@@ -492,15 +467,12 @@ rule_line_at = either_at (keyword_class key.And ∷ []) (setting_at key.And word
     (either_at (keyword_class key.Or ∷ []) (setting_at key.Or word.Max or_classes 3)
     (either_at (keyword_class key.Act ∷ []) act_at accu_at))
 
-abbrev pub rule_lines_at : List Token → Read (List TRuleLine)
-rule_lines_at ts = loop rule_line_classes rule_line_at (length ts) ts
-
 unfoldable pub rulebase_at : List Token → Read TRulebase
 rulebase_at ts = do
   b ← key_at key.Ruleblock ts
   n ← name_at b.1
-  ls ← rule_lines_at n.1
-  rs ← rules_at ls.1
+  ls ← many_at rule_line_classes rule_line_at n.1
+  rs ← many_at rule_item_classes rule_item_at ls.1
   e ← key_at key.EndRuleblock rs.1
   Ok (record { at = b.0; name = n.0; lines = ls.0; rules = rs.0; end = e.0 }, e.1)
 
@@ -511,8 +483,8 @@ unfoldable pub block_at : List Token → Read TBlock
 block_at ts = do
   b ← key_at key.FunctionBlock ts
   n ← name_at b.1
-  vs ← sections_at n.1
-  ps ← parts_at vs.1
+  vs ← many_at section_classes section_at n.1
+  ps ← many_at part_classes part_at vs.1
   rs ← rulebase_at ps.1
   e ← end_at rs.1
   Ok (record { at = b.0; name = n.0; variables = vs.0; parts = ps.0; rules = rs.0; end = e.0 }, e.1)

@@ -1,78 +1,65 @@
-//! Conditions, with a bound on what is open at once.
+//! Conditions, with a bound on the number of "(" and NOT that are open at once.
 
-ghost use Rattle.std.specs.Prelude.{◌≡◌, [], ◌∷◌, length};
-ghost use Rattle.fcl_syntax.specs.TokenClasses.{follow_classes, keyword_class, opener_classes};
-ghost use Rattle.fcl_syntax.specs.Readers.{Gives, loop, starts};
-ghost use Rattle.fcl_syntax.specs.Reading.{not_word_at, operand_at, not_at, opened_in, behind_key_in, and_in, or_in};
+ghost use Rattle.std.specs.Prelude.{◌≡◌};
+ghost use Rattle.fcl_syntax.specs.TokenClasses.{follow_classes, opener_classes};
+ghost use Rattle.fcl_syntax.specs.Readers.{Gives, starts};
+ghost use Rattle.fcl_syntax.specs.Reading.{not_word_at, operand_at, not_at, opened_in, behind_keys_in, and_in, or_in};
 
 use crate::fault::{Fault, Kind, ParseError};
-use crate::single::{
-    expect, fault, is_keyword, is_next, is_open, keyword, name, open, optional_keyword,
-};
+use crate::single::{expect, fault, keyword, name, open, optional_keyword};
 use crate::tree::{And, Node, Not, Operand, Or};
 use fcl_tokens::{Keyword, Token};
 use std::alloc::Global;
-
-// [NOT]
-#[tactic(auto, unfolding(crate::specs::Reading::not_word_at))]
-fn not_word(tokens: &[Token]) -> Result<(Option<u32>, &[Token]), ParseError>
-    ensures { Gives (λ x. (x.0, x.1.now)) result (not_word_at tokens.now) }
-{
-    match optional_keyword(tokens, Keyword::Not) {
-        Some((at, rest)) => Ok((Some(at), rest)),
-        None => Ok((None, tokens)),
-    }
-}
 
 // Whether what may follow an operand is next.
 fn is_behind_operand(tokens: &[Token]) -> bool
     ensures { result ≡ starts follow_classes tokens.now }
 {
-    is_keyword(tokens, Keyword::And)
-        || is_keyword(tokens, Keyword::Or)
-        || is_keyword(tokens, Keyword::Then)
-        || is_next(tokens, Token::Close)
+    matches!(
+        tokens,
+        [
+            Token::Word(_, Keyword::And | Keyword::Or | Keyword::Then) | Token::Close,
+            ..
+        ]
+    )
 }
 
 // name IS [NOT] name, unless a condition's operand ends behind the first name.
-#[tactic(auto, unfolding(crate::specs::Reading::operand_at))]
-fn operand(tokens: &[Token]) -> Result<(Not, &[Token]), ParseError>
-    ensures { Gives (λ x. (x.0, x.1.now)) result (operand_at tokens.now) }
+#[tactic(auto, unfolding(crate::specs::Reading::operand_at, crate::specs::Reading::not_word_at))]
+fn operand(tokens: &mut &[Token]) -> Result<Not, ParseError>
+    ensures { Gives (λ x. (x, tokens.new.now)) result (operand_at tokens.old.now) }
 {
-    let (variable, rest) = name(tokens)?;
-    if is_behind_operand(rest) {
+    let variable = name(tokens)?;
+    if is_behind_operand(tokens) {
         return Err(ParseError::Fault(Fault {
             kind: Kind::Unsupported(12),
-            left: rest.len() + 1,
+            left: tokens.len() + 1,
         }));
     }
-    let (is_at, rest) = keyword(rest, Keyword::Is)?;
-    let (not_at, rest) = not_word(rest)?;
-    let (term, rest) = name(rest)?;
-    Ok((
-        Not {
-            node: Node::Is(Operand {
-                variable,
-                is_at,
-                not_at,
-                term,
-            }),
-        },
-        rest,
-    ))
+    let is_at = keyword(tokens, Keyword::Is)?;
+    let not_at = optional_keyword(tokens, Keyword::Not);
+    let term = name(tokens)?;
+    Ok(Not {
+        node: Node::Is(Operand {
+            variable,
+            is_at,
+            not_at,
+            term,
+        }),
+    })
 }
 
 // Whether "(" or NOT is next.
 fn is_opener(tokens: &[Token]) -> bool
     ensures { result ≡ starts opener_classes tokens.now }
 {
-    is_keyword(tokens, Keyword::Not) || is_open(tokens)
+    matches!(tokens, [Token::Word(_, Keyword::Not) | Token::Open(_), ..])
 }
 
 // A part of a condition, where `room` more "(" and NOT may be open.
 #[cycle(condition)]
-fn not(alloc: Global, room: u8, tokens: &[Token]) -> Result<(Not, &[Token]), ParseError>
-    ensures { Gives (λ x. (x.0, x.1.now)) result (not_at room tokens.now) }
+fn not(alloc: Global, room: u8, tokens: &mut &[Token]) -> Result<Not, ParseError>
+    ensures { Gives (λ x. (x, tokens.new.now)) result (not_at room tokens.old.now) }
 {
     if !is_opener(tokens) {
         return operand(tokens);
@@ -85,87 +72,71 @@ fn not(alloc: Global, room: u8, tokens: &[Token]) -> Result<(Not, &[Token]), Par
 
 #[cycle(condition)]
 #[tactic(auto, unfolding(crate::specs::Reading::opened_in, crate::specs::Reading::neg_in, crate::specs::Reading::group_in))]
-fn opened(alloc: Global, room: u8, tokens: &[Token]) -> Result<(Not, &[Token]), ParseError>
-    ensures { Gives (λ x. (x.0, x.1.now)) result (opened_in (not_at room) tokens.now) }
+fn opened(alloc: Global, room: u8, tokens: &mut &[Token]) -> Result<Not, ParseError>
+    ensures { Gives (λ x. (x, tokens.new.now)) result (opened_in (not_at room) tokens.old.now) }
 {
-    if let Some((at, rest)) = optional_keyword(tokens, Keyword::Not) {
-        let (part, rest) = not(alloc, room, rest)?;
+    if let Some(at) = optional_keyword(tokens, Keyword::Not) {
+        let part = not(alloc, room, tokens)?;
         let part = Box::new(alloc, part)?;
-        return Ok((
-            Not {
-                node: Node::Not(at, part),
-            },
-            rest,
-        ));
+        return Ok(Not {
+            node: Node::Not(at, part),
+        });
     }
-    let (at, rest) = open(tokens)?;
-    let (group, rest) = or(alloc, room, rest)?;
-    let rest = expect(rest, Token::Close)?;
+    let at = open(tokens)?;
+    let group = or(alloc, room, tokens)?;
+    expect(tokens, Token::Close)?;
     let group = Box::new(alloc, group)?;
-    Ok((
-        Not {
-            node: Node::Group(at, group),
-        },
-        rest,
-    ))
+    Ok(Not {
+        node: Node::Group(at, group),
+    })
 }
 
 #[cycle(condition)]
-fn conjuncts(
-    alloc: Global,
-    room: u8,
-    tokens: &[Token],
-) -> Result<(Vec<(u32, Not)>, &[Token]), ParseError>
-    ensures { Gives (λ x. (x.0.items, x.1.now)) result
-        (loop (keyword_class Keyword.And ∷ []) (behind_key_in Keyword.And (not_at room)) (length tokens.now) tokens.now) }
+fn conjuncts(alloc: Global, room: u8, tokens: &mut &[Token]) -> Result<Vec<(u32, Not)>, ParseError>
+    ensures { Gives (λ x. (x.items, tokens.new.now)) result (behind_keys_in Keyword.And (not_at room) tokens.old.now) }
 {
     let mut more = Vec::new(alloc);
-    let mut rest = tokens;
-    'each: while let Some((at, after)) = optional_keyword(rest, Keyword::And) {
-        let (part, after) = not(alloc, room, after)?;
+    'each: while let Some(at) = optional_keyword(tokens, Keyword::And) {
+        let part = not(alloc, room, tokens)?;
         more.push((at, part))?;
-        rest = after;
     }
-    Ok((more, rest))
+    Ok(more)
 }
 
 #[cycle(condition)]
 #[tactic(auto, unfolding(crate::specs::Reading::joined_in))]
-fn and(alloc: Global, room: u8, tokens: &[Token]) -> Result<(And, &[Token]), ParseError>
-    ensures { Gives (λ x. (x.0, x.1.now)) result (and_in (not_at room) tokens.now) }
+fn and(alloc: Global, room: u8, tokens: &mut &[Token]) -> Result<And, ParseError>
+    ensures { Gives (λ x. (x, tokens.new.now)) result (and_in (not_at room) tokens.old.now) }
 {
-    let (first, rest) = not(alloc, room, tokens)?;
-    let (more, rest) = conjuncts(alloc, room, rest)?;
-    Ok((And { first, more }, rest))
+    let first = not(alloc, room, tokens)?;
+    let more = conjuncts(alloc, room, tokens)?;
+    Ok(And { first, more })
 }
 
 #[cycle(condition)]
 fn alternatives(
     alloc: Global,
     room: u8,
-    tokens: &[Token],
-) -> Result<(Vec<(u32, And)>, &[Token]), ParseError>
-    ensures { Gives (λ x. (x.0.items, x.1.now)) result
-        (loop (keyword_class Keyword.Or ∷ []) (behind_key_in Keyword.Or (and_in (not_at room))) (length tokens.now)
-        tokens.now) }
+    tokens: &mut &[Token],
+) -> Result<Vec<(u32, And)>, ParseError>
+    ensures { Gives (λ x. (x.items, tokens.new.now)) result
+        (behind_keys_in Keyword.Or (and_in (not_at room)) tokens.old.now) }
 {
     let mut more = Vec::new(alloc);
-    let mut rest = tokens;
-    'each: while let Some((at, after)) = optional_keyword(rest, Keyword::Or) {
-        let (part, after) = and(alloc, room, after)?;
+    'each: while let Some(at) = optional_keyword(tokens, Keyword::Or) {
+        let part = and(alloc, room, tokens)?;
         more.push((at, part))?;
-        rest = after;
     }
-    Ok((more, rest))
+    Ok(more)
 }
 
-/// A condition, where `room` more "(" and NOT may be open.
+/// A condition in which `room` more "(" and NOT may be open.
 #[cycle(condition)]
 #[tactic(auto, unfolding(crate::specs::Reading::joined_in))]
-pub fn or(alloc: Global, room: u8, tokens: &[Token]) -> Result<(Or, &[Token]), ParseError>
-    ensures { Gives (λ x. (x.0, x.1.now)) result (or_in (not_at room) tokens.now) }
+pub fn or(alloc: Global, room: u8, tokens: &mut &[Token]) -> Result<Or, ParseError>
+    ensures { Gives (λ x. (x, tokens.new.now)) result (or_in (not_at room) tokens.old.now) }
 {
-    let (first, rest) = and(alloc, room, tokens)?;
-    let (more, rest) = alternatives(alloc, room, rest)?;
-    Ok((Or { first, more }, rest))
+    let first = and(alloc, room, tokens)?;
+    let more = alternatives(alloc, room, tokens)?;
+    Ok(Or { first, more })
 }

@@ -1,11 +1,11 @@
-//! Laws of the trees that texts spell, each the contract of a function that does nothing but call a law
-//! that it rests on.
+//! Laws of the trees that texts spell. Each is the contract of a function that only calls a law on which
+//! it depends.
 ghost use Rattle.fcl_syntax.specs.{Offsets.OffsetsAscend, Scale.NumbersInScale};
 ghost use Rattle.fcl_syntax.specs.Readings.{EachTextIsRead, FirstFaultsAreOne, TreesAreOne};
 
 use fcl_tokens::laws::{cuts_are_tokens, tokens_ascend, tokens_in_scale};
 
-/// No number in the tree of a text is beyond 100000, since a number token that is has a fault.
+/// No number in the tree of a text is beyond 100000, since a number token beyond it is a fault.
 pub fn numbers_in_scale()
     ensures { NumbersInScale }
 {
@@ -20,7 +20,7 @@ pub fn offsets_ascend()
     tokens_ascend()
 }
 
-/// No text is left out: one of at most 1048576 bytes spells a tree, or it has a first fault.
+/// Every text of at most 1048576 bytes spells a tree or has a first fault.
 pub fn each_text_is_read()
     ensures { EachTextIsRead }
 {
@@ -34,7 +34,7 @@ pub fn trees_are_one()
     cuts_are_tokens()
 }
 
-/// A text has at most one first fault, and none where it spells a tree.
+/// A text has at most one first fault, and none if it spells a tree.
 pub fn first_faults_are_one()
     ensures { FirstFaultsAreOne }
 {

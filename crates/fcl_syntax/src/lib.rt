@@ -1,9 +1,8 @@
-//! The syntax of the Fuzzy Control Language: tokens to trees, and so texts to trees.
+//! The syntax of the Fuzzy Control Language: from tokens to trees, and so from texts to trees.
 //!
-//! [`parse`] reads the text of one function block, as the grammar of IEC 61131-7 has it in the
-//! profile of `docs/LANGUAGE.md`, over the tokens that `fcl_tokens` cuts it into. It answers a
-//! [`Tree`] exactly where the text spells it, and otherwise exactly the text's first
-//! [`SyntaxFault`] with its place.
+//! [`parse`] reads the text of one function block, by the grammar of IEC 61131-7 in the profile of
+//! `docs/LANGUAGE.md`, over the tokens into which `fcl_tokens` cuts it. It returns the [`Tree`] that
+//! the text spells, or the text's first [`SyntaxFault`] with its offset.
 #![tactic(auto)]
 
 mod block;

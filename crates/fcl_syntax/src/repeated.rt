@@ -1,49 +1,42 @@
-//! What the grammar repeats.
+//! Parts of the grammar that may be repeated.
 
-ghost use Rattle.std.specs.Prelude.{◌≡◌, ℕ, List as Items, length, map};
+ghost use Rattle.std.specs.Prelude.{◌≡◌, ℕ, List as Items, map};
 ghost use Rattle.fcl_tokens.specs.declared.token.Token.{Token};
-ghost use Rattle.fcl_syntax.specs.Readers.{Read, Gives, TakesSome, loop, starts};
+ghost use Rattle.fcl_syntax.specs.Readers.{Read, Gives, GivesOne, TakesSome, has_one, many_at, starts};
 
 use crate::fault::ParseError;
 use fcl_tokens::Token;
 use fz_list::List;
 use std::alloc::Global;
 
-/// A part of the grammar that stands any number of times, one behind the other.
+/// A part of the grammar that may occur any number of times in a row.
 pub trait Repeated: Sized + Drop {
-    /// Its trees.
+    /// The type of its trees.
     ghost Tree: { Type 0 };
 
-    /// The classes of tokens that one begins with.
+    /// The classes of tokens with which one begins.
     ghost first: { Items ℕ };
 
-    /// The reading of one.
+    /// The reader of one.
     ghost read_at: { Items Token → Read Tree };
 
     /// The tree of one.
     ghost view: { Self → Tree };
 
-    /// Whether one is next.
-    fn is_next(tokens: &[Token]) -> bool
-        ensures { result ≡ starts first tokens.now };
-
-    /// The next one, and what is behind it.
-    fn next(alloc: Global, tokens: &[Token]) -> Result<(Self, &[Token]), ParseError>
-        ensures { Gives (λ x. (view x.0, x.1.now)) result (read_at tokens.now) };
+    /// Reads the next one, if there is one.
+    fn next(alloc: Global, tokens: &mut &[Token]) -> Result<Option<Self>, ParseError>
+        ensures next { starts first tokens.old.now ≡ has_one result }
+        ensures read { GivesOne view read_at result tokens.old.now tokens.new.now };
 }
 
-/// As many as there are, and what is behind them. One has at least one token.
-pub fn many<R: Repeated>(alloc: Global, tokens: &[Token]) -> Result<(List<R>, &[Token]), ParseError>
+/// Reads as many as there are. Each has at least one token.
+pub fn many<R: Repeated>(alloc: Global, tokens: &mut &[Token]) -> Result<List<R>, ParseError>
     requires { TakesSome R.read_at }
-    ensures { Gives (λ x. (map R.view x.0, x.1.now)) result
-        (loop R.first R.read_at (length tokens.now) tokens.now) }
+    ensures { Gives (λ x. (map R.view x, tokens.new.now)) result (many_at R.first R.read_at tokens.old.now) }
 {
     let mut items = Vec::new(alloc);
-    let mut rest = tokens;
-    'each: while R::is_next(rest) {
-        let (next, after) = R::next(alloc, rest)?;
+    'each: while let Some(next) = R::next(alloc, tokens)? {
         items.push(next)?;
-        rest = after;
     }
-    Ok((List::new(items), rest))
+    Ok(List::new(items))
 }

@@ -1,16 +1,15 @@
-//! Single tokens: whether one is next, and what is behind it.
+//! Single tokens: which is next, and reading it. After a fault it is unspecified how many tokens are left.
 
-ghost use Rattle.std.specs.Prelude.{◌≡◌, ◌==◌, [], ◌∷◌, length, is_some, option_map};
+ghost use Rattle.std.specs.Prelude.{◌≡◌, ◌==◌, [], ◌∷◌, length, is_some};
 ghost use Rattle.fcl_syntax.specs.TokenClasses.{mem, class_of, keyword_class, word_class, name_classes};
-ghost use Rattle.fcl_syntax.specs.TokenClasses.{number_classes, signed_classes, other_type_classes};
-ghost use Rattle.fcl_syntax.specs.TokenClasses.{beyond_unit_classes, beyond_zero_classes, open_classes};
-ghost use Rattle.fcl_syntax.specs.Readers.{Gives, or_expected, starts};
-ghost use Rattle.fcl_syntax.specs.Reading.{IsBare, unit, expect_at, key_at, word_at, open_at, name_at, number_at};
-ghost use Rattle.fcl_syntax.specs.Reading.{unit_number_at, zero_number_at, label_at, direction_at};
+ghost use Rattle.fcl_syntax.specs.TokenClasses.{signed_classes, open_classes};
+ghost use Rattle.fcl_syntax.specs.Readers.{Gives, Tries, starts};
+ghost use Rattle.fcl_syntax.specs.Reading.{IsBare, unit, some_unit, expect_at, key_at, word_at, open_at, name_at};
+ghost use Rattle.fcl_syntax.specs.Reading.{number_at, label_at};
 
 use crate::fault::{Fault, Kind, ParseError};
-use crate::tree::{Direction, Label, Name, Number, UnitNumber, ZeroNumber};
-use fcl_tokens::{Amount, Keyword, Token, Word};
+use crate::tree::{Label, Name, Number};
+use fcl_tokens::{Keyword, Token, Word};
 
 pub fn fault(kind: Kind, tokens: &[Token]) -> ParseError
     ensures { result ≡ ParseError.Fault (record { kind = kind; left = length tokens.now }) }
@@ -21,35 +20,30 @@ pub fn fault(kind: Kind, tokens: &[Token]) -> ParseError
     })
 }
 
-/// What is behind this token, where it is next.
+/// Reads this token if it is next, and returns whether it was.
 #[tactic(auto, unfolding(crate::specs::Reading::token_at))]
-pub fn optional(tokens: &[Token], token: Token) -> Option<&[Token]>
+pub fn optional(tokens: &mut &[Token], token: Token) -> bool
     requires { IsBare token }
-    ensures next { is_some result ≡ starts (class_of token ∷ []) tokens.now }
-    ensures read { expect_at token tokens.now ≡
-        or_expected tokens.now (option_map (λ rest. (unit, rest.now)) result) }
+    ensures next { result ≡ starts (class_of token ∷ []) tokens.old.now }
+    ensures read { Tries (some_unit result) tokens.old.now tokens.new.now (expect_at token tokens.old.now) }
 {
-    match tokens {
-        [first, rest @ ..] if *first == token => Some(rest),
-        _ => None,
+    match *tokens {
+        [first, rest @ ..] if *first == token => {
+            *tokens = rest;
+            true
+        }
+        _ => false,
     }
 }
 
-pub fn expect(tokens: &[Token], token: Token) -> Result<&[Token], ParseError>
+pub fn expect(tokens: &mut &[Token], token: Token) -> Result<(), ParseError>
     requires { IsBare token }
-    ensures { Gives (λ x. (unit, x.now)) result (expect_at token tokens.now) }
+    ensures { Gives (λ _. (unit, tokens.new.now)) result (expect_at token tokens.old.now) }
 {
-    match optional(tokens, token) {
-        Some(rest) => Ok(rest),
-        None => Err(fault(Kind::Expected, tokens)),
+    if optional(tokens, token) {
+        return Ok(());
     }
-}
-
-pub fn is_next(tokens: &[Token], token: Token) -> bool
-    requires { IsBare token }
-    ensures { result ≡ starts (class_of token ∷ []) tokens.now }
-{
-    optional(tokens, token).is_some()
+    Err(fault(Kind::Expected, tokens))
 }
 
 fn same_keyword(word: Keyword, wanted: Keyword) -> bool
@@ -59,40 +53,39 @@ fn same_keyword(word: Keyword, wanted: Keyword) -> bool
     word == wanted
 }
 
-/// The place of this keyword and what is behind it, where it is next.
+/// Reads this keyword if it is next, and returns its offset.
 #[tactic(auto, unfolding(crate::specs::Reading::token_at))]
-pub fn optional_keyword(tokens: &[Token], wanted: Keyword) -> Option<(u32, &[Token])>
-    ensures next { is_some result ≡ starts (keyword_class wanted ∷ []) tokens.now }
-    ensures read { key_at wanted tokens.now ≡
-        or_expected tokens.now (option_map (λ x. (x.0, x.1.now)) result) }
+pub fn optional_keyword(tokens: &mut &[Token], wanted: Keyword) -> Option<u32>
+    ensures next { is_some result ≡ starts (keyword_class wanted ∷ []) tokens.old.now }
+    ensures read { Tries result tokens.old.now tokens.new.now (key_at wanted tokens.old.now) }
 {
-    match tokens {
-        [Token::Word(at, word), rest @ ..] if same_keyword(*word, wanted) => Some((*at, rest)),
+    match *tokens {
+        [Token::Word(at, word), rest @ ..] if same_keyword(*word, wanted) => {
+            *tokens = rest;
+            Some(*at)
+        }
         _ => None,
     }
 }
 
-pub fn keyword(tokens: &[Token], wanted: Keyword) -> Result<(u32, &[Token]), ParseError>
-    ensures { Gives (λ x. (x.0, x.1.now)) result (key_at wanted tokens.now) }
+pub fn keyword(tokens: &mut &[Token], wanted: Keyword) -> Result<u32, ParseError>
+    ensures { Gives (λ at. (at, tokens.new.now)) result (key_at wanted tokens.old.now) }
 {
     match optional_keyword(tokens, wanted) {
-        Some(found) => Ok(found),
+        Some(at) => Ok(at),
         None => Err(fault(Kind::Expected, tokens)),
     }
 }
 
-pub fn is_keyword(tokens: &[Token], wanted: Keyword) -> bool
-    ensures { result ≡ starts (keyword_class wanted ∷ []) tokens.now }
-{
-    optional_keyword(tokens, wanted).is_some()
-}
-
 #[tactic(auto, unfolding(crate::specs::Reading::token_at))]
-pub fn word(tokens: &[Token], wanted: Word) -> Result<(u32, &[Token]), ParseError>
-    ensures { Gives (λ x. (x.0, x.1.now)) result (word_at wanted tokens.now) }
+pub fn word(tokens: &mut &[Token], wanted: Word) -> Result<u32, ParseError>
+    ensures { Gives (λ at. (at, tokens.new.now)) result (word_at wanted tokens.old.now) }
 {
-    match tokens {
-        [Token::Name(at, word), rest @ ..] if *word == wanted => Ok((*at, rest)),
+    match *tokens {
+        [Token::Name(at, word), rest @ ..] if *word == wanted => {
+            *tokens = rest;
+            Ok(*at)
+        }
         _ => Err(fault(Kind::Expected, tokens)),
     }
 }
@@ -100,18 +93,18 @@ pub fn word(tokens: &[Token], wanted: Word) -> Result<(u32, &[Token]), ParseErro
 pub fn is_word(tokens: &[Token], wanted: Word) -> bool
     ensures { result ≡ starts (word_class wanted ∷ []) tokens.now }
 {
-    match tokens {
-        [Token::Name(_, word), ..] => *word == wanted,
-        _ => false,
-    }
+    matches!(tokens, [Token::Name(_, word), ..] if *word == wanted)
 }
 
 #[tactic(auto, unfolding(crate::specs::Reading::token_at))]
-pub fn open(tokens: &[Token]) -> Result<(u32, &[Token]), ParseError>
-    ensures { Gives (λ x. (x.0, x.1.now)) result (open_at tokens.now) }
+pub fn open(tokens: &mut &[Token]) -> Result<u32, ParseError>
+    ensures { Gives (λ at. (at, tokens.new.now)) result (open_at tokens.old.now) }
 {
-    match tokens {
-        [Token::Open(at), rest @ ..] => Ok((*at, rest)),
+    match *tokens {
+        [Token::Open(at), rest @ ..] => {
+            *tokens = rest;
+            Ok(*at)
+        }
         _ => Err(fault(Kind::Expected, tokens)),
     }
 }
@@ -123,13 +116,14 @@ pub fn is_open(tokens: &[Token]) -> bool
 }
 
 #[tactic(auto, unfolding(crate::specs::Reading::token_at))]
-pub fn name(tokens: &[Token]) -> Result<(Name, &[Token]), ParseError>
-    ensures { Gives (λ x. (x.0, x.1.now)) result (name_at tokens.now) }
+pub fn name(tokens: &mut &[Token]) -> Result<Name, ParseError>
+    ensures { Gives (λ name. (name, tokens.new.now)) result (name_at tokens.old.now) }
 {
-    match tokens {
+    match *tokens {
         [Token::Name(at, word), rest @ ..] => {
+            *tokens = rest;
             let (at, word) = (*at, *word);
-            Ok((Name { at, word }, rest))
+            Ok(Name { at, word })
         }
         _ => Err(fault(Kind::Expected, tokens)),
     }
@@ -141,61 +135,15 @@ pub fn is_name(tokens: &[Token]) -> bool
     matches!(tokens, [Token::Name(..), ..])
 }
 
-/// A name that is not REAL.
-pub fn is_other_type(tokens: &[Token]) -> bool
-    ensures { result ≡ starts other_type_classes tokens.now }
-{
-    is_name(tokens) && !is_word(tokens, Word::Real)
-}
-
 #[tactic(auto, unfolding(crate::specs::Reading::token_at))]
-pub fn number(tokens: &[Token]) -> Result<(Number, &[Token]), ParseError>
-    ensures { Gives (λ x. (x.0, x.1.now)) result (number_at tokens.now) }
+pub fn number(tokens: &mut &[Token]) -> Result<Number, ParseError>
+    ensures { Gives (λ number. (number, tokens.new.now)) result (number_at tokens.old.now) }
 {
-    match tokens {
+    match *tokens {
         [Token::Number(at, amount, whole), rest @ ..] => {
+            *tokens = rest;
             let (at, amount, whole) = (*at, *amount, *whole);
-            Ok((Number { at, amount, whole }, rest))
-        }
-        _ => Err(fault(Kind::Expected, tokens)),
-    }
-}
-
-/// A number that is 0 or 1.
-#[tactic(auto, unfolding(crate::specs::Reading::token_at))]
-pub fn unit_number(tokens: &[Token]) -> Result<(UnitNumber, &[Token]), ParseError>
-    ensures { Gives (λ x. (x.0, x.1.now)) result (unit_number_at tokens.now) }
-{
-    match tokens {
-        [Token::Number(at, Amount::Zero, whole), rest @ ..] => Ok((
-            UnitNumber {
-                at: *at,
-                is_one: false,
-                whole: *whole,
-            },
-            rest,
-        )),
-        [Token::Number(at, Amount::One, whole), rest @ ..] => Ok((
-            UnitNumber {
-                at: *at,
-                is_one: true,
-                whole: *whole,
-            },
-            rest,
-        )),
-        _ => Err(fault(Kind::Expected, tokens)),
-    }
-}
-
-/// A number that is 0.
-#[tactic(auto, unfolding(crate::specs::Reading::token_at))]
-pub fn zero_number(tokens: &[Token]) -> Result<(ZeroNumber, &[Token]), ParseError>
-    ensures { Gives (λ x. (x.0, x.1.now)) result (zero_number_at tokens.now) }
-{
-    match tokens {
-        [Token::Number(at, Amount::Zero, whole), rest @ ..] => {
-            let (at, whole) = (*at, *whole);
-            Ok((ZeroNumber { at, whole }, rest))
+            Ok(Number { at, amount, whole })
         }
         _ => Err(fault(Kind::Expected, tokens)),
     }
@@ -203,56 +151,22 @@ pub fn zero_number(tokens: &[Token]) -> Result<(ZeroNumber, &[Token]), ParseErro
 
 /// A number without a point.
 #[tactic(auto, unfolding(crate::specs::Reading::token_at))]
-pub fn label(tokens: &[Token]) -> Result<(Label, &[Token]), ParseError>
-    ensures { Gives (λ x. (x.0, x.1.now)) result (label_at tokens.now) }
+pub fn label(tokens: &mut &[Token]) -> Result<Label, ParseError>
+    ensures { Gives (λ label. (label, tokens.new.now)) result (label_at tokens.old.now) }
 {
-    match tokens {
+    match *tokens {
         [Token::Number(at, amount, true), rest @ ..] => {
+            *tokens = rest;
             let (at, amount) = (*at, *amount);
-            Ok((Label { at, amount }, rest))
+            Ok(Label { at, amount })
         }
         _ => Err(fault(Kind::Expected, tokens)),
     }
 }
 
-pub fn is_number(tokens: &[Token]) -> bool
-    ensures { result ≡ starts number_classes tokens.now }
-{
-    matches!(tokens, [Token::Number(..), ..])
-}
-
-/// A number or a sign.
+/// Whether a number or a sign is next.
 pub fn is_signed(tokens: &[Token]) -> bool
     ensures { result ≡ starts signed_classes tokens.now }
 {
     matches!(tokens, [Token::Plus | Token::Minus | Token::Number(..), ..])
-}
-
-/// A number other than 0 and 1.
-pub fn is_beyond_unit(tokens: &[Token]) -> bool
-    ensures { result ≡ starts beyond_unit_classes tokens.now }
-{
-    matches!(tokens, [Token::Number(_, Amount::Other(_), _), ..])
-}
-
-/// A number other than 0.
-pub fn is_beyond_zero(tokens: &[Token]) -> bool
-    ensures { result ≡ starts beyond_zero_classes tokens.now }
-{
-    matches!(
-        tokens,
-        [Token::Number(_, Amount::One | Amount::Other(_), _), ..]
-    )
-}
-
-/// VAR_INPUT or VAR_OUTPUT.
-#[tactic(auto, unfolding(crate::specs::Reading::token_at))]
-pub fn direction(tokens: &[Token]) -> Result<((u32, Direction), &[Token]), ParseError>
-    ensures { Gives (λ x. (x.0, x.1.now)) result (direction_at tokens.now) }
-{
-    match tokens {
-        [Token::Word(at, Keyword::VarInput), rest @ ..] => Ok(((*at, Direction::Input), rest)),
-        [Token::Word(at, Keyword::VarOutput), rest @ ..] => Ok(((*at, Direction::Output), rest)),
-        _ => Err(fault(Kind::Expected, tokens)),
-    }
 }

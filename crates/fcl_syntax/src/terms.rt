@@ -6,11 +6,11 @@ ghost use Rattle.fcl_syntax.specs.TokenClasses.{open_classes, fuzzy_line_classes
 ghost use Rattle.fcl_syntax.specs.TokenClasses.{word_class};
 ghost use Rattle.fcl_syntax.specs.Grammar.{TPoint, TTerm, TRange, TDefuzzyLine, TPart};
 ghost use Rattle.fcl_syntax.specs.Readers.{Gives};
-ghost use Rattle.fcl_syntax.specs.Reading.{sign_at, signed, signed_number_at, coordinate_number_at, coordinate_at};
-ghost use Rattle.fcl_syntax.specs.Reading.{unit_at, zero_at, degree_at, point_at, some_points_at, points_at, term_at};
-ghost use Rattle.fcl_syntax.specs.Reading.{opening_at, range_at, fuzzy_line_at, fuzzify_at, choice_at, setting_at};
-ghost use Rattle.fcl_syntax.specs.Reading.{accu_at, method_at, singleton_value_at, singleton_at, fallback_value_at};
-ghost use Rattle.fcl_syntax.specs.Reading.{fallback_at, defuzzy_line_at, defuzzify_at, part_at};
+ghost use Rattle.fcl_syntax.specs.Reading.{sign_at, signed, signed_number_at, coordinate_at, unit_at, zero_at};
+ghost use Rattle.fcl_syntax.specs.Reading.{degree_at, point_at, point_from, points_at, term_at};
+ghost use Rattle.fcl_syntax.specs.Reading.{opening_at, range_at, fuzzy_line_at, fuzzify_at, setting_at, accu_at};
+ghost use Rattle.fcl_syntax.specs.Reading.{singleton_at, fallback_value_at, fallback_at, defuzzy_line_at};
+ghost use Rattle.fcl_syntax.specs.Reading.{defuzzify_at, part_at};
 ghost use Rattle.fcl_syntax.specs.View.{view_signed_number, view_coordinate, view_degree, view_point, view_term};
 ghost use Rattle.fcl_syntax.specs.View.{view_range, view_fuzzy_line, view_fuzzify, view_setting, view_singleton};
 ghost use Rattle.fcl_syntax.specs.View.{view_value, view_fallback, view_defuzzy_line, view_defuzzify, view_part};
@@ -18,14 +18,14 @@ ghost use Rattle.fcl_syntax.specs.View.{view_value, view_fallback, view_defuzzy_
 use crate::fault::{Kind, ParseError};
 use crate::repeated::{Repeated, many};
 use crate::single::{
-    expect, fault, is_beyond_unit, is_beyond_zero, is_keyword, is_name, is_open, is_signed,
-    is_word, keyword, name, number, open, optional, unit_number, word, zero_number,
+    expect, fault, is_name, is_open, is_signed, is_word, keyword, name, number, open, optional,
+    word,
 };
 use crate::tree::{
     Defuzzify, DefuzzyLine, Degree, Fallback, FallbackValue, Fuzzify, FuzzyLine, Number, Part,
     Point, Range, Setting, SignedNumber, Singleton, Term, UnitNumber, ZeroNumber,
 };
-use fcl_tokens::{Keyword, Token, Word};
+use fcl_tokens::{Amount, Keyword, Token, Word};
 use fz_list::List;
 use std::alloc::Global;
 
@@ -39,18 +39,22 @@ enum Sign {
     Bare,
 }
 
-// The sign that is next, and what is behind it.
-#[tactic(auto, unfolding(crate::specs::Reading::sign_at))]
-fn next_sign(tokens: &[Token]) -> (Sign, &[Token])
-    ensures { sign_at tokens.now ≡ Ok (result.0, result.1.now) }
+// The sign that is next.
+#[tactic(auto, unfolding(crate::specs::Reading::sign_at, crate::specs::Reading::token_at))]
+fn next_sign(tokens: &mut &[Token]) -> Sign
+    ensures { sign_at tokens.old.now ≡ Ok (result, tokens.new.now) }
 {
-    if let Some(rest) = optional(tokens, Token::Plus) {
-        return (Sign::Plus, rest);
+    match *tokens {
+        [Token::Plus, rest @ ..] => {
+            *tokens = rest;
+            Sign::Plus
+        }
+        [Token::Minus, rest @ ..] => {
+            *tokens = rest;
+            Sign::Minus
+        }
+        _ => Sign::Bare,
     }
-    if let Some(rest) = optional(tokens, Token::Minus) {
-        return (Sign::Minus, rest);
-    }
-    (Sign::Bare, tokens)
 }
 
 fn signed(sign: Sign, number: Number) -> SignedNumber
@@ -65,83 +69,84 @@ fn signed(sign: Sign, number: Number) -> SignedNumber
 }
 
 #[tactic(auto, unfolding(crate::specs::Reading::signed_at), using(crate::proofs::Forms::behind_sign_alike))]
-pub fn signed_number(tokens: &[Token]) -> Result<(SignedNumber, &[Token]), ParseError>
-    ensures { Gives (λ x. (view_signed_number x.0, x.1.now)) result (signed_number_at tokens.now) }
+pub fn signed_number(tokens: &mut &[Token]) -> Result<SignedNumber, ParseError>
+    ensures { Gives (λ x. (view_signed_number x, tokens.new.now)) result (signed_number_at tokens.old.now) }
 {
-    let (sign, rest) = next_sign(tokens);
-    let (number, rest) = number(rest)?;
-    Ok((signed(sign, number), rest))
+    let sign = next_sign(tokens);
+    let number = number(tokens)?;
+    Ok(signed(sign, number))
 }
 
 // A number of a point, where a name is refused.
-#[tactic(auto, unfolding(crate::specs::Reading::refusing))]
-fn coordinate_number(tokens: &[Token]) -> Result<(Number, &[Token]), ParseError>
-    ensures { Gives (λ x. (inr x.0, x.1.now)) result (coordinate_number_at tokens.now) }
+#[tactic(auto, unfolding(crate::specs::Reading::signed_at, crate::specs::Reading::refusing), using(crate::proofs::Forms::behind_sign_alike))]
+fn coordinate(tokens: &mut &[Token]) -> Result<SignedNumber, ParseError>
+    ensures { Gives (λ x. (view_coordinate x, tokens.new.now)) result (coordinate_at tokens.old.now) }
 {
+    let sign = next_sign(tokens);
     if is_name(tokens) {
         return Err(fault(Kind::Unsupported(10), tokens));
     }
-    number(tokens)
-}
-
-#[tactic(auto, unfolding(crate::specs::Reading::signed_at), using(crate::proofs::Forms::behind_sign_alike))]
-fn coordinate(tokens: &[Token]) -> Result<(SignedNumber, &[Token]), ParseError>
-    ensures { Gives (λ x. (view_coordinate x.0, x.1.now)) result (coordinate_at tokens.now) }
-{
-    let (sign, rest) = next_sign(tokens);
-    let (number, rest) = coordinate_number(rest)?;
-    Ok((signed(sign, number), rest))
+    let number = number(tokens)?;
+    Ok(signed(sign, number))
 }
 
 // 0 or 1, where a name and another number are refused.
-#[tactic(auto, unfolding(crate::specs::Reading::refusing))]
-fn zero_or_one(tokens: &[Token]) -> Result<(UnitNumber, &[Token]), ParseError>
-    ensures { Gives (λ x. (inr (inr x.0), x.1.now)) result (unit_at tokens.now) }
+#[tactic(auto, unfolding(crate::specs::Reading::refusing, crate::specs::Reading::token_at))]
+fn zero_or_one(tokens: &mut &[Token]) -> Result<UnitNumber, ParseError>
+    ensures { Gives (λ x. (inr (inr x), tokens.new.now)) result (unit_at tokens.old.now) }
 {
-    if is_name(tokens) {
-        return Err(fault(Kind::Unsupported(10), tokens));
-    }
-    if is_beyond_unit(tokens) {
-        return Err(fault(Kind::Unsupported(11), tokens));
-    }
-    unit_number(tokens)
+    let (at, is_one, whole, rest) = match *tokens {
+        [Token::Number(at, Amount::Zero, whole), rest @ ..] => (*at, false, *whole, rest),
+        [Token::Number(at, Amount::One, whole), rest @ ..] => (*at, true, *whole, rest),
+        [Token::Number(..), ..] => return Err(fault(Kind::Unsupported(11), tokens)),
+        [Token::Name(..), ..] => return Err(fault(Kind::Unsupported(10), tokens)),
+        _ => return Err(fault(Kind::Expected, tokens)),
+    };
+    *tokens = rest;
+    Ok(UnitNumber { at, is_one, whole })
 }
 
 // 0 behind a minus sign, where a name and another number are refused.
-#[tactic(auto, unfolding(crate::specs::Reading::refusing))]
-fn zero(tokens: &[Token]) -> Result<(ZeroNumber, &[Token]), ParseError>
-    ensures { Gives (λ x. (inr (inr x.0), x.1.now)) result (zero_at tokens.now) }
+#[tactic(auto, unfolding(crate::specs::Reading::refusing, crate::specs::Reading::token_at))]
+fn zero(tokens: &mut &[Token]) -> Result<ZeroNumber, ParseError>
+    ensures { Gives (λ x. (inr (inr x), tokens.new.now)) result (zero_at tokens.old.now) }
 {
-    if is_name(tokens) {
-        return Err(fault(Kind::Unsupported(10), tokens));
+    match *tokens {
+        [Token::Number(at, Amount::Zero, whole), rest @ ..] => {
+            *tokens = rest;
+            let (at, whole) = (*at, *whole);
+            Ok(ZeroNumber { at, whole })
+        }
+        [Token::Number(..), ..] => Err(fault(Kind::Unsupported(11), tokens)),
+        [Token::Name(..), ..] => Err(fault(Kind::Unsupported(10), tokens)),
+        _ => Err(fault(Kind::Expected, tokens)),
     }
-    if is_beyond_zero(tokens) {
-        return Err(fault(Kind::Unsupported(11), tokens));
-    }
-    zero_number(tokens)
 }
 
 #[tactic(auto, unfolding(crate::specs::Reading::signed_at))]
-fn degree(tokens: &[Token]) -> Result<(Degree, &[Token]), ParseError>
-    ensures { Gives (λ x. (view_degree x.0, x.1.now)) result (degree_at tokens.now) }
+fn degree(tokens: &mut &[Token]) -> Result<Degree, ParseError>
+    ensures { Gives (λ x. (view_degree x, tokens.new.now)) result (degree_at tokens.old.now) }
 {
     match next_sign(tokens) {
-        (Sign::Plus, rest) => {
-            let (number, rest) = zero_or_one(rest)?;
-            Ok((Degree::Plus(number), rest))
-        }
-        (Sign::Minus, rest) => {
-            let (number, rest) = zero(rest)?;
-            Ok((Degree::Minus(number), rest))
-        }
-        (Sign::Bare, rest) => {
-            let (number, rest) = zero_or_one(rest)?;
-            Ok((Degree::Bare(number), rest))
-        }
+        Sign::Plus => Ok(Degree::Plus(zero_or_one(tokens)?)),
+        Sign::Minus => Ok(Degree::Minus(zero(tokens)?)),
+        Sign::Bare => Ok(Degree::Bare(zero_or_one(tokens)?)),
     }
 }
 
 // ---- terms of an input
+
+// A point, behind its "(".
+#[tactic(auto, unfolding(crate::specs::Reading::point_from))]
+fn point(open_at: u32, tokens: &mut &[Token]) -> Result<Point, ParseError>
+    ensures { Gives (λ x. (view_point x, tokens.new.now)) result (point_from open_at tokens.old.now) }
+{
+    let x = coordinate(tokens)?;
+    expect(tokens, Token::Comma)?;
+    let degree = degree(tokens)?;
+    expect(tokens, Token::Close)?;
+    Ok(Point { open_at, x, degree })
+}
 
 impl Repeated for Point {
     ghost Tree = { TPoint };
@@ -152,97 +157,78 @@ impl Repeated for Point {
 
     ghost view = { view_point };
 
-    fn is_next(tokens: &[Token]) -> bool {
-        is_open(tokens)
+    #[tactic(auto, unfolding(crate::specs::Reading::headed_at, crate::specs::Reading::token_at))]
+    fn next(alloc: Global, tokens: &mut &[Token]) -> Result<Option<Point>, ParseError> {
+        let [Token::Open(at), rest @ ..] = *tokens else {
+            return Ok(None);
+        };
+        *tokens = rest;
+        Ok(Some(point(*at, tokens)?))
     }
-
-    #[tactic(auto, unfolding(crate::specs::Reading::point_at))]
-    fn next(alloc: Global, tokens: &[Token]) -> Result<(Point, &[Token]), ParseError> {
-        let (open_at, rest) = open(tokens)?;
-        let (x, rest) = coordinate(rest)?;
-        let rest = expect(rest, Token::Comma)?;
-        let (degree, rest) = degree(rest)?;
-        let rest = expect(rest, Token::Close)?;
-        Ok((Point { open_at, x, degree }, rest))
-    }
-}
-
-#[tactic(auto, unfolding(crate::specs::Reading::some_points_at), using(crate::proofs::TermForms::point_take))]
-fn some_points(
-    alloc: Global,
-    tokens: &[Token],
-) -> Result<((Point, List<Point>), &[Token]), ParseError>
-    ensures { Gives (λ x. ((view_point x.0.0, map view_point x.0.1), x.1.now)) result
-        (some_points_at tokens.now) }
-{
-    let (first, rest) = Point::next(alloc, tokens)?;
-    let (more, rest) = many::<Point>(alloc, rest)?;
-    Ok(((first, more), rest))
 }
 
 // The points of a term, where a number and a sign are refused.
-#[tactic(auto, unfolding(crate::specs::Reading::refusing))]
-fn points(alloc: Global, tokens: &[Token]) -> Result<((Point, List<Point>), &[Token]), ParseError>
-    ensures { Gives (λ x. (inr (view_point x.0.0, map view_point x.0.1), x.1.now)) result (points_at tokens.now) }
+#[tactic(auto, unfolding(crate::specs::Reading::refusing, crate::specs::Reading::some_points_at, crate::specs::Reading::headed_at), using(crate::proofs::TermForms::point_take))]
+fn points(alloc: Global, tokens: &mut &[Token]) -> Result<(Point, List<Point>), ParseError>
+    ensures { Gives (λ x. (inr (view_point x.0, map view_point x.1), tokens.new.now)) result
+        (points_at tokens.old.now) }
 {
     if is_signed(tokens) {
         return Err(fault(Kind::Unsupported(14), tokens));
     }
-    some_points(alloc, tokens)
+    let open_at = open(tokens)?;
+    let first = point(open_at, tokens)?;
+    let more = many::<Point>(alloc, tokens)?;
+    Ok((first, more))
 }
 
 #[tactic(auto, unfolding(crate::specs::Reading::term_at))]
-fn term(alloc: Global, tokens: &[Token]) -> Result<(Term, &[Token]), ParseError>
-    ensures { Gives (λ x. (view_term x.0, x.1.now)) result (term_at tokens.now) }
+fn term(alloc: Global, tokens: &mut &[Token]) -> Result<Term, ParseError>
+    ensures { Gives (λ x. (view_term x, tokens.new.now)) result (term_at tokens.old.now) }
 {
-    let (at, rest) = keyword(tokens, Keyword::Term)?;
-    let (name, rest) = name(rest)?;
-    let rest = expect(rest, Token::Assign)?;
-    let ((first, more), rest) = points(alloc, rest)?;
-    let rest = expect(rest, Token::Semicolon)?;
-    let term = Term {
+    let at = keyword(tokens, Keyword::Term)?;
+    let name = name(tokens)?;
+    expect(tokens, Token::Assign)?;
+    let (first, more) = points(alloc, tokens)?;
+    expect(tokens, Token::Semicolon)?;
+    Ok(Term {
         at,
         name,
         first,
         more,
-    };
-    Ok((term, rest))
+    })
 }
 
 // ---- ranges
 
 // [":="] "("
 #[tactic(auto, unfolding(crate::specs::Reading::opening_at))]
-fn opening(tokens: &[Token]) -> Result<((bool, u32), &[Token]), ParseError>
-    ensures { Gives (λ x. (x.0, x.1.now)) result (opening_at tokens.now) }
+fn opening(tokens: &mut &[Token]) -> Result<(bool, u32), ParseError>
+    ensures { Gives (λ x. (x, tokens.new.now)) result (opening_at tokens.old.now) }
 {
-    if let Some(rest) = optional(tokens, Token::Assign) {
-        let (at, rest) = open(rest)?;
-        return Ok(((true, at), rest));
-    }
-    let (at, rest) = open(tokens)?;
-    Ok(((false, at), rest))
+    let assigned = optional(tokens, Token::Assign);
+    let at = open(tokens)?;
+    Ok((assigned, at))
 }
 
 #[tactic(auto, unfolding(crate::specs::Reading::range_at))]
-fn range(tokens: &[Token]) -> Result<(Range, &[Token]), ParseError>
-    ensures { Gives (λ x. (view_range x.0, x.1.now)) result (range_at tokens.now) }
+fn range(tokens: &mut &[Token]) -> Result<Range, ParseError>
+    ensures { Gives (λ x. (view_range x, tokens.new.now)) result (range_at tokens.old.now) }
 {
-    let (at, rest) = keyword(tokens, Keyword::Range)?;
-    let ((assigned, open_at), rest) = opening(rest)?;
-    let (low, rest) = signed_number(rest)?;
-    let rest = expect(rest, Token::To)?;
-    let (high, rest) = signed_number(rest)?;
-    let rest = expect(rest, Token::Close)?;
-    let rest = expect(rest, Token::Semicolon)?;
-    let range = Range {
+    let at = keyword(tokens, Keyword::Range)?;
+    let (assigned, open_at) = opening(tokens)?;
+    let low = signed_number(tokens)?;
+    expect(tokens, Token::To)?;
+    let high = signed_number(tokens)?;
+    expect(tokens, Token::Close)?;
+    expect(tokens, Token::Semicolon)?;
+    Ok(Range {
         at,
         assigned,
         open_at,
         low,
         high,
-    };
-    Ok((range, rest))
+    })
 }
 
 // ---- FUZZIFY
@@ -256,137 +242,102 @@ impl Repeated for FuzzyLine {
 
     ghost view = { view_fuzzy_line };
 
-    fn is_next(tokens: &[Token]) -> bool {
-        is_keyword(tokens, Keyword::Term) || is_keyword(tokens, Keyword::Range)
-    }
-
     #[tactic(auto, unfolding(crate::specs::Reading::either_at))]
-    fn next(alloc: Global, tokens: &[Token]) -> Result<(FuzzyLine, &[Token]), ParseError> {
-        if is_keyword(tokens, Keyword::Term) {
-            let (term, rest) = term(alloc, tokens)?;
-            return Ok((FuzzyLine::Term(term), rest));
-        }
-        let (range, rest) = range(tokens)?;
-        Ok((FuzzyLine::Range(range), rest))
+    fn next(alloc: Global, tokens: &mut &[Token]) -> Result<Option<FuzzyLine>, ParseError> {
+        let line = match *tokens {
+            [Token::Word(_, Keyword::Term), ..] => FuzzyLine::Term(term(alloc, tokens)?),
+            [Token::Word(_, Keyword::Range), ..] => FuzzyLine::Range(range(tokens)?),
+            _ => return Ok(None),
+        };
+        Ok(Some(line))
     }
 }
 
 #[tactic(auto, unfolding(crate::specs::Reading::fuzzify_at), using(crate::proofs::TermForms::fuzzy_line_take))]
-fn fuzzify(alloc: Global, tokens: &[Token]) -> Result<(Fuzzify, &[Token]), ParseError>
-    ensures { Gives (λ x. (view_fuzzify x.0, x.1.now)) result (fuzzify_at tokens.now) }
+fn fuzzify(alloc: Global, tokens: &mut &[Token]) -> Result<Fuzzify, ParseError>
+    ensures { Gives (λ x. (view_fuzzify x, tokens.new.now)) result (fuzzify_at tokens.old.now) }
 {
-    let (at, rest) = keyword(tokens, Keyword::Fuzzify)?;
-    let (name, rest) = name(rest)?;
-    let (lines, rest) = many::<FuzzyLine>(alloc, rest)?;
-    let (end, rest) = keyword(rest, Keyword::EndFuzzify)?;
-    let fuzzify = Fuzzify {
+    let at = keyword(tokens, Keyword::Fuzzify)?;
+    let name = name(tokens)?;
+    let lines = many::<FuzzyLine>(alloc, tokens)?;
+    let end = keyword(tokens, Keyword::EndFuzzify)?;
+    Ok(Fuzzify {
         at,
         name,
         lines,
         end,
-    };
-    Ok((fuzzify, rest))
+    })
 }
 
 // ---- settings
 
-// A word, where two others are refused, with this code.
-#[tactic(auto, unfolding(crate::specs::Reading::refusing))]
-fn choice(
-    tokens: &[Token],
-    wanted: Word,
+/// `KEYWORD : accepted ;`. Two other words are refused as unsupported, with this code.
+#[tactic(auto, unfolding(crate::specs::Reading::setting_at, crate::specs::Reading::refusing))]
+pub fn setting(
+    tokens: &mut &[Token],
+    wanted: Keyword,
+    accepted: Word,
     refused: (Word, Word),
     code: u8,
-) -> Result<(u32, &[Token]), ParseError>
-    ensures { Gives (λ x. (inr x.0, x.1.now)) result
-        (choice_at wanted (word_class refused.0 ∷ word_class refused.1 ∷ []) code tokens.now) }
+) -> Result<Setting, ParseError>
+    ensures { Gives (λ x. (view_setting x, tokens.new.now)) result
+        (setting_at wanted accepted (word_class refused.0 ∷ word_class refused.1 ∷ []) code tokens.old.now) }
 {
+    let at = keyword(tokens, wanted)?;
+    expect(tokens, Token::Colon)?;
     if is_word(tokens, refused.0) || is_word(tokens, refused.1) {
         return Err(fault(Kind::Unsupported(code), tokens));
     }
-    word(tokens, wanted)
+    let word = word(tokens, accepted)?;
+    expect(tokens, Token::Semicolon)?;
+    Ok(Setting { at, word })
 }
 
-/// `KEYWORD : word ;`, where two other words are refused, with this code.
-#[tactic(auto, unfolding(crate::specs::Reading::setting_at))]
-pub fn setting(
-    tokens: &[Token],
-    wanted: Keyword,
-    word: Word,
-    refused: (Word, Word),
-    code: u8,
-) -> Result<(Setting, &[Token]), ParseError>
-    ensures { Gives (λ x. (view_setting x.0, x.1.now)) result
-        (setting_at wanted word (word_class refused.0 ∷ word_class refused.1 ∷ []) code tokens.now) }
-{
-    let (at, rest) = keyword(tokens, wanted)?;
-    let rest = expect(rest, Token::Colon)?;
-    let (word, rest) = choice(rest, word, refused, code)?;
-    let rest = expect(rest, Token::Semicolon)?;
-    Ok((Setting { at, word }, rest))
-}
-
-pub fn accu(tokens: &[Token]) -> Result<(Setting, &[Token]), ParseError>
-    ensures { Gives (λ x. (view_setting x.0, x.1.now)) result (accu_at tokens.now) }
+pub fn accu(tokens: &mut &[Token]) -> Result<Setting, ParseError>
+    ensures { Gives (λ x. (view_setting x, tokens.new.now)) result (accu_at tokens.old.now) }
 {
     let refused = (Word::Bsum, Word::Nsum);
     setting(tokens, Keyword::Accu, Word::Max, refused, 4)
 }
 
-fn method(tokens: &[Token]) -> Result<(Setting, &[Token]), ParseError>
-    ensures { Gives (λ x. (view_setting x.0, x.1.now)) result (method_at tokens.now) }
-{
-    let refused = (Word::Centre, Word::Extreme);
-    setting(tokens, Keyword::Method, Word::Cogs, refused, 1)
-}
-
 // ---- DEFUZZIFY
 
-// The number of a singleton, where "(" is refused.
-#[tactic(auto, unfolding(crate::specs::Reading::refusing))]
-fn singleton_value(tokens: &[Token]) -> Result<(SignedNumber, &[Token]), ParseError>
-    ensures { Gives (λ x. (inr (view_signed_number x.0), x.1.now)) result (singleton_value_at tokens.now) }
+// A term of an output, where "(" is refused in place of its number.
+#[tactic(auto, unfolding(crate::specs::Reading::singleton_at, crate::specs::Reading::refusing))]
+fn singleton(tokens: &mut &[Token]) -> Result<Singleton, ParseError>
+    ensures { Gives (λ x. (view_singleton x, tokens.new.now)) result (singleton_at tokens.old.now) }
 {
+    let at = keyword(tokens, Keyword::Term)?;
+    let name = name(tokens)?;
+    expect(tokens, Token::Assign)?;
     if is_open(tokens) {
         return Err(fault(Kind::Unsupported(13), tokens));
     }
-    signed_number(tokens)
-}
-
-#[tactic(auto, unfolding(crate::specs::Reading::singleton_at))]
-fn singleton(tokens: &[Token]) -> Result<(Singleton, &[Token]), ParseError>
-    ensures { Gives (λ x. (view_singleton x.0, x.1.now)) result (singleton_at tokens.now) }
-{
-    let (at, rest) = keyword(tokens, Keyword::Term)?;
-    let (name, rest) = name(rest)?;
-    let rest = expect(rest, Token::Assign)?;
-    let (value, rest) = singleton_value(rest)?;
-    let rest = expect(rest, Token::Semicolon)?;
-    Ok((Singleton { at, name, value }, rest))
+    let value = signed_number(tokens)?;
+    expect(tokens, Token::Semicolon)?;
+    Ok(Singleton { at, name, value })
 }
 
 // signed_number | NC
 #[tactic(auto, unfolding(crate::specs::Reading::either_at))]
-fn fallback_value(tokens: &[Token]) -> Result<(FallbackValue, &[Token]), ParseError>
-    ensures { Gives (λ x. (view_value x.0, x.1.now)) result (fallback_value_at tokens.now) }
+fn fallback_value(tokens: &mut &[Token]) -> Result<FallbackValue, ParseError>
+    ensures { Gives (λ x. (view_value x, tokens.new.now)) result (fallback_value_at tokens.old.now) }
 {
     if is_signed(tokens) {
-        let (value, rest) = signed_number(tokens)?;
-        return Ok((FallbackValue::Number(value), rest));
+        return Ok(FallbackValue::Number(signed_number(tokens)?));
     }
-    let (at, rest) = word(tokens, Word::Nc)?;
-    Ok((FallbackValue::Nc(at), rest))
+    Ok(FallbackValue::Nc(word(tokens, Word::Nc)?))
 }
 
 #[tactic(auto, unfolding(crate::specs::Reading::fallback_at))]
-fn fallback(tokens: &[Token]) -> Result<(Fallback, &[Token]), ParseError>
-    ensures { Gives (λ x. (view_fallback x.0, x.1.now)) result (fallback_at tokens.now) }
+fn fallback(tokens: &mut &[Token]) -> Result<Fallback, ParseError>
+    ensures { Gives (λ x. (view_fallback x, tokens.new.now)) result (fallback_at tokens.old.now) }
 {
-    let (at, rest) = keyword(tokens, Keyword::Default)?;
-    let rest = expect(rest, Token::Assign)?;
-    let (value, rest) = fallback_value(rest)?;
-    let rest = expect(rest, Token::Semicolon)?;
-    Ok((Fallback { at, value }, rest))
+    let at = keyword(tokens, Keyword::Default)?;
+    expect(tokens, Token::Assign)?;
+    let value = fallback_value(tokens)?;
+    expect(tokens, Token::Semicolon)?;
+    Ok(Fallback { at, value })
 }
 
 impl Repeated for DefuzzyLine {
@@ -398,52 +349,37 @@ impl Repeated for DefuzzyLine {
 
     ghost view = { view_defuzzy_line };
 
-    fn is_next(tokens: &[Token]) -> bool {
-        is_keyword(tokens, Keyword::Term)
-            || is_keyword(tokens, Keyword::Accu)
-            || is_keyword(tokens, Keyword::Method)
-            || is_keyword(tokens, Keyword::Default)
-            || is_keyword(tokens, Keyword::Range)
-    }
-
     #[tactic(auto, unfolding(crate::specs::Reading::either_at))]
-    fn next(alloc: Global, tokens: &[Token]) -> Result<(DefuzzyLine, &[Token]), ParseError> {
-        if is_keyword(tokens, Keyword::Term) {
-            let (line, rest) = singleton(tokens)?;
-            return Ok((DefuzzyLine::Singleton(line), rest));
-        }
-        if is_keyword(tokens, Keyword::Accu) {
-            let (line, rest) = accu(tokens)?;
-            return Ok((DefuzzyLine::Accu(line), rest));
-        }
-        if is_keyword(tokens, Keyword::Method) {
-            let (line, rest) = method(tokens)?;
-            return Ok((DefuzzyLine::Method(line), rest));
-        }
-        if is_keyword(tokens, Keyword::Default) {
-            let (line, rest) = fallback(tokens)?;
-            return Ok((DefuzzyLine::Default(line), rest));
-        }
-        let (line, rest) = range(tokens)?;
-        Ok((DefuzzyLine::Range(line), rest))
+    fn next(alloc: Global, tokens: &mut &[Token]) -> Result<Option<DefuzzyLine>, ParseError> {
+        let line = match *tokens {
+            [Token::Word(_, Keyword::Term), ..] => DefuzzyLine::Singleton(singleton(tokens)?),
+            [Token::Word(_, Keyword::Accu), ..] => DefuzzyLine::Accu(accu(tokens)?),
+            [Token::Word(_, Keyword::Method), ..] => {
+                let refused = (Word::Centre, Word::Extreme);
+                DefuzzyLine::Method(setting(tokens, Keyword::Method, Word::Cogs, refused, 1)?)
+            }
+            [Token::Word(_, Keyword::Default), ..] => DefuzzyLine::Default(fallback(tokens)?),
+            [Token::Word(_, Keyword::Range), ..] => DefuzzyLine::Range(range(tokens)?),
+            _ => return Ok(None),
+        };
+        Ok(Some(line))
     }
 }
 
 #[tactic(auto, unfolding(crate::specs::Reading::defuzzify_at), using(crate::proofs::TermForms::defuzzy_line_take))]
-fn defuzzify(alloc: Global, tokens: &[Token]) -> Result<(Defuzzify, &[Token]), ParseError>
-    ensures { Gives (λ x. (view_defuzzify x.0, x.1.now)) result (defuzzify_at tokens.now) }
+fn defuzzify(alloc: Global, tokens: &mut &[Token]) -> Result<Defuzzify, ParseError>
+    ensures { Gives (λ x. (view_defuzzify x, tokens.new.now)) result (defuzzify_at tokens.old.now) }
 {
-    let (at, rest) = keyword(tokens, Keyword::Defuzzify)?;
-    let (name, rest) = name(rest)?;
-    let (lines, rest) = many::<DefuzzyLine>(alloc, rest)?;
-    let (end, rest) = keyword(rest, Keyword::EndDefuzzify)?;
-    let defuzzify = Defuzzify {
+    let at = keyword(tokens, Keyword::Defuzzify)?;
+    let name = name(tokens)?;
+    let lines = many::<DefuzzyLine>(alloc, tokens)?;
+    let end = keyword(tokens, Keyword::EndDefuzzify)?;
+    Ok(Defuzzify {
         at,
         name,
         lines,
         end,
-    };
-    Ok((defuzzify, rest))
+    })
 }
 
 // ---- both
@@ -458,22 +394,17 @@ impl Repeated for Part {
 
     ghost view = { view_part };
 
-    fn is_next(tokens: &[Token]) -> bool {
-        is_keyword(tokens, Keyword::Options)
-            || is_keyword(tokens, Keyword::Fuzzify)
-            || is_keyword(tokens, Keyword::Defuzzify)
-    }
-
     #[tactic(auto, unfolding(crate::specs::Reading::refusing, crate::specs::Reading::either_at))]
-    fn next(alloc: Global, tokens: &[Token]) -> Result<(Part, &[Token]), ParseError> {
-        if is_keyword(tokens, Keyword::Options) {
-            return Err(fault(Kind::Unsupported(7), tokens));
-        }
-        if is_keyword(tokens, Keyword::Fuzzify) {
-            let (part, rest) = fuzzify(alloc, tokens)?;
-            return Ok((Part::Fuzzify(part), rest));
-        }
-        let (part, rest) = defuzzify(alloc, tokens)?;
-        Ok((Part::Defuzzify(part), rest))
+    fn next(alloc: Global, tokens: &mut &[Token]) -> Result<Option<Part>, ParseError> {
+        let part = match *tokens {
+            [Token::Word(_, Keyword::Options), ..] => return Err(fault(
+                Kind::Unsupported(7),
+                tokens,
+            )),
+            [Token::Word(_, Keyword::Fuzzify), ..] => Part::Fuzzify(fuzzify(alloc, tokens)?),
+            [Token::Word(_, Keyword::Defuzzify), ..] => Part::Defuzzify(defuzzify(alloc, tokens)?),
+            _ => return Ok(None),
+        };
+        Ok(Some(part))
     }
 }

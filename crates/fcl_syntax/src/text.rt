@@ -1,4 +1,4 @@
-//! Texts to trees.
+//! From a text to its tree.
 
 ghost use Rattle.std.specs.Prelude.{◌≡◌, ◌≤◌, length, IfOk, IfErr};
 ghost use Rattle.std.specs.Str.{str_to_ascii_lowercase};
@@ -15,29 +15,29 @@ use fz_num::DecFault;
 use std::alloc::Global;
 use thiserror::Error;
 
-/// Why a text has no tree, with the offset of the place.
+/// Why a text has no tree, with the offset of the fault in the text.
 #[derive(PartialEq, Debug, Drop, Error)]
 pub enum SyntaxFault {
     /// A byte that begins no token.
     #[error("at {0}: a byte that begins no token")]
     BadByte(u32),
-    /// A comment without its end, at its beginning.
+    /// A comment without an end, at its beginning.
     #[error("at {0}: a comment without its end")]
     OpenComment(u32),
     /// A number that is no decimal, at its first digit.
     #[error("at {0}: a number out of form ({1:?})")]
     Number(u32, DecFault),
-    /// The first token that no text of the grammar has after the tokens before it, or the text's
-    /// length where it ends too early.
+    /// The first token with which no text of the grammar continues the tokens before it, or the text's
+    /// length if it ends too early.
     #[error("at {0}: not expected here")]
     Expected(u32),
-    /// What the profile leaves out, and its code of 1 to 8 or 10 to 15.
+    /// A part of the grammar that the profile leaves out, and its code from 1 to 8 or 10 to 15.
     #[error("at {0}: not supported (code {1})")]
     Unsupported(u32, u8),
-    /// The 65th parenthesis or NOT that is open at once.
+    /// The first parenthesis or NOT with which 65 are open at once.
     #[error("at {0}: too deep")]
     Deep(u32),
-    /// Memory was wanting; the text may have a fault or none.
+    /// Out of memory; the text may have a fault or none.
     #[error("out of memory")]
     Memory,
 }
@@ -99,8 +99,8 @@ fn read(alloc: Global, text: &[u8]) -> Result<Tree, SyntaxFault>
 
 /// The tree that a text spells, or its first fault.
 ///
-/// Token faults come before all others. Then it is the first place with a fault, where at one
-/// place `Deep` comes before `Unsupported`, and that before `Expected`.
+/// Token faults take precedence over all others. Otherwise it is the fault at the first offset; at the
+/// same offset `Deep` takes precedence over `Unsupported`, and that over `Expected`.
 pub fn parse(alloc: Global, text: &[u8]) -> Result<Tree, SyntaxFault>
     requires { length text.now ≤ 1048576 }
 

@@ -1,8 +1,8 @@
 //! The tree of a text: a node for each production of the grammar, its parts in their order.
 //!
-//! A keyword, a name, a number and an opening parenthesis have their offset in the text, a keyword
-//! mostly as the `at` of the node that it begins. A contract sees a condition as a tree of the
-//! grammar, and a list as its items, so two trees of one text are equal.
+//! Keywords, names, numbers and opening parentheses have their offset in the text, a keyword mostly
+//! as the `at` of the node that it begins. A contract sees a condition as a tree of the grammar, and
+//! a list as its items, so that two trees of one text are equal.
 
 ghost use Rattle.std.specs.Prelude.{◌≡◌, drop};
 ghost use Rattle.std.specs.List.{take_while};
@@ -13,11 +13,11 @@ use fcl_tokens::{Amount, Word, name_len};
 use fz_list::List;
 use std::marker::Model;
 
-/// The tree of a text, with a copy of the text in small letters.
+/// The tree of a text, with a copy of the text in lower case.
 ///
-/// There is none but of a text of at most 1048576 bytes that spells it: so no more than 64
-/// parentheses and NOT are open at once in a condition, and all conditions and conclusions are
-/// fewer than the text has bytes.
+/// It always belongs to a text of at most 1048576 bytes that spells it. So at most 64 parentheses
+/// and NOT are open at once in a condition, and the number of all conditions and conclusions is less
+/// than that of the text's bytes.
 #[derive(Drop)]
 pub struct Tree {
     pub text: Vec<u8>,
@@ -26,7 +26,7 @@ pub struct Tree {
 }
 
 impl Tree {
-    /// A name in small letters, so that names that differ only in case are equal.
+    /// A name in lower case, so that names that differ only in case are equal.
     pub fn letters(&self, name: Name) -> &[u8]
         ensures { result.now ≡ take_while is_name_byte (drop name.at self.now.text.items) }
     {
@@ -36,7 +36,7 @@ impl Tree {
     }
 }
 
-/// A name. Its letters stand in the text at its offset.
+/// A name. Its letters are in the text at its offset.
 #[derive(Clone, Copy)]
 pub struct Name {
     pub at: u32,
@@ -115,7 +115,7 @@ pub struct Point {
     pub degree: Degree,
 }
 
-/// A number. `whole` says that it is written without a point.
+/// A number. `whole` means that it is written without a point.
 #[derive(Clone, Copy)]
 pub struct Number {
     pub at: u32,
@@ -154,7 +154,7 @@ pub enum Degree {
     Bare(UnitNumber),
 }
 
-/// RANGE. `assigned` says that `:=` stands behind it, `open_at` is the offset of its parenthesis.
+/// RANGE. `assigned` means that `:=` follows it, `open_at` is the offset of its parenthesis.
 #[derive(Clone, Copy)]
 pub struct Range {
     pub at: u32,
@@ -190,7 +190,7 @@ pub struct Singleton {
     pub value: SignedNumber,
 }
 
-/// A line `KEYWORD : word ;` whose word can only be one. `word` is the offset of that word.
+/// A line `KEYWORD : word ;` with only one possible word. `word` is the offset of that word.
 #[derive(Clone, Copy)]
 pub struct Setting {
     pub at: u32,
@@ -204,7 +204,7 @@ pub struct Fallback {
     pub value: FallbackValue,
 }
 
-/// What stands behind `DEFAULT :=`: a number, or NC at its offset.
+/// What follows `DEFAULT :=`: a number, or NC with its offset.
 #[derive(Clone, Copy)]
 pub enum FallbackValue {
     Number(SignedNumber),
@@ -229,7 +229,7 @@ pub enum RuleLine {
     Accu(Setting),
 }
 
-/// ACT, and the offset of its word.
+/// ACT, with the offset of its word.
 #[derive(Clone, Copy)]
 pub struct Activation {
     pub at: u32,
@@ -255,14 +255,14 @@ pub struct Rule {
     pub weight: Option<Weight>,
 }
 
-/// The number of a rule, which only labels it.
+/// The number of a rule, which is only a label.
 #[derive(Clone, Copy)]
 pub struct Label {
     pub at: u32,
     pub amount: Amount,
 }
 
-/// Parts of a condition with OR between them, each behind the first with the offset of its OR.
+/// Parts of a condition with OR between them, each after the first with the offset of its OR.
 #[derive(Drop)]
 #[cycle(condition)]
 pub struct Or {
@@ -290,7 +290,7 @@ impl Model for Or {
     ghost size_decreases = { λ o h. omega (arith, weight-ands o.more) };
 }
 
-/// Parts of a condition with AND between them, each behind the first with the offset of its AND.
+/// Parts of a condition with AND between them, each after the first with the offset of its AND.
 #[derive(Drop)]
 #[cycle(condition)]
 pub struct And {
@@ -362,7 +362,7 @@ pub struct Operand {
     pub term: Name,
 }
 
-/// `name IS name` behind THEN.
+/// `name IS name` after THEN.
 #[derive(Clone, Copy)]
 pub struct Conclusion {
     pub variable: Name,

@@ -3,18 +3,15 @@
 ghost use Rattle.std.proofs.Common.{inr};
 ghost use Rattle.fcl_syntax.specs.{declared.tree.Name.Name, Grammar.TDeclaration, Grammar.TSection, Readers.Gives};
 ghost use Rattle.fcl_syntax.specs.TokenClasses.{comma_classes, name_classes, section_classes};
-ghost use Rattle.fcl_syntax.specs.Reading.{comma_at, name_at, names_at, type_at, declaration_at, variables_at};
-ghost use Rattle.fcl_syntax.specs.Reading.{section_at};
+ghost use Rattle.fcl_syntax.specs.Reading.{comma_at, name_at, type_at, declaration_at, declaration_from};
+ghost use Rattle.fcl_syntax.specs.Reading.{variables_from, section_at};
 ghost use Rattle.fcl_syntax.specs.View.{view_declaration, view_variables, view_section};
 
 use crate::fault::{Kind, ParseError};
 use crate::repeated::{Repeated, many};
-use crate::single::{
-    direction, expect, fault, is_keyword, is_name, is_next, is_other_type, keyword, name, word,
-};
-use crate::tree::{Declaration, Name, Variables};
+use crate::single::{expect, fault, keyword, name, optional};
+use crate::tree::{Declaration, Direction, Name, Variables};
 use fcl_tokens::{Keyword, Token, Word};
-use fz_list::List;
 use std::alloc::Global;
 
 impl Repeated for Name {
@@ -26,34 +23,40 @@ impl Repeated for Name {
 
     ghost view = { λ n. n };
 
-    fn is_next(tokens: &[Token]) -> bool {
-        is_next(tokens, Token::Comma)
-    }
-
     #[tactic(auto, unfolding(crate::specs::Reading::comma_at))]
-    fn next(alloc: Global, tokens: &[Token]) -> Result<(Name, &[Token]), ParseError> {
-        let rest = expect(tokens, Token::Comma)?;
-        name(rest)
+    fn next(alloc: Global, tokens: &mut &[Token]) -> Result<Option<Name>, ParseError> {
+        if !optional(tokens, Token::Comma) {
+            return Ok(None);
+        }
+        Ok(Some(name(tokens)?))
     }
 }
 
-#[tactic(auto, unfolding(crate::specs::Reading::listed_at), using(crate::proofs::Forms::names_take))]
-fn names(alloc: Global, tokens: &[Token]) -> Result<((Name, List<Name>), &[Token]), ParseError>
-    ensures { Gives (λ x. ((x.0.0, x.0.1), x.1.now)) result (names_at tokens.now) }
+// REAL, where another name is refused.
+#[tactic(auto, unfolding(crate::specs::Reading::refusing, crate::specs::Reading::token_at))]
+fn real(tokens: &mut &[Token]) -> Result<u32, ParseError>
+    ensures { Gives (λ x. (inr x, tokens.new.now)) result (type_at tokens.old.now) }
 {
-    let (first, rest) = name(tokens)?;
-    let (more, rest) = many::<Name>(alloc, rest)?;
-    Ok(((first, more), rest))
+    match *tokens {
+        [Token::Name(at, Word::Real), rest @ ..] => {
+            *tokens = rest;
+            Ok(*at)
+        }
+        [Token::Name(..), ..] => Err(fault(Kind::Unsupported(5), tokens)),
+        _ => Err(fault(Kind::Expected, tokens)),
+    }
 }
 
-#[tactic(auto, unfolding(crate::specs::Reading::refusing))]
-fn real(tokens: &[Token]) -> Result<(u32, &[Token]), ParseError>
-    ensures { Gives (λ x. (inr x.0, x.1.now)) result (type_at tokens.now) }
+// A declaration, behind its first name.
+#[tactic(auto, unfolding(crate::specs::Reading::declaration_from), using(crate::proofs::Forms::names_take))]
+fn declaration(alloc: Global, first: Name, tokens: &mut &[Token]) -> Result<Declaration, ParseError>
+    ensures { Gives (λ x. (view_declaration x, tokens.new.now)) result (declaration_from first tokens.old.now) }
 {
-    if is_other_type(tokens) {
-        return Err(fault(Kind::Unsupported(5), tokens));
-    }
-    word(tokens, Word::Real)
+    let more = many::<Name>(alloc, tokens)?;
+    expect(tokens, Token::Colon)?;
+    let real = real(tokens)?;
+    expect(tokens, Token::Semicolon)?;
+    Ok(Declaration { first, more, real })
 }
 
 impl Repeated for Declaration {
@@ -65,34 +68,35 @@ impl Repeated for Declaration {
 
     ghost view = { view_declaration };
 
-    fn is_next(tokens: &[Token]) -> bool {
-        is_name(tokens)
-    }
-
-    #[tactic(auto, unfolding(crate::specs::Reading::declaration_at))]
-    fn next(alloc: Global, tokens: &[Token]) -> Result<(Declaration, &[Token]), ParseError> {
-        let ((first, more), rest) = names(alloc, tokens)?;
-        let rest = expect(rest, Token::Colon)?;
-        let (real, rest) = real(rest)?;
-        let rest = expect(rest, Token::Semicolon)?;
-        Ok((Declaration { first, more, real }, rest))
+    #[tactic(auto, unfolding(crate::specs::Reading::headed_at, crate::specs::Reading::token_at))]
+    fn next(alloc: Global, tokens: &mut &[Token]) -> Result<Option<Declaration>, ParseError> {
+        let [Token::Name(at, word), rest @ ..] = *tokens else {
+            return Ok(None);
+        };
+        *tokens = rest;
+        let (at, word) = (*at, *word);
+        Ok(Some(declaration(alloc, Name { at, word }, tokens)?))
     }
 }
 
-#[tactic(auto, unfolding(crate::specs::Reading::variables_at), using(crate::proofs::Forms::declaration_take))]
-fn variables(alloc: Global, tokens: &[Token]) -> Result<(Variables, &[Token]), ParseError>
-    ensures { Gives (λ x. (view_variables x.0, x.1.now)) result (variables_at tokens.now) }
+// The declarations, behind their direction.
+#[tactic(auto, unfolding(crate::specs::Reading::variables_from), using(crate::proofs::Forms::declaration_take))]
+fn variables(
+    alloc: Global,
+    at: u32,
+    direction: Direction,
+    tokens: &mut &[Token],
+) -> Result<Variables, ParseError>
+    ensures { Gives (λ x. (view_variables x, tokens.new.now)) result (variables_from at direction tokens.old.now) }
 {
-    let ((at, direction), rest) = direction(tokens)?;
-    let (declarations, rest) = many::<Declaration>(alloc, rest)?;
-    let (end, rest) = keyword(rest, Keyword::EndVar)?;
-    let variables = Variables {
+    let declarations = many::<Declaration>(alloc, tokens)?;
+    let end = keyword(tokens, Keyword::EndVar)?;
+    Ok(Variables {
         at,
         direction,
         declarations,
         end,
-    };
-    Ok((variables, rest))
+    })
 }
 
 // One is next where variables are, or VAR in their place.
@@ -105,17 +109,15 @@ impl Repeated for Variables {
 
     ghost view = { view_section };
 
-    fn is_next(tokens: &[Token]) -> bool {
-        is_keyword(tokens, Keyword::Var)
-            || is_keyword(tokens, Keyword::VarInput)
-            || is_keyword(tokens, Keyword::VarOutput)
-    }
-
-    #[tactic(auto, unfolding(crate::specs::Reading::refusing))]
-    fn next(alloc: Global, tokens: &[Token]) -> Result<(Variables, &[Token]), ParseError> {
-        if is_keyword(tokens, Keyword::Var) {
-            return Err(fault(Kind::Unsupported(6), tokens));
-        }
-        variables(alloc, tokens)
+    #[tactic(auto, unfolding(crate::specs::Reading::refusing, crate::specs::Reading::headed_at, crate::specs::Reading::token_at))]
+    fn next(alloc: Global, tokens: &mut &[Token]) -> Result<Option<Variables>, ParseError> {
+        let (at, direction, rest) = match *tokens {
+            [Token::Word(_, Keyword::Var), ..] => return Err(fault(Kind::Unsupported(6), tokens)),
+            [Token::Word(at, Keyword::VarInput), rest @ ..] => (*at, Direction::Input, rest),
+            [Token::Word(at, Keyword::VarOutput), rest @ ..] => (*at, Direction::Output, rest),
+            _ => return Ok(None),
+        };
+        *tokens = rest;
+        Ok(Some(variables(alloc, at, direction, tokens)?))
     }
 }
