@@ -17,12 +17,12 @@ use fuzzy_meaning::Block;
 use rule_layout::{Flat, LayoutFault, spread};
 use std::alloc::{AllocError, Global};
 
-/// A block's firmware.
+/// The firmware of a block.
 #[derive(Drop)]
 pub struct Firmware {
     /// The bytes of its memory, and where it starts.
     pub image: Image,
-    /// Where its parts stand.
+    /// The addresses of its parts.
     pub memory_map: MemoryMap,
     pub inputs: u8,
     pub outputs: u8,
@@ -35,9 +35,8 @@ pub struct Firmware {
     pub step_bound: u32,
 }
 
-/// The firmware of a block that answers bytes, and stands alone in memory. It is refused exactly
-/// where the block's rules are: where they spread into more than 512 conjunctions, or into a list of
-/// more than 9984 bytes.
+/// The firmware of a block that answers bytes, and stands alone in memory. It is refused exactly where the block's
+/// rules are: where they spread into more than 512 conjunctions, or into a list of more than 9984 bytes.
 pub fn compile(alloc: Global, block: &Block) -> Result<Firmware, LayoutFault>
     requires { IsValid block.now }
     ensures firmware { IfOk result (IsFirmwareOf block.now) }
@@ -75,7 +74,7 @@ pub fn compile16(alloc: Global, block: &Block) -> Result<Firmware, LayoutFault>
     compile_for(alloc, Width::Word, block)
 }
 
-/// The image of items that stand one above the other.
+/// The image of items with ascending addresses.
 pub fn image_of(alloc: Global, items: &[Item]) -> Result<Image, AllocError>
     requires few { length items.now < 2 ^ 32 }
     requires rising { IsRising items.now }
@@ -91,7 +90,7 @@ pub fn image_of(alloc: Global, items: &[Item]) -> Result<Image, AllocError>
     }
 }
 
-/// The same with answers of a width.
+/// The same with answers of the given width.
 pub fn compile_for(alloc: Global, width: Width, block: &Block) -> Result<Firmware, LayoutFault>
     requires { IsValid block.now }
     ensures firmware { IfOk result (IsFirmwareOf block.now) }
@@ -105,8 +104,8 @@ pub fn compile_for(alloc: Global, width: Width, block: &Block) -> Result<Firmwar
     Ok(compile_laid_out(alloc, width, block, &flat)?)
 }
 
-/// The same of a block whose layout is at hand: `flat` is its rules as `spread` lays them out. It wants
-/// nothing but memory.
+/// The same for a block that is already laid out: `flat` is its rules as `spread` lays them out. It can only fail
+/// for lack of memory.
 pub fn compile_laid_out(
     alloc: Global,
     width: Width,

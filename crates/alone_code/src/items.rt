@@ -31,8 +31,8 @@ pub fn frame_code(memory_map: &MemoryMap) -> [Instr; 9]
     ]
 }
 
-/// The items of a block's firmware that stands alone at a memory map, with answers of a width. `flat` is
-/// the block's rules as `spread` lays them out.
+/// The items of the firmware of a block that stands alone at a memory map, with answers of the given width. `flat`
+/// is the block's rules as `spread` lays them out.
 pub fn firmware_items(
     alloc: Global,
     memory_map: &MemoryMap,
@@ -55,7 +55,7 @@ pub fn firmware_items(
     Ok(items)
 }
 
-/// The interrupt's and the reset vector.
+/// The interrupt vector and the reset vector.
 pub fn push_vectors(items: &mut Vec<Item>, memory_map: &MemoryMap) -> Result<(), AllocError>
     ensures { OnOk result (items.new.items ≡ items.old.items ++ vector_items memory_map.now) }
 {

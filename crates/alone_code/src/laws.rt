@@ -20,7 +20,7 @@ use eval_code::laws::{
 };
 use rule_layout::laws::layout_law;
 
-/// What the laws on the forms of firmware rest on.
+/// What the laws on the forms of firmware depend on.
 fn lower_laws()
     ensures { LowerLaws }
 {
@@ -33,37 +33,37 @@ fn lower_laws()
     blocks_are_placed();
 }
 
-/// One instruction of the code around EVAL leads on: a plain one that leaves SP and what masks
-/// interrupts, and the return from a call. Code whose bytes stand in the image is such instructions.
+/// One instruction of the code around EVAL continues: a plain one that leaves SP and the interrupt masks
+/// unchanged, or the return from a call. Code whose bytes are in the image consists of such instructions.
 pub fn instructions_go_on()
     ensures stand { InstructionsStand }
     ensures plain { InstructionGoesOn }
     ensures returns { ReturnGoesOn }
 {}
 
-/// A state that the code's runs keep may be interrupted, is idle where the code waits and READY is 0,
-/// and stays such a state where a sample is given.
+/// A state that the code's runs keep may be interrupted, is idle where the code waits and READY is 0, and remains
+/// such a state when a sample is given.
 pub fn live_states_wait()
     ensures interruptible { LiveIsInterruptible }
     ensures idle { LiveIsIdle }
     ensures given { GivenIsLive }
 {}
 
-/// EVAL comes back with its block's answers wherever the code around it calls it.
+/// EVAL returns with its block's answers wherever the code around it calls it.
 pub fn called_eval_returns()
     ensures { CalledEvalReturns }
 {
     eval_answers();
 }
 
-/// The memory of an image of a block's items with the vectors behind them has the block's firmware.
+/// The memory of an image of a block's items followed by the vectors holds the block's firmware.
 pub fn image_has_firmware()
     ensures { ImageHasFirmware }
 {
     lower_laws();
 }
 
-/// The image of a block's firmware is one of bytes, and so is that of the mailbox form.
+/// The image of a block's firmware consists of bytes, and so does that of the mailbox form.
 pub fn firmware_is_bytes()
     ensures alone { FirmwareIsBytes }
     ensures mailbox { MailboxIsBytes }
@@ -71,21 +71,21 @@ pub fn firmware_is_bytes()
     lower_laws();
 }
 
-/// The frame of a firmware that stands alone leads from reset to where it waits, with a sample to what
-/// it calls, and back from there.
+/// The frame of a firmware that stands alone leads from reset to where it waits, with a sample to the code that it
+/// calls, and back from there.
 pub fn frames_lead()
     ensures arrives { StartArrives }
     ensures turns { FrameCallsAndLeaves }
 {}
 
-/// The free bytes leave the memory map of a firmware that stands alone as it is.
+/// No free byte belongs to the code, the data, the stack or the reset vector of a firmware that stands alone.
 pub fn free_bytes_leave()
     ensures { FreeBytesLeave }
 {}
 
-/// The firmware of a block answers every list of samples over bytes, whatever the open flags are,
-/// within its bounds; and at each instruction what an interrupt may change is not read, whichever
-/// bytes these are that leave its memory map alone.
+/// The firmware of a block answers every list of samples over bytes, whatever the open flags are, within its
+/// bounds; and no instruction reads what an interrupt may change, whatever bytes outside its code, its data, the
+/// stack and the reset vector these are.
 pub fn firmware_answers_beside()
     ensures { FirmwareAnswersBeside }
 {
@@ -99,8 +99,8 @@ pub fn firmware_answers()
     firmware_answers_beside();
 }
 
-/// From reset over a memory that is a firmware's but for bytes that interrupts may change, the code
-/// waits first in the same state but for these.
+/// From reset over a memory that is a firmware's except for bytes that interrupts may change, the code first waits
+/// in the same state except for these.
 pub fn firmware_arrives_alike()
     ensures { FirmwareArrivesAlike }
 {
@@ -114,16 +114,16 @@ pub fn firmware_is_uninterrupted()
     firmware_answers();
 }
 
-/// The mailbox firmware of a block takes its turns: it looks at POSTED, copies MAIL while I is 1, and
-/// answers the copy within its bounds, touching the mailbox no more.
+/// The mailbox firmware of a block takes its turns: it looks at POSTED, copies MAIL while I is 1, and answers the
+/// copy within its bounds without accessing the mailbox again.
 pub fn mailbox_takes_posts()
     ensures { MailboxTakesPosts }
 {
     lower_laws();
 }
 
-/// The mailbox firmware of a block answers each sample that is given where it waits in one turn without
-/// interrupts, from its first arrival on.
+/// The mailbox firmware of a block, from its first arrival on, answers each sample that is given where it waits in
+/// one turn without interrupts.
 pub fn mailbox_takes_samples()
     ensures { MailboxTakesSamples }
 {
@@ -146,20 +146,20 @@ pub fn mailbox_steps_are_few()
     bounds_are_few();
 }
 
-/// The answers of samples that whole instructions answer, on which interrupts may come, are the
-/// uninterrupted ones, and the block's over bytes.
+/// The answers to samples by whole instructions at which interrupts may come are the uninterrupted ones, and the
+/// block's over bytes.
 pub fn answered_are_uninterrupted()
     ensures { AnsweredAreUninterrupted }
 {}
 
-/// A firmware has one list of uninterrupted answers to a list of samples.
+/// A firmware has only one list of uninterrupted answers to a list of samples.
 pub fn uninterrupted_are_one()
     ensures { UninterruptedAreOne }
 {
     executions_are_one();
 }
 
-/// Items that never go back to a lower place have an image.
+/// Items that never go back to a lower address have an image.
 pub fn items_have_images()
     ensures { ItemsHaveImages }
 {
@@ -175,21 +175,21 @@ pub fn blocks_have_firmware()
     items_have_images()
 }
 
-/// Items have one image.
+/// Items have only one image.
 pub fn images_are_one()
     ensures { ImagesAreOne }
 {
     ascending_bytes_are_one()
 }
 
-/// In one width a block has one firmware.
+/// Of each width a block has only one firmware.
 pub fn firmwares_are_one()
     ensures { FirmwaresAreOne }
 {
     images_are_one()
 }
 
-/// And so it has in the mailbox form.
+/// The same for the mailbox form.
 pub fn mailboxes_are_one()
     ensures { MailboxesAreOne }
 {

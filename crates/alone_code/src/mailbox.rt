@@ -19,7 +19,7 @@ use fuzzy_meaning::Block;
 use rule_layout::{Flat, LayoutFault, spread};
 use std::alloc::{AllocError, Global};
 
-/// The memory map for so many inputs: each takes six bytes of code for its copy.
+/// The memory map for this many inputs: each takes six bytes of code for its copy.
 fn mailbox_map(inputs: u8) -> MemoryMap
     requires { inputs ≤ 8 }
     ensures { result ≡ mailbox_map inputs }
@@ -34,7 +34,7 @@ fn mailbox_map(inputs: u8) -> MemoryMap
     }
 }
 
-/// The copies of bytes, from one address on to another.
+/// Copies of bytes, from one address on to another.
 fn push_copies(code: &mut Vec<Instr>, from: u16, to: u16, count: u8) -> Result<(), AllocError>
     requires { (from + count < 2 ^ 16) × (to + count < 2 ^ 16) }
     ensures { OnOk result (code.new.items ≡ code.old.items ++ copy_code from to count) }
@@ -45,8 +45,8 @@ fn push_copies(code: &mut Vec<Instr>, from: u16, to: u16, count: u8) -> Result<(
     Ok(())
 }
 
-/// The code before EVAL. POSTED is looked at in a loop; where it is set, MAIL is copied to the inputs
-/// while I is 1, so that no handler comes between two bytes of a sample.
+/// The code before EVAL. It polls POSTED in a loop; when POSTED is set, it copies MAIL to the inputs while I is 1,
+/// so that no handler comes between two bytes of a sample.
 fn mailbox_code(alloc: Global, memory_map: &MemoryMap, inputs: u8) -> Result<Vec<Instr>, AllocError>
     requires few { inputs ≤ 8 }
     requires room { (memory_map.now.samples + 8 < 2 ^ 16) × (memory_map.now.inputs + 8 < 2 ^ 16) }
@@ -102,9 +102,9 @@ fn mailbox_items(
     Ok(items)
 }
 
-/// The firmware of a block in the mailbox form, which answers bytes: an interrupt posts a sample by
-/// writing its bytes from `$1020` on and 1 to `$1028`, whenever it comes, and the one posted last is
-/// answered next. It is refused where `compile` is.
+/// The firmware of a block in the mailbox form, which answers bytes: an interrupt posts a sample by writing its
+/// bytes from `$1020` on and 1 to `$1028`, whenever it comes, and the sample posted last is answered next. It is
+/// refused where `compile` is.
 pub fn compile_post(alloc: Global, block: &Block) -> Result<Firmware, LayoutFault>
     requires { IsValid block.now }
     ensures firmware { IfOk result (IsMailboxOf block.now) }

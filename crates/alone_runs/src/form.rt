@@ -21,8 +21,8 @@ use run_law::laws::SoundForm;
 use std::alloc::Global;
 use trace_io::Sample;
 
-/// A firmware that stands alone, with a trace. Its handler does the writes that a request lists, to free bytes, whatever
-/// more is open.
+/// A firmware that stands alone, with a trace. Its handler does the writes that a request lists, to free bytes,
+/// whatever else is open.
 #[derive(Drop)]
 pub struct AloneForm<'a> {
     /// The firmware, of at most four outputs.

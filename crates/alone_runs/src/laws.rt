@@ -15,11 +15,11 @@ use firmware_runs::laws::{answers_are_values, given_is_put, instructions_are_ste
 use run_forms::laws::arrives_plainly;
 use run_law::laws::{runs_follow, taken_at_once};
 
-/// The run of a firmware that stands alone follows the run without interrupts under every good plan,
-/// where each state of the latter keeps the facts of [`FactsAlone`]: its answers, counts of instructions
-/// and steps are the same, its resumed counts and frames are read off the states without interrupts,
-/// and each of its states is the same but for the bytes that plans may write, the stack below SP,
-/// and WAV's sums between an interrupt and their pull.
+/// The run of a firmware that stands alone follows the run without interrupts under every good plan, if each state
+/// of the latter keeps the facts of [`FactsAlone`]: its answers and its counts of instructions and steps are the
+/// same, its resumed counts and frames are read off the states without interrupts, and each of its states is the
+/// same except for the bytes that plans may write, the stack below SP, and WAV's sums between an interrupt and
+/// their pull.
 ///
 /// [`FactsAlone`]: the record of that name in the crate's specifications
 pub fn runs_follow_alone()
@@ -30,17 +30,17 @@ pub fn runs_follow_alone()
     taken_at_once();
 }
 
-/// The same whatever more is open than the free bytes.
+/// The same whatever else is open in addition to the free bytes.
 pub fn runs_follow_beside()
     ensures { RunsFollowBeside }
 {
     runs_follow::<AloneForm>();
 }
 
-/// The firmware of a block, of either width, answers every list of samples under every good plan as
-/// without interrupts: each row is of its sample, its answers and its number of instructions are the
-/// uninterrupted ones, which are the block's over bytes, and its steps are those without interrupts,
-/// all within the bounds; the states without interrupts keep the facts; and the run follows them.
+/// The firmware of a block, of either width, answers every list of samples under every good plan as it does
+/// without interrupts: each row is that of its sample, its answers and its number of instructions are the
+/// uninterrupted ones, which are the block's over bytes, and its steps are those without interrupts, all within
+/// the bounds; the states without interrupts keep the facts; and the run follows them.
 pub fn answers_under_plans()
     ensures { AnswersUnderPlans }
 {
@@ -63,8 +63,9 @@ pub fn plans_are_in_order()
     ensures { PlansAreInOrder }
 {}
 
-/// The firmware of a block answers all samples without interrupts, each within its bound of steps, and
-/// each state keeps the facts, beside handlers to which anything is open that leaves its memory map alone.
+/// The firmware of a block answers all samples without interrupts, each within its bound of steps, and each state
+/// keeps the facts, whatever bytes outside its code, its data, the stack and the reset vector are open to
+/// handlers.
 pub fn firmware_runs_beside()
     ensures { FirmwareRunsBeside }
 {
@@ -74,8 +75,8 @@ pub fn firmware_runs_beside()
     firmware_answers_beside();
 }
 
-/// From reset over a memory that is a firmware's but for open bytes, it waits first in the same state
-/// but for these, which are as they were.
+/// From reset over a memory that is a firmware's except for open bytes, it first waits in the same state except
+/// for these, which are as they were.
 pub fn first_states_alike()
     ensures { FirstStatesAlike }
 {
@@ -83,12 +84,12 @@ pub fn first_states_alike()
     firmware_arrives_alike();
 }
 
-/// Such a state is the first one but for what is hidden.
+/// Such a state is the first one except for what is hidden.
 pub fn first_states_agree()
     ensures { FirstStatesAgree }
 {}
 
-/// A step of a run under interrupts leaves what is open to handlers, and so does the push of the sums.
+/// A step of a run under interrupts leaves what is open to handlers unchanged, and so does the push of the sums.
 pub fn steps_leave_open()
     ensures { StepsLeaveOpen }
 {
@@ -98,7 +99,7 @@ pub fn steps_leave_open()
     wav_suspends();
 }
 
-/// A sample leaves what is open to handlers, where its bytes and READY are not open.
+/// A sample leaves what is open to handlers unchanged, if its bytes and READY are not open.
 pub fn given_leaves_open()
     ensures { GivenLeavesOpen }
 {

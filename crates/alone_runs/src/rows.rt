@@ -19,26 +19,24 @@ use run_forms::{Counts, Notes};
 use std::alloc::Global;
 use trace_io::Sample;
 
-/// What a sample's run gave.
+/// The results of a sample's run.
 #[derive(Drop)]
 pub struct Row {
     /// The bytes of the inputs.
     pub bytes: ArrayVec<u8, 8>,
     /// The answers at the end: bytes, or words where the firmware's answers are wide.
     pub answers: ArrayVec<u16, 4>,
-    /// How many instructions were done: steps that were plain, or the last part of REV, REVW or
-    /// WAV.
+    /// How many instructions were done: steps that were plain instructions, or the last part of REV, REVW or WAV.
     pub instrs: u32,
-    /// How many steps were done, parts counted each.
+    /// How many steps were done, each part counted.
     pub steps: u32,
-    /// At how many boundaries an interrupt was taken while REV, REVW or WAV had done a part and not
-    /// ended.
+    /// At how many boundaries an interrupt was taken after a part of REV, REVW or WAV that was not its last.
     pub resumed: u32,
     /// What each interrupt pushed, with its boundary: how many steps of the sample were done.
     pub frames: List<(u32, Frame)>,
 }
 
-/// The row of a sample of at most eight bytes, of which this was counted, and what its handlers told.
+/// The row of a sample of at most eight bytes, from these counts and what its handlers reported.
 pub fn row_of<U>(bytes: &[u8], answers: ArrayVec<u16, 4>, counts: Counts<Notes<U>>) -> (Row, Vec<U>)
     requires { length bytes.now ≤ 8 }
     ensures row { row_seen result.0 ≡ record {
@@ -72,10 +70,9 @@ pub fn row_of<U>(bytes: &[u8], answers: ArrayVec<u16, 4>, counts: Counts<Notes<U
     (row, told)
 }
 
-/// Runs a firmware over a trace under a plan, and answers a row for each sample and the memory of
-/// the last state. Bits of `flags` give the flags that the CPU12 Reference Manual leaves undefined.
-/// Where the firmware is a block's, the rows have its answers over bytes and the counts of the run
-/// without interrupts, within the bounds.
+/// Runs a firmware over a trace under a plan, and returns a row for each sample and the memory of the last state.
+/// Bits of `flags` supply the flags that the CPU12 Reference Manual leaves undefined. If the firmware is a
+/// block's, the rows have its answers over bytes and the counts of the run without interrupts, within the bounds.
 pub fn run_on<M: Mem>(
     alloc: Global,
     firmware: &Firmware,
@@ -97,7 +94,7 @@ pub fn run_on<M: Mem>(
     Ok(session.finish())
 }
 
-/// The rows that `run_on` answers, over a memory of its own.
+/// The rows that `run_on` returns, over its own memory.
 pub fn run(
     alloc: Global,
     firmware: &Firmware,

@@ -22,10 +22,10 @@ use std::alloc::Global;
 use std::marker::Model;
 use trace_io::Sample;
 
-/// A run of a firmware over a trace under a plan, which stands at one of its positions: the pairs of a
-/// sample, counted from 1, and a boundary in it, in order. The state at one is that after what is
-/// taken there. A run over no sample has the one position 0 of sample 0. Over a memory that notes bytes
-/// ([`WatchedMem`]) it tells whether watched bytes have changed.
+/// A run of a firmware over a trace under a plan, stopped at one of its positions: the pairs of a sample, counted
+/// from 1, and a boundary in it, in order. The state at a position is that after what is taken there. A run over
+/// no sample has only position 0 of sample 0. Over a memory that notes bytes ([`WatchedMem`]) a session reports
+/// whether watched bytes have changed.
 #[derive(Drop)]
 pub struct Session<'a, M: Mem> {
     machine: Machine<M>,
@@ -53,8 +53,8 @@ impl<'a, M: Mem> Model for Session<'a, M> {
 }
 
 impl<'a, M: Mem> Session<'a, M> {
-    /// A session at the first position of a run. Bits of `flags` give the flags that the CPU12
-    /// Reference Manual leaves undefined. All memory is taken here.
+    /// A session at the first position of a run. Bits of `flags` supply the flags that the CPU12 Reference Manual
+    /// leaves undefined. All memory is allocated here.
     pub fn new(
         alloc: Global,
         firmware: &'a Firmware,
@@ -84,7 +84,7 @@ impl<'a, M: Mem> Session<'a, M> {
         })
     }
 
-    /// Goes on to the next position. Answers false, and changes nothing, exactly at the last.
+    /// Advances to the next position. At the last one, and only there, it returns false and changes nothing.
     pub fn advance(&mut self) -> bool
         ensures goes { result ≡ true → self.old.rest
             ≡ at_position self.old.rest.here (from_here self.new.rest) }
@@ -121,7 +121,7 @@ impl<'a, M: Mem> Session<'a, M> {
         self.machine.has_all_bytes()
     }
 
-    /// The position: the sample, of those past 4294967295 that number, and the boundary.
+    /// The position: the sample, where any past 4294967295 counts as that, and the boundary.
     pub fn at(&self) -> (u32, u32)
         ensures sample { result.0 ≡ min self.now.rest.here.sample 4294967295 }
         ensures moment { result.1 ≡ self.now.rest.here.moment }
@@ -130,7 +130,7 @@ impl<'a, M: Mem> Session<'a, M> {
         (sample, self.run_state.sample.counts.moment)
     }
 
-    /// Goes on to the last position, and answers all rows of the run and the memory of its last state.
+    /// Advances to the last position, and returns all rows of the run and the memory of its last state.
     pub fn finish(self) -> (Vec<Row>, M)
         ensures rows { map row_seen result.0.items ≡ self.entry.rest.rows }
         ensures memory { M.bytes result.1 ≡ self.entry.rest.state.mem }
@@ -157,7 +157,7 @@ impl<'a, M: Mem> Session<'a, WatchedMem<M>> {
         self.machine.watch(at);
     }
 
-    /// Watches an address no more.
+    /// Stops watching an address.
     pub fn unwatch(&mut self, at: u16)
         ensures rest { self.new.rest ≡ self.old.rest }
         ensures noted { self.new.noted ≡ slice_set self.old.noted at None }
@@ -174,7 +174,7 @@ impl<'a, M: Mem> Session<'a, WatchedMem<M>> {
         self.machine.note();
     }
 
-    /// Whether the byte at a watched address is another than the noted one.
+    /// Whether the byte at any watched address differs from the noted one.
     #[inline(always)]
     pub fn has_changed(&self) -> bool
         ensures { result ≡ any_changed self.now.noted self.now.rest.here.state.mem }

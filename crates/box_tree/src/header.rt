@@ -61,7 +61,7 @@ pub(crate) fn claims_at(text: &[u8]) -> Option<(ArrayVec<u32, 4>, &[u8])>
     Some((copy_of(numbers.as_slice()), rest))
 }
 
-/// Claims, in a vector of their own.
+/// The claims, copied into a new vector.
 pub(crate) fn copy_of(claims: &[u32]) -> ArrayVec<u32, 4>
     requires { length claims.now ≤ MOST_CLAIMS }
     ensures { result.items ≡ claims.now }

@@ -22,7 +22,7 @@ pub fn each_text_is_judged()
     ensures { EachTextIsJudged }
 {}
 
-/// More nodes go on with the boxes that those before left open.
+/// More nodes continue with the boxes that those before left open.
 pub fn open_boxes_go_on()
     ensures { OpenBoxesGoOn }
 {}

@@ -1,11 +1,11 @@
 //! Certificates as text: a claim for each output, and a tree of boxes in prefix order.
 //!
-//! A [`Cert`] holds the claims and the nodes of the tree. Its leaves name rules, or are tight: a [`CertKind`] says
-//! which, and an [`Width`] which answers it is for. [`read`] answers exactly the certificate that
-//! a text spells, or exactly its first fault; [`write`] answers the text, and what is written is read
-//! to the same. [`Lines`] reads a text node by node without memory: a caller knows at each node which
-//! nodes the text begins with, at the end that they are its certificate, and at a fault that it is
-//! the text's first. Each of these stands once for all kinds and widths.
+//! A [`Cert`] holds the claims and the nodes of the tree. Its leaves name rules, or are tight: a [`CertKind`]
+//! states which, and a [`Width`] which answers it is for. [`read`] returns exactly the certificate that a text
+//! spells, or exactly its first fault; [`write`] returns the text, and what is written reads back as the same
+//! certificate. [`Lines`] reads a text node by node without allocating memory: a caller knows at each node which
+//! nodes the text begins with, at the end that they are its certificate, and at a fault that it is the text's
+//! first. Each of these exists once for all kinds and widths.
 #![tactic(auto)]
 
 mod cert;

@@ -11,10 +11,10 @@ use crate::nodes::node_at;
 use arrayvec::ArrayVec;
 use byte_scaling::Width;
 
-/// The most leaves of a certificate, whatever their lines say.
+/// The most leaves of a certificate, of all kinds together.
 const MOST_LEAVES: u32 = 4096;
 
-/// Reads a certificate's text node by node. It takes no memory.
+/// Reads a certificate's text node by node, without allocating memory.
 #[derive(Drop)]
 pub struct Lines<'a> {
     kind: CertKind,
@@ -23,10 +23,10 @@ pub struct Lines<'a> {
     claims: ArrayVec<u32, 4>,
     /// How many lines are read.
     read: u32,
-    /// How many boxes have no part yet.
+    /// How many boxes have no node yet.
     open_boxes: u32,
     leaves: u32,
-    /// The fault that was met.
+    /// The fault that was found.
     fault: Option<CertFault>,
     ghost short: { read + length rest.now ≤ 1048578 },
     ghost few_open: { open_boxes ≤ read },
@@ -37,7 +37,7 @@ impl<'a> Lines<'a> {
     ghost use Rattle.box_tree.specs.Certificates.{CertText, HasFault, IsNode};
     ghost use Rattle.box_tree.specs.Reading.{HasRead, HasFailed, claims_of, cert_of, StandsBefore, unread_len};
 
-    /// The reader of a text of version 1, behind its claims.
+    /// The reader of a text of version 1, after its claims.
     pub fn new(text: &'a [u8]) -> Result<Lines<'a>, CertFault>
         requires { length text.now ≤ 1048576 }
         ensures begun { IfOk result (HasRead CertKind.Named Width.Byte text.now []) }
@@ -55,7 +55,7 @@ impl<'a> Lines<'a> {
         Lines::of(text, CertKind::Named, Width::Word)
     }
 
-    /// The reader of a text that is to have a certificate of this kind, for answers of this width.
+    /// The reader of a text that must have a certificate of this kind, for answers of this width.
     pub fn of(text: &'a [u8], kind: CertKind, answers: Width) -> Result<Lines<'a>, CertFault>
         requires { length text.now ≤ 1048576 }
         ensures begun { IfOk result (HasRead kind answers text.now []) }
@@ -92,8 +92,8 @@ impl<'a> Lines<'a> {
         copy_of(self.claims.as_slice())
     }
 
-    /// The next node, or `None` exactly at the end of a text without a fault. After a fault it
-    /// answers the same fault again.
+    /// The next node, or `None` exactly at the end of a text without a fault. After a fault it returns the same
+    /// fault again.
     pub fn next(&mut self) -> Result<Option<Node>, CertFault>
         ensures less { IfOk result (λ next. IfSome next (λ _. unread_len self.new < unread_len self.old)) }
         ensures claims { claims_of self.new ≡ claims_of self.old }
@@ -131,8 +131,7 @@ impl<'a> Lines<'a> {
         }
     }
 
-    /// The node of the next line with what follows that, `None` at the end of the text, or the
-    /// fault that stands here.
+    /// The node of the next line with what follows it, `None` at the end of the text, or the fault of this line.
     fn node_here(&self) -> Result<Option<(Node, &'a [u8])>, CertFault>
         ensures node { IfOk result (λ next. MatchOption next ((self.now.rest.now ≡ []) × (self.now.open_boxes ≡ 0))
             (λ r. StandsBefore r.0 r.1.now self.now)) }

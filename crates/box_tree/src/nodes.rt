@@ -9,7 +9,7 @@ use crate::cert::{CertKind, LeafForm, Node};
 use crate::text::{after, numbers_of};
 use arrayvec::ArrayVec;
 
-/// The cut of two numbers: an input and a byte.
+/// The cut given by two numbers: an input and a byte.
 fn cut_of(numbers: &[u32]) -> Option<(u8, u8)>
     ensures { MatchOption result ((input cut : ℕ) → IsCut input cut → numbers.now ≢ input ∷ cut ∷ [])
         (λ r. IsCut r.0 r.1 × (numbers.now ≡ r.0 ∷ r.1 ∷ [])) }
@@ -29,7 +29,7 @@ fn is_pair(rule: u32, part: u32) -> bool
     rule <= 256 && part <= 255 && (rule == 0) == (part == 0)
 }
 
-/// The pairs that numbers are, if there are as many as claims.
+/// The numbers as pairs, if there are as many pairs as claims.
 fn pairs_of(numbers: &[u32], width: usize) -> Option<ArrayVec<(u16, u8), 4>>
     requires { width ≤ 4 }
     ensures { MatchOption result ((pairs : List (ℕ × ℕ)) → length pairs ≡ width → All IsPair pairs
@@ -51,7 +51,7 @@ fn pairs_of(numbers: &[u32], width: usize) -> Option<ArrayVec<(u16, u8), 4>>
     Some(pairs)
 }
 
-/// The leaf whose line stands at the front of a text, and what follows it, in a certificate that names rules.
+/// The leaf on the line at the front of a text, and what follows it, in a certificate that names rules.
 fn named_leaf_at(text: &[u8], width: usize) -> Option<(LeafForm, &[u8])>
     requires { width ≤ 4 }
     ensures { MatchOption result ((leaf : TheForm) (behind : List ℕ) → IsLeaf CertKind.Named width leaf
@@ -89,7 +89,7 @@ fn leaf_at(text: &[u8], kind: CertKind, width: usize) -> Option<(LeafForm, &[u8]
     }
 }
 
-/// The node whose line stands at the front of a text, and what follows it.
+/// The node on the line at the front of a text, and what follows it.
 pub(crate) fn node_at(text: &[u8], kind: CertKind, width: usize) -> Option<(Node, &[u8])>
     requires { width ≤ 4 }
     ensures shorter { IfSome result (λ r. length r.1.now < length text.now) }

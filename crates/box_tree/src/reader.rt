@@ -49,7 +49,7 @@ pub fn read_for(
     }
 }
 
-/// The certificate of a text of which the first two lines are read.
+/// The certificate of a text whose first two lines were read.
 fn cert_behind(alloc: Global, mut lines: Lines<'_>) -> Result<Cert, CertFault>
     ensures cert { (k : TheKind) (v : TheWidth) (text : Items ℕ) → HasRead k v text [] lines.entry
         → IfOk result (CertText k v text) }

@@ -11,7 +11,7 @@ pub(crate) const GREATEST: u32 = 1_000_000;
 /// The most numbers of a line.
 const MOST_NUMBERS: usize = 8;
 
-/// How many digits stand at the front of a text.
+/// How many digits are at the front of a text.
 fn digits_len(text: &[u8]) -> usize
     ensures { result ≡ digits_len_of text.now }
 {
@@ -20,7 +20,7 @@ fn digits_len(text: &[u8]) -> usize
         .unwrap_or(text.len())
 }
 
-/// Whether there is a digit, and no zero that could be left out.
+/// Whether there is a digit, and no superfluous leading zero.
 fn is_plain(digits: &[u8]) -> bool
     ensures { result ≡ is_plain_numeral digits.now }
 {
@@ -31,7 +31,7 @@ fn is_plain(digits: &[u8]) -> bool
     }
 }
 
-/// The number that digits spell, or one more than the greatest where that is less.
+/// The number that digits spell, or one more than the greatest if that is less.
 fn value_of(digits: &[u8]) -> u32
     ensures { result ≡ min (number_behind 0 digits.now) (GREATEST + 1) }
 {

@@ -26,8 +26,8 @@ pub fn write16(alloc: Global, cert: &Cert) -> Result<Vec<u8>, AllocError>
     write_for(alloc, cert, CertKind::Named, Width::Word)
 }
 
-/// The text of a certificate of this kind, for answers of this width: of version 1 or 2 where it names rules,
-/// of version 3 or 4 where it is tight.
+/// The text of a certificate of this kind, for answers of this width: of version 1 or 2 if it names rules, of
+/// version 3 or 4 if it is tight.
 pub fn write_for(
     alloc: Global,
     cert: &Cert,
@@ -90,7 +90,7 @@ fn put_line(text: &mut Vec<u8>, word: &[u8], numbers: &[u32]) -> Result<(), Allo
     Ok(())
 }
 
-/// The numbers of pairs, one pair behind the other.
+/// The numbers of pairs, one pair after the other.
 fn numbers_of_pairs(pairs: &ArrayVec<(u16, u8), 4>) -> ArrayVec<u32, 8>
     ensures { result.items ≡ pair_numbers pairs.now.items }
 {

@@ -11,7 +11,7 @@ use fz_num::{Dec, Frac};
 #[derive(Clone, Copy, PartialEq, Eq)]
 pub struct OutOfRange;
 
-/// The byte of a number, or `OutOfRange` exactly where the number is not within the range.
+/// The byte of a number, or `OutOfRange` exactly where the number is not in the range.
 pub fn to_byte(input: &Input, x: Dec) -> Result<u8, OutOfRange>
     requires { IsValidInput input.now }
     ensures inside { IsOk result ↔ IsWithin input.now.lo input.now.hi x }
@@ -24,7 +24,7 @@ pub fn to_byte(input: &Input, x: Dec) -> Result<u8, OutOfRange>
     Ok(byte_within(input, x))
 }
 
-/// The byte of a number that is within the range.
+/// The byte of a number that is in the range.
 pub fn byte_within(input: &Input, x: Dec) -> u8
     requires input { IsValidInput input.now }
     requires x { IsWithin input.now.lo input.now.hi x }
@@ -35,8 +35,7 @@ pub fn byte_within(input: &Input, x: Dec) -> u8
     place.min(255) as u8
 }
 
-/// The two ends of a byte's cell, as fractions of the range. The high end is in the cell of 255
-/// alone.
+/// The two ends of a byte's cell, as fractions of the range. The high end belongs to the cell only for byte 255.
 pub fn cell(_input: &Input, b: u8) -> (Frac, Frac)
     ensures low { fraction_of result.0 ≡ over b 256 }
     ensures high { fraction_of result.1 ≡ over (b + 1) 256 }

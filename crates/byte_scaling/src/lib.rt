@@ -1,10 +1,9 @@
-//! Numbers as bytes and back: the byte of a number in an input's range and that byte's cell, the
-//! number that an output's byte or its answer of 16 bits stands for, the byte nearest to a number,
-//! a weight's byte, and how wide answers are ([`Width`]).
+//! Numbers as bytes and back: the byte of a number in an input's range and that byte's cell, the number that an
+//! output's byte or its answer of 16 bits represents, the byte nearest to a number, a weight's byte, and how wide
+//! answers are ([`Width`]).
 //!
-//! A range is cut into 256 half-open cells of one width, the last with its high end: a number lies
-//! in the cell of its byte. Each call gives exactly the value of its definition, and none takes
-//! memory.
+//! A range is divided into 256 half-open cells of equal width, the last including its high end: a number lies in
+//! the cell of its byte. Each call returns exactly the value of its definition, and none allocates memory.
 #![tactic(auto)]
 
 mod inputs;

@@ -9,7 +9,7 @@ use crate::Width;
 use fuzzy_meaning::Output;
 use fz_num::{Dec, Frac};
 
-/// The number that an output byte stands for: q/255 of the range above its low end, in units of 1.
+/// The number that an output byte represents: q/255 of the range above its low end, in units of 1.
 pub fn value(output: &Output, q: u8) -> Frac
     requires { IsValidOutput output.now }
     ensures num { result.num ≡ (value_of output.now q).num }
@@ -18,8 +18,8 @@ pub fn value(output: &Output, q: u8) -> Frac
     value_for(output, u16::from(q), Width::Byte)
 }
 
-/// The number that an answer of 16 bits stands for: a/65280 of the range above its low end, in units
-/// of 1. An answer is 0 to 65280.
+/// The number that an answer of 16 bits represents: a/65280 of the range above its low end, in units of 1. An
+/// answer is 0 to 65280.
 pub fn value16(output: &Output, a: u16) -> Frac
     requires { IsValidOutput output.now }
     ensures num { result.num ≡ (wide_value_of output.now a).num }
@@ -28,7 +28,7 @@ pub fn value16(output: &Output, a: u16) -> Frac
     value_for(output, a, Width::Word)
 }
 
-/// The number that an answer of this width stands for, in units of 1.
+/// The number that an answer of this width represents, in units of 1.
 fn value_for(output: &Output, a: u16, width: Width) -> Frac
     requires { IsValidOutput output.now }
     ensures num { result.num ≡ (value_in (parts width) output.now a).num }
@@ -42,7 +42,7 @@ fn value_for(output: &Output, a: u16, width: Width) -> Frac
     }
 }
 
-/// The byte whose value is nearest to a number of the range; a tie goes up.
+/// The byte whose value is nearest to a number of the range; a tie rounds up.
 pub fn near(output: &Output, x: Dec) -> u8
     requires output { IsValidOutput output.now }
     requires x { IsWithin output.now.lo output.now.hi x }

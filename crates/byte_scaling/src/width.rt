@@ -7,8 +7,7 @@ ghost use Rattle.byte_scaling.specs.Widths.{parts, places};
 pub enum Width {
     /// 8 bits: the quotient of the sums, rounded down.
     Byte,
-    /// 16 bits, from 0 to 65280: 256 times the quotient of the sums, rounded down. The high byte
-    /// stands first.
+    /// 16 bits, from 0 to 65280: 256 times the quotient of the sums, rounded down. The high byte comes first.
     Word,
 }
 
@@ -24,7 +23,7 @@ impl Width {
         }
     }
 
-    /// In how many parts of a byte an answer comes.
+    /// The number of steps into which an answer divides a byte.
     pub fn parts(self) -> u16
         ensures value { result ≡ parts self }
         ensures some { 1 ≤ result }

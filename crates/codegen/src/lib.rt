@@ -1,10 +1,10 @@
-//! The compiler's last pass: a block's firmware for the CPU12, in each form that there is.
+//! The compiler's last pass: a block's firmware for the CPU12, in each of its forms.
 //!
-//! [`compile`] makes firmware that stands alone and answers bytes, [`compile16`] such that answers 16 bits,
-//! [`compile_for`] either, and [`compile_post`] the mailbox form, all of the crate alone_code; [`compile_scrub`] the form
-//! that watches its tables, of watched_code; and [`compile_two`] an image of two blocks at two levels, of two_level_code.
-//! Each holds exactly the bytes of its block's items and answers every list of samples from reset, and is refused exactly
-//! where the block's rules can't be laid out, as the contracts there say.
+//! [`compile`] makes firmware that stands alone and answers bytes, [`compile16`] firmware that answers 16 bits,
+//! [`compile_for`] either, and [`compile_post`] the mailbox form, all from the crate alone_code; [`compile_scrub`]
+//! the form that watches its tables, from watched_code; and [`compile_two`] an image of two blocks at two levels,
+//! from two_level_code. Each image holds exactly the bytes of its block's items and answers every list of samples
+//! from reset; a block is refused exactly where its rules can't be laid out, as the contracts there state.
 #![tactic(auto)]
 
 pub use alone_code::{Firmware, compile, compile_for, compile_post, compile16};

@@ -1,11 +1,10 @@
-//! What calls of the machine answer.
+//! Results of calls of the machine.
 ghost use Rattle.std.specs.Prelude.{◌≡◌};
 ghost use Rattle.cpu12_emul.specs.Step.{is_part};
 
 use arrayvec::ArrayVec;
 
-/// What a step was: a plain instruction, a part of REV, REVW or WAV after which there is more, or a
-/// last part.
+/// What a step was: a plain instruction, a part of REV, REVW or WAV that is not its last, or a last part.
 #[derive(Clone, Copy, PartialEq, Eq, Drop)]
 pub enum Stepped {
     Plain,
@@ -14,7 +13,7 @@ pub enum Stepped {
 }
 
 impl Stepped {
-    /// Whether it was a part after which there is more.
+    /// Whether it was a part that is not the last.
     pub fn is_part(self) -> bool
         ensures { result ≡ is_part self }
     {
@@ -25,8 +24,8 @@ impl Stepped {
     }
 }
 
-/// How a run ended: PC at a branch to itself after so many steps; a trap with the place and the byte
-/// that is in no table; or the budget spent, with its number of steps.
+/// How a run ended: PC at a branch to itself after this number of steps; a trap with the address and the byte that
+/// is in no table; or the budget used up, with its number of steps.
 #[derive(Clone, Copy, PartialEq, Eq, Drop)]
 pub enum RunEnd {
     Arrived(u32),
@@ -34,8 +33,8 @@ pub enum RunEnd {
     Budget(u32),
 }
 
-/// What an interrupt pushed: PC, SP after the push, and the bytes from there upwards, 9 of them, or 15
-/// where WAV's sums ran.
+/// What an interrupt pushed: PC, SP after the push, and the bytes from there upwards: 9 of them, or 15 if WAV's
+/// sums were running.
 #[derive(Drop)]
 pub struct Frame {
     pub pc: u16,

@@ -1,11 +1,11 @@
-//! The two instructions that go by lists, found by their bytes alone.
+//! The two instructions that evaluate lists, recognized by their bytes alone.
 ghost use Rattle.std.specs.Prelude.{◌≡◌, ◌==◌, ◌&&◌, true, Ok, slice_index};
 ghost use Rattle.cpu12_isa.specs.declared.instr.Instr.TheVariants.{Rev, Revw};
 ghost use Rattle.cpu12_isa.specs.{Memory.plus, Code.decode_at};
 
 use cpu12_isa::mem::Mem;
 
-/// Whether REV stands at `pc`: the bytes `$18 3A`.
+/// Whether REV is at `pc`: the bytes `$18 3A`.
 pub(crate) fn is_rev<M: Mem>(m: &M, pc: u16) -> bool
     ensures bytes { result ≡ (slice_index (M.bytes m.now) pc == 0x18
         && slice_index (M.bytes m.now) (plus pc 1) == 0x3A) }
@@ -14,7 +14,7 @@ pub(crate) fn is_rev<M: Mem>(m: &M, pc: u16) -> bool
     m.read(pc) == 0x18 && m.read(pc.wrapping_add(1)) == 0x3A
 }
 
-/// Whether REVW stands at `pc`: the bytes `$18 3B`.
+/// Whether REVW is at `pc`: the bytes `$18 3B`.
 pub(crate) fn is_revw<M: Mem>(m: &M, pc: u16) -> bool
     ensures bytes { result ≡ (slice_index (M.bytes m.now) pc == 0x18
         && slice_index (M.bytes m.now) (plus pc 1) == 0x3B) }

@@ -24,9 +24,9 @@ impl<M: Mem> Machine<M> {
         !self.regs.ccr.has(INTERRUPTS_MASKED)
     }
 
-    /// Takes an interrupt whose handler does these writes and returns: WAV's sums are pushed where they
-    /// run, then the nine bytes of the frame; I is set, the writes are done in order, and the nine
-    /// bytes are pulled. Answers what was pushed.
+    /// Takes an interrupt whose handler does these writes and returns: WAV's sums are pushed if they are running,
+    /// then the nine bytes of the frame; I is set, the writes are done in order, and the nine bytes are pulled.
+    /// Returns what was pushed.
     pub fn interrupt(&mut self, writes: &[Write]) -> Frame
         requires { IsTrue (may_interrupt self.old.state) }
         ensures state { self.new.state ≡ taken writes.now self.old.state }
@@ -40,8 +40,8 @@ impl<M: Mem> Machine<M> {
         frame
     }
 
-    /// Takes an interrupt up to its handler's first instruction: as `interrupt`, but in place of the
-    /// pull PC becomes the word at `$FFF2`.
+    /// Takes an interrupt up to its handler's first instruction: as `interrupt`, but instead of the pull PC
+    /// becomes the word at `$FFF2`.
     pub fn enter(&mut self, writes: &[Write]) -> Frame
         requires { IsTrue (may_interrupt self.old.state) }
         ensures state { self.new.state ≡ entered writes.now self.old.state }

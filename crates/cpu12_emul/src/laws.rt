@@ -10,7 +10,7 @@ use cpu12_isa::laws::{
 };
 use cpu12_parts::laws::{rev_fits, revw_fits, wav_fits, wav_suspends};
 
-/// A memory made from an image holds just its bytes.
+/// A memory made from an image holds exactly its bytes.
 pub fn holds_image()
     ensures { HoldsImage }
 {}
@@ -20,7 +20,7 @@ pub fn images_load_alike()
     ensures { ImagesLoadAlike }
 {}
 
-/// A run has one end.
+/// A run has exactly one end.
 pub fn runs_end_once()
     ensures { RunsEndOnce }
 {}
@@ -45,19 +45,19 @@ pub fn wav_is_step()
     ensures { PartIsStep Wav wav }
 {}
 
-/// A part of WAV while its sums run is one step.
+/// A part of WAV while its sums are running is one step.
 pub fn sums_are_step()
     ensures { SumsAreStep }
 {}
 
-/// Two states that agree outside hidden bytes step alike, where what is read is shown.
+/// Two states that agree outside hidden bytes have the same step, if what it reads is not hidden.
 pub fn step_agrees()
     ensures { StepAgrees }
 {
     writes_agree();
 }
 
-/// A step with WAV's sums on the stack is that with the sums running.
+/// A step with WAV's sums on the stack is the step with the sums running.
 pub fn wavr_goes_on()
     ensures { WavrGoesOn }
 {}
@@ -88,14 +88,14 @@ pub fn take_keeps()
     wav_suspends();
 }
 
-/// A frame is the registers' nine bytes, and the sums' six where they run.
+/// A frame has the registers' nine bytes, and the sums' six if they are running.
 pub fn frame_is_on_stack()
     ensures { FrameIsOnStack }
 {
     wav_suspends();
 }
 
-/// A step leaves registers, sums and bytes that fit.
+/// A step leaves registers, sums and bytes within their sizes.
 pub fn step_fits()
     ensures { StepFits }
 {

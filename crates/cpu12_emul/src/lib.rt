@@ -1,11 +1,10 @@
 //! The emulator of the CPU12: [`machine::Machine`] over any [`cpu12_isa::mem::Mem`], its steps, runs and
-//! interrupts, and what these answer ([`ends::Stepped`], [`ends::RunEnd`], [`ends::Frame`]).
+//! interrupts, and their results ([`ends::Stepped`], [`ends::RunEnd`], [`ends::Frame`]).
 //!
-//! A step is one plain instruction or one part of REV, REVW or WAV, and does exactly what its
-//! definition says, a trap leaving the machine as it was. An interrupt pushes its frame, with WAV's sums
-//! below it where they run, does the handler's writes and pulls the frame; no step and no interrupt
-//! takes memory. A machine over a [`cpu12_isa::watching::WatchedMem`] tells whether watched bytes have
-//! changed.
+//! A step is one plain instruction or one part of REV, REVW or WAV, and does exactly what its definition states; a
+//! trap leaves the machine unchanged. An interrupt pushes WAV's sums if they are running, and its frame, does the
+//! handler's writes and pulls the frame; no step and no interrupt allocates memory. A machine over a
+//! [`cpu12_isa::watching::WatchedMem`] reports whether watched bytes have changed.
 #![tactic(auto)]
 
 pub mod ends;

@@ -10,8 +10,8 @@ use fz_list::Memory;
 use std::alloc::Global;
 
 impl<M: Mem> Machine<M> {
-    /// A machine that comes from reset with the image in memory, and 0 where it has no byte: registers
-    /// 0, CCR `$D0`, PC from `$FFFE`.
+    /// A machine after reset with the image in memory, and 0 where the image has no byte: registers 0, CCR `$D0`,
+    /// PC from `$FFFE`.
     pub fn new(alloc: Global, image: &Image, flags: u8) -> Result<Machine<M>, Memory>
         ensures { IfOk result (λ m. m ≡ record {
           state = reset_with (image_memory image.now.bytes);

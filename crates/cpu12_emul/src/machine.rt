@@ -18,7 +18,7 @@ use std::marker::Model;
 /// The address of the reset vector.
 const RESET_VECTOR: u16 = 0xFFFE;
 
-/// Registers, memory, WAV's sums, and the byte FLAGS that gives the flags that the manual leaves open.
+/// Registers, memory, WAV's sums, and the byte FLAGS, which supplies the flags that the manual leaves undefined.
 #[derive(Drop)]
 pub struct Machine<M: Mem> {
     pub(crate) regs: Regs,
@@ -39,7 +39,7 @@ impl<M: Mem> Model for Machine<M> {
     } };
 }
 
-/// The kind of a step by a part.
+/// The kind of a step that was a part.
 fn kind_of(end: PartEnd) -> Stepped
     ensures { result ≡ kind_of end }
 {
@@ -50,7 +50,7 @@ fn kind_of(end: PartEnd) -> Stepped
 }
 
 impl<M: Mem> Machine<M> {
-    /// A machine that comes from reset with this memory: registers 0, CCR `$D0`, PC from `$FFFE`.
+    /// A machine after reset with this memory: registers 0, CCR `$D0`, PC from `$FFFE`.
     pub fn reset(mem: M, flags: u8) -> Machine<M>
         ensures { result ≡ record { state = reset_with (M.bytes mem); flags = flags; noted = M.noted mem } }
     {
@@ -103,7 +103,7 @@ impl<M: Mem> Machine<M> {
         self.mem.write(at, value);
     }
 
-    /// The memory alone.
+    /// The memory, without the rest of the machine.
     pub fn into_mem(self) -> M
         ensures bytes { M.bytes result ≡ self.state.mem }
         ensures noted { M.noted result ≡ self.noted }
@@ -117,7 +117,7 @@ impl<M: Mem> Machine<M> {
         mem
     }
 
-    /// One part of an instruction in parts.
+    /// One part of an instruction executed in parts.
     fn part<R: Resumable>(&mut self, k: &R) -> Stepped
         ensures regs { self.new.state.regs
             ≡ (outcome (R.act k.now self.old.flags self.old.state.regs self.old.state.temps) self.old.state.mem).regs }
@@ -137,7 +137,7 @@ impl<M: Mem> Machine<M> {
         kind_of(end)
     }
 
-    /// The step of an instruction that stands at PC, where no sums run.
+    /// The step of an instruction at PC, while no sums are running.
     #[inline(always)]
     #[tactic(auto, using(cpu12_isa::proofs::Algebra::outcome_bind))]
     fn instruction(&mut self, i: &Instr) -> Stepped
@@ -163,7 +163,7 @@ impl<M: Mem> Machine<M> {
         }
     }
 
-    /// The step of what is decoded at PC, where no sums run. A `Trap` leaves the machine as it was.
+    /// The step of what is decoded at PC, while no sums are running. A `Trap` leaves the machine unchanged.
     #[inline(always)]
     #[tactic(auto, using(cpu12_isa::proofs::Algebra::outcome_bind))]
     fn decoded_step(&mut self) -> Result<Stepped, Trap>
@@ -182,9 +182,9 @@ impl<M: Mem> Machine<M> {
         }
     }
 
-    /// One step: where WAV's sums run its next part, else a plain instruction or one part by the bytes
-    /// at PC. A `Trap` comes exactly where `decode` answers it; it leaves the machine as it was, and
-    /// never comes while sums run.
+    /// One step: the next part of WAV if its sums are running, else the plain instruction or the one part that the
+    /// bytes at PC give. The result is a `Trap` exactly where `decode` returns it; it leaves the machine
+    /// unchanged, and never comes while sums are running.
     #[inline(always)]
     #[tactic(auto, using(cpu12_isa::proofs::Algebra::outcome_bind))]
     pub fn step(&mut self) -> Result<Stepped, Trap>

@@ -12,7 +12,7 @@ use cpu12_parts::laws::{rev_stays, rev_steady, revw_stays, revw_steady};
 use cpu12_parts::rules::{Rev, Revw};
 use cpu12_parts::temps::{Resumable, Temps};
 
-/// Whether an address is none of the two at `pc`.
+/// Whether an address is neither of the two at `pc`.
 #[inline(always)]
 fn is_beside(at: u16, pc: u16) -> bool
     ensures first { result ≡ true → pc ≢ at }
@@ -21,7 +21,7 @@ fn is_beside(at: u16, pc: u16) -> bool
     at.wrapping_sub(pc) >= 2
 }
 
-/// Whether the next part of REV is not its last, and cannot write where REV stands.
+/// Whether the next part of REV is not its last, and cannot write to REV's own bytes.
 #[inline(always)]
 fn rev_goes_on<M: Mem>(m: &M, r: Regs) -> bool
     ensures { result ≡ true → RevGoesOn (M.bytes m.now) r }
@@ -30,7 +30,7 @@ fn rev_goes_on<M: Mem>(m: &M, r: Regs) -> bool
     e != 0xFF && is_beside(r.y.wrapping_add(e as u16), r.pc)
 }
 
-/// Whether the next part of REVW is not its last, and cannot write where REVW stands.
+/// Whether the next part of REVW is not its last, and cannot write to REVW's own bytes.
 #[inline(always)]
 fn revw_goes_on<M: Mem>(m: &M, r: Regs) -> bool
     ensures { result ≡ true → RevwGoesOn (M.bytes m.now) r }
@@ -39,8 +39,8 @@ fn revw_goes_on<M: Mem>(m: &M, r: Regs) -> bool
     e != 0xFFFF && is_beside(e, r.pc)
 }
 
-/// Does parts of REV that go on and leave it where it stands, at most `most`. Answers the registers after
-/// them, and how many they were.
+/// Does parts of REV that are not the last and leave its bytes unchanged, at most `most`. Returns the registers
+/// after them, and their number.
 fn rev_parts<M: Mem>(m: &mut M, regs: Regs, temps: Temps, flags: u8, most: u32) -> (Regs, u32)
     requires off { IsOff temps }
     requires stands { Stands 0x3A regs.pc (M.bytes m.old) }
@@ -61,8 +61,8 @@ fn rev_parts<M: Mem>(m: &mut M, regs: Regs, temps: Temps, flags: u8, most: u32) 
     (r, done)
 }
 
-/// Does parts of REVW that go on and leave it where it stands, at most `most`. Answers the registers after
-/// them, and how many they were.
+/// Does parts of REVW that are not the last and leave its bytes unchanged, at most `most`. Returns the registers
+/// after them, and their number.
 fn revw_parts<M: Mem>(m: &mut M, regs: Regs, temps: Temps, flags: u8, most: u32) -> (Regs, u32)
     requires off { IsOff temps }
     requires stands { Stands 0x3B regs.pc (M.bytes m.old) }
@@ -84,9 +84,9 @@ fn revw_parts<M: Mem>(m: &mut M, regs: Regs, temps: Temps, flags: u8, most: u32)
 }
 
 impl<M: Mem> Machine<M> {
-    /// Does parts of REV or REVW at once where one of them stands at PC and no sums of WAV run: parts that
-    /// are not the last, at most `most`, up to one that might write where the instruction stands. Answers
-    /// how many, 0 where neither stands there; the next step is done by `step`. PC and SP stay.
+    /// If REV or REVW is at PC and no sums of WAV are running, does parts of it at once: parts that are not the
+    /// last, at most `most`, up to one that might write to the instruction's own bytes. Returns how many, 0 if
+    /// neither is at PC; the next step is done by `step`. PC and SP are unchanged.
     #[inline(never)]
     pub fn rule_parts(&mut self, most: u32) -> u32
         ensures steps { PartsTo (λ s. (s.regs.pc ≡ self.old.state.regs.pc) × (s.regs.sp ≡ self.old.state.regs.sp))

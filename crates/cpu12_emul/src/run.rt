@@ -14,9 +14,9 @@ impl<M: Mem> Machine<M> {
         self.peek(self.regs.pc) == 0x20 && self.peek(self.regs.pc.wrapping_add(1)) == 0xFE
     }
 
-    /// Does steps until PC is at a branch to itself: `Arrived` with the least number of steps, at most
-    /// `budget`, after which it is; else `Trap` where a step has no value, or `Budget` where `budget`
-    /// steps were done without arriving. The machine is then as those steps left it.
+    /// Does steps until PC is at a branch to itself: `Arrived` with the least number of steps, at most `budget`,
+    /// after which it is; else `Trap` if a step is undefined, or `Budget` if `budget` steps were done without
+    /// arriving. The machine is left as those steps left it.
     pub fn run(&mut self, budget: u32) -> RunEnd
         ensures ends { EndsRun self.old.flags budget self.old.state result self.new.state }
         ensures flags { self.new.flags ≡ self.old.flags }

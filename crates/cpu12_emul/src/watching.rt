@@ -1,4 +1,4 @@
-//! Machines that tell whether watched bytes have changed.
+//! Machines that report whether watched bytes have changed.
 ghost use Rattle.std.specs.Prelude.{ℕ, ◌≡◌, Some, None, slice_index, slice_set};
 ghost use Rattle.cpu12_isa.specs.Watching.{noted_again, any_changed};
 
@@ -16,7 +16,7 @@ impl<M: Mem> Machine<WatchedMem<M>> {
         self.mem.watch(at);
     }
 
-    /// Watches an address no more.
+    /// Stops watching an address.
     pub fn unwatch(&mut self, at: u16)
         ensures state { self.new.state ≡ self.old.state }
         ensures flags { self.new.flags ≡ self.old.flags }
@@ -35,7 +35,7 @@ impl<M: Mem> Machine<WatchedMem<M>> {
         self.mem.note();
     }
 
-    /// Whether the byte at a watched address is another than the noted one.
+    /// Whether the byte at any watched address differs from the noted one.
     #[inline(always)]
     pub fn has_changed(&self) -> bool
         ensures { result ≡ any_changed self.now.noted self.now.state.mem }

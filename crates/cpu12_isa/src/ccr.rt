@@ -20,7 +20,7 @@ pub const HALF_CARRY: u8 = 5;
 /// The bit of X, which masks XIRQ.
 pub const X_MASKED: u8 = 6;
 
-/// The masks of flags that an instruction leaves open, by the flags' letters.
+/// Masks of the flags that an instruction leaves undefined, named by the flags' letters.
 pub const HNZVC: u8 = 0b10_1111;
 
 pub const HNZC: u8 = 0b10_1101;
@@ -54,14 +54,14 @@ impl Ccr {
         }
     }
 
-    /// With the flags of a mask taken from the byte FLAGS, for flags that the manual leaves open.
+    /// With the flags of a mask taken from the byte FLAGS: those that the manual leaves undefined.
     pub fn opened(self, mask: u8, flags: u8) -> Ccr
         ensures { result ≡ opened self mask flags }
     {
         Ccr((self.0 & (255 - mask)) | (flags & mask))
     }
 
-    /// With N and Z by a byte and V 0.
+    /// With N and Z as for a byte, and V 0.
     pub fn tested(self, v: u8) -> Ccr
         ensures { result ≡ tested self v }
     {
@@ -70,7 +70,7 @@ impl Ccr {
             .put(OVERFLOW, false)
     }
 
-    /// With N and Z by a word and V 0.
+    /// With N and Z as for a word, and V 0.
     pub fn tested_word(self, v: u16) -> Ccr
         ensures { result ≡ tested_word self v }
     {
@@ -79,7 +79,7 @@ impl Ccr {
             .put(OVERFLOW, false)
     }
 
-    /// With H N Z V C of a sum of two bytes.
+    /// With H, N, Z, V and C of a sum of two bytes.
     pub fn added(self, u: u8, v: u8) -> Ccr
         ensures { result ≡ added self u v }
     {
@@ -92,7 +92,7 @@ impl Ccr {
             .put(CARRY, u as u16 + v as u16 >= 256)
     }
 
-    /// The sum of two bytes and C, before it is cut to a byte.
+    /// The sum of two bytes and C, before it is reduced to a byte.
     fn whole_sum(self, u: u8, v: u8) -> u16
         ensures { result ≡ sum_with_carry self u v }
     {
@@ -110,7 +110,7 @@ impl Ccr {
         (self.whole_sum(u, v) % 256) as u8
     }
 
-    /// With H N Z V C of the sum of two bytes and C.
+    /// With H, N, Z, V and C of the sum of two bytes and C.
     pub fn added_with_carry(self, u: u8, v: u8) -> Ccr
         ensures { result ≡ added_with_carry self u v }
     {
@@ -125,7 +125,7 @@ impl Ccr {
             .put(CARRY, carry)
     }
 
-    /// With N Z V C of a difference of two bytes.
+    /// With N, Z, V and C of a difference of two bytes.
     pub fn subtracted(self, u: u8, v: u8) -> Ccr
         ensures { result ≡ subtracted self u v }
     {
@@ -137,7 +137,7 @@ impl Ccr {
             .put(CARRY, u < v)
     }
 
-    /// With N Z V C of a difference of two words.
+    /// With N, Z, V and C of a difference of two words.
     pub fn subtracted_word(self, u: u16, v: u16) -> Ccr
         ensures { result ≡ subtracted_word self u v }
     {

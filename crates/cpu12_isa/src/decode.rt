@@ -1,4 +1,4 @@
-//! Instructions read from memory.
+//! Decoding instructions from memory.
 ghost use Rattle.std.specs.Prelude.{ℕ, ◌≡◌, ◌+◌, ◌*◌, ◌/◌, ◌%◌, ◌^◌, ◌<◌, IfOk, IfErr, MatchResult, length};
 ghost use Rattle.std.specs.Prelude.{slice_index};
 ghost use Rattle.cpu12_isa.specs.Memory.{plus, word_of, high_of, low_of};
@@ -29,10 +29,10 @@ fn word<M: Mem>(m: &M, pc: u16, k: u16) -> u16
     word_of(byte(m, pc, k), byte(m, pc, k + 1))
 }
 
-/// The instruction that stands at `pc`. A `Trap` comes exactly where the byte at `pc`, or the one
-/// after `$18`, `$B7` or `$EB`, is not in the table.
+/// The instruction at `pc`. The result is a `Trap` exactly where the byte at `pc`, or the one after `$18`, `$B7`
+/// or `$EB`, is not in the table.
 ///
-/// It is inlined into a step, which then goes by the first byte once for decoding and doing.
+/// It is inlined into a step, so that the first byte is dispatched on once for decoding and execution.
 #[inline(always)]
 pub fn instruction_at<M: Mem>(m: &M, pc: u16) -> Result<Instr, Trap>
     ensures found { MatchResult result (λ i. decode_at (M.bytes m.now) pc ≡ Ok i)
@@ -154,8 +154,8 @@ fn decode_page_eb<M: Mem>(m: &M, pc: u16) -> Result<Instr, Trap>
     }
 }
 
-/// The instruction that stands at `pc` and the number of its bytes, 1 to 6. A `Trap` comes exactly
-/// where the byte at `pc`, or the one after `$18`, `$B7` or `$EB`, is not in the table.
+/// The instruction at `pc` and its length in bytes, 1 to 6. The result is a `Trap` exactly where the byte at `pc`,
+/// or the one after `$18`, `$B7` or `$EB`, is not in the table.
 pub fn decode<M: Mem>(m: &M, pc: u16) -> Result<(Instr, u8), Trap>
     ensures found { MatchResult result (λ x. decode_at (M.bytes m.now) pc ≡ Ok x.0)
         (λ t. decode_at (M.bytes m.now) pc ≡ Err t.byte) }

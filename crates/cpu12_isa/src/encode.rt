@@ -30,7 +30,7 @@ fn push_word(bytes: &mut ArrayVec<u8, 6>, word: u16)
     bytes.push(low_of(word));
 }
 
-/// The bytes of an operand, behind the others.
+/// Appends the bytes of an operand to the others.
 fn push_operand(bytes: &mut ArrayVec<u8, 6>, operand: Operand)
     requires { array_vec_len bytes.old ≤ 2 }
     ensures { bytes.new.items ≡ bytes.old.items ++ operand_bytes operand }

@@ -1,4 +1,4 @@
-//! Doing an instruction.
+//! Execution of one instruction.
 ghost use Rattle.std.specs.Prelude.{ℕ, ◌≡◌, ◌+◌, ◌-◌, ◌*◌, ◌/◌, ◌%◌, ◌^◌, ◌<◌, ◌≤◌, IsTrue};
 ghost use Rattle.cpu12_isa.specs.{Act.write_all, Meaning.effect, Meaning.is_plain};
 
@@ -9,8 +9,7 @@ use crate::regs::grade;
 use crate::stack::{pull_frame, pull_word};
 
 impl Instr {
-    /// Whether the instruction is done at once: all but REV, REVW, WAV and wavr, which are done in
-    /// parts.
+    /// Whether the instruction is executed at once: all but REV, REVW, WAV and wavr, which are executed in parts.
     pub fn is_plain(&self) -> bool
         ensures { result ≡ is_plain self.now }
     {
@@ -18,8 +17,8 @@ impl Instr {
     }
 }
 
-/// Does a plain instruction or MEM, which stands at PC. Flags that the manual leaves open take their
-/// bits from `flags`.
+/// Executes the plain instruction or the MEM at PC. Flags that the manual leaves undefined take their bits from
+/// `flags`.
 #[inline(always)]
 pub fn exec<M: Mem>(i: &Instr, r: &mut Regs, m: &mut M, flags: u8)
     requires { IsTrue (is_plain i.now) }
@@ -134,7 +133,7 @@ pub fn exec<M: Mem>(i: &Instr, r: &mut Regs, m: &mut M, flags: u8)
     }
 }
 
-/// MEM: the byte at Y becomes the grade of A in the table of four bytes at X.
+/// MEM: stores at Y the grade of A under the table of four bytes at X.
 fn grade_membership<M: Mem>(r: &mut Regs, m: &mut M, flags: u8)
     ensures regs { r.new ≡ (effect flags Instr.Mem r.old (M.bytes m.old)).regs }
     ensures mem { M.bytes m.new ≡ write_all (effect flags Instr.Mem r.old (M.bytes m.old)).writes (M.bytes m.old) }

@@ -5,8 +5,8 @@ ghost use Rattle.cpu12_isa.specs.Forms.{form_of};
 use crate::instr::Instr;
 use crate::mnemonic::Mnemonic;
 
-/// The table in which an opcode stands: page 1, page 2 behind `$18`, or the postbytes of `TFR` behind
-/// `$B7` and of `ADDB` with an index behind `$EB` (CPU12 Reference Manual, appendix A).
+/// The table that holds an opcode: page 1, page 2 after `$18`, or the postbytes of `TFR` after `$B7` and of `ADDB`
+/// with an index after `$EB` (CPU12 Reference Manual, appendix A).
 #[derive(Clone, Copy, PartialEq, Eq, Drop)]
 pub enum Page {
     One,
@@ -15,10 +15,10 @@ pub enum Page {
     AddIndexed,
 }
 
-/// An operand, by the way it addresses (CPU12 Reference Manual, section 3).
+/// An operand, by its addressing mode (CPU12 Reference Manual, section 3).
 #[derive(Clone, Copy, Drop)]
 pub enum Operand {
-    /// None is written.
+    /// No operand is written.
     Inherent,
     /// `#ii`.
     Byte(u8),
@@ -40,7 +40,7 @@ pub enum Operand {
     PostIncrementX,
 }
 
-/// A row of the table: the mnemonic, where the opcode or postbyte stands, that byte, and the operand.
+/// A row of the table: the mnemonic, the page of the opcode or postbyte, that byte, and the operand.
 #[derive(Clone, Copy, Drop)]
 pub struct Form {
     pub mnemonic: Mnemonic,
@@ -141,7 +141,7 @@ impl Instr {
     }
 }
 
-/// An instruction of each form, with operands 0.
+/// An instruction of each form, with all operands 0.
 pub const EVERY: [Instr; 56] = [
     Instr::LdaaImmediate(0),
     Instr::LdaaExtended(0),

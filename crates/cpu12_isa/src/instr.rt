@@ -24,16 +24,16 @@ pub struct Write {
     pub value: u8,
 }
 
-/// The bytes at `pc` begin no instruction. `byte` is the first of them that is in no table: the one
-/// at `pc`, or the one after `$18`, `$B7` or `$EB`.
+/// The bytes at `pc` begin no instruction. `byte` is the first of them that is in no table: the one at `pc`, or
+/// the one after `$18`, `$B7` or `$EB`.
 #[derive(Clone, Copy, Debug, PartialEq, Eq, Drop)]
 pub struct Trap {
     pub pc: u16,
     pub byte: u8,
 }
 
-/// An instruction in one of its byte forms, with the operands in their order. A branch has its
-/// offset from the next instruction as the byte that it is, in two's complement.
+/// An instruction in one of its byte forms, with its operands in order. A branch holds its offset from the next
+/// instruction as a byte in two's complement.
 #[derive(Clone, Copy, Drop)]
 pub enum Instr {
     /// `LDAA #ii`: loads A.
@@ -56,7 +56,7 @@ pub enum Instr {
     StabExtended(u16),
     /// `CLR hhll`: stores 0.
     ClrExtended(u16),
-    /// `COMA`: 255 minus A.
+    /// `COMA`: replaces A by 255 minus A.
     Coma,
     /// `CPX #hhll`: compares X.
     CpxImmediate(u16),
@@ -70,13 +70,13 @@ pub enum Instr {
     Bcs(u8),
     /// `BRA rr`: branches always.
     Bra(u8),
-    /// `JSR hhll`: pushes the next instruction's address and goes on at another.
+    /// `JSR hhll`: pushes the next instruction's address and jumps.
     JsrExtended(u16),
     /// `RTS`: pulls the program counter.
     Rts,
     /// `ANDCC #ii`: clears condition codes.
     Andcc(u8),
-    /// `ORCC #ii`: sets condition codes, the X mask aside.
+    /// `ORCC #ii`: sets condition codes, except the X mask.
     Orcc(u8),
     /// `TFR X,D`: copies X to D.
     TransferXD,
@@ -90,9 +90,9 @@ pub enum Instr {
     Rti,
     /// `NOP`.
     Nop,
-    /// `INC hhll`: a byte of memory rises by 1.
+    /// `INC hhll`: adds 1 to a byte of memory.
     IncExtended(u16),
-    /// `DEC hhll`: a byte of memory falls by 1.
+    /// `DEC hhll`: subtracts 1 from a byte of memory.
     DecExtended(u16),
     /// `ADDA #ii`: adds to A.
     AddaImmediate(u8),
@@ -102,7 +102,7 @@ pub enum Instr {
     AddbImmediate(u8),
     /// `ADDB hhll`: adds a byte of memory to B.
     AddbExtended(u16),
-    /// `ADDB 1,X+`: adds the byte at X to B; X then rises by 1.
+    /// `ADDB 1,X+`: adds the byte at X to B, then 1 to X.
     AddbPostIncrementX,
     /// `ADCA #ii`: adds to A, with C.
     AdcaImmediate(u8),
@@ -110,25 +110,25 @@ pub enum Instr {
     SubaImmediate(u8),
     /// `SUBA hhll`: subtracts a byte of memory from A.
     SubaExtended(u16),
-    /// `CMPA #ii`: compares A.
+    /// `CMPA #ii`: compares A with a byte.
     CmpaImmediate(u8),
-    /// `CMPA hhll`: compares A to a byte of memory.
+    /// `CMPA hhll`: compares A with a byte of memory.
     CmpaExtended(u16),
-    /// `ANDA #ii`: the bits that A shares.
+    /// `ANDA #ii`: the bitwise AND with A.
     AndaImmediate(u8),
-    /// `ANDA hhll`: the bits that A shares with a byte of memory.
+    /// `ANDA hhll`: the bitwise AND of A and a byte of memory.
     AndaExtended(u16),
-    /// `ORAA #ii`: the bits of both.
+    /// `ORAA #ii`: the bitwise OR with A.
     OraaImmediate(u8),
-    /// `ORAA hhll`: the bits of A and of a byte of memory.
+    /// `ORAA hhll`: the bitwise OR of A and a byte of memory.
     OraaExtended(u16),
-    /// `INX`: X rises by 1.
+    /// `INX`: adds 1 to X.
     Inx,
-    /// `DEX`: X falls by 1.
+    /// `DEX`: subtracts 1 from X.
     Dex,
-    /// `INY`: Y rises by 1.
+    /// `INY`: adds 1 to Y.
     Iny,
-    /// `DEY`: Y falls by 1.
+    /// `DEY`: subtracts 1 from Y.
     Dey,
     /// `PSHA`: pushes A.
     Psha,
@@ -136,7 +136,7 @@ pub enum Instr {
     Pula,
     /// `MOVB #ii,hhll`: stores a byte.
     MovbImmediate(u8, u16),
-    /// `MOVB hhll,hhll`: copies a byte, its source first.
+    /// `MOVB hhll,hhll`: copies a byte; the source is the first operand.
     MovbExtended(u16, u16),
     /// `MEM`: a membership grade of A.
     Mem,
@@ -146,6 +146,6 @@ pub enum Instr {
     Revw,
     /// `WAV`: weighted average.
     Wav,
-    /// `wavr`: goes on with a weighted average whose sums are on the stack.
+    /// `wavr`: resumes a weighted average whose sums are on the stack.
     Wavr,
 }

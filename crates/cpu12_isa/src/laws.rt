@@ -7,27 +7,27 @@ ghost use Rattle.cpu12_isa.specs.Interrupts.{FrameComesBack, HidesMoreAbove, Sho
 ghost use Rattle.cpu12_isa.specs.declared.form.TheConstants.{EVERY};
 ghost use Rattle.cpu12_isa.specs.{Meaning.Effect, Watching.NothingIsWatched, Pages.GivenAreWritten, Forms.every};
 
-/// What an instruction does depends on the bytes that it reads alone.
+/// What an instruction does depends only on the bytes that it reads.
 pub fn reads_alone()
     ensures { ReadsAlone Effect }
 {}
 
-/// The same writes keep two memories agreed.
+/// Memories that agree still agree after the same writes.
 pub fn writes_agree()
     ensures { WritesAgree }
 {}
 
-/// Writes change no other byte.
+/// Writes change no byte but those they name.
 pub fn writes_stay()
     ensures { WritesStay }
 {}
 
-/// Registers and writes keep the sizes that they have.
+/// Registers and writes stay within their sizes.
 pub fn stays_fit()
     ensures { StaysFit }
 {}
 
-/// A memory of bytes stays one.
+/// A memory of bytes remains one.
 pub fn bytes_stay()
     ensures { BytesStay }
 {}
@@ -37,46 +37,45 @@ pub fn nothing_is_watched()
     ensures { NothingIsWatched }
 {}
 
-/// A fresh `PageMem` counts after writes the pages that a byte other than 0 was ever written into.
+/// After writes, a fresh `PageMem` counts the pages to which a byte other than 0 was ever written.
 pub fn given_are_written()
     ensures { GivenAreWritten }
 {}
 
-/// What is decoded has operands that fit.
+/// Decoded instructions have operands that fit.
 pub fn decoded_fits()
     ensures { DecodedFits }
 {}
 
-/// An instruction has six bytes at most, and they are bytes where its operands fit.
+/// An instruction has at most six bytes, and they are bytes where its operands fit.
 pub fn encoded_are_bytes()
     ensures short { EncodedIsShort }
     ensures bytes { EncodedAreBytes }
 {}
 
-/// What is decoded has its opcode there, and its page's byte before it.
+/// A decoded instruction has its opcode in memory, after the byte of its page if it has one.
 pub fn decoded_has_opcode()
     ensures { DecodedHasOpcode }
 {}
 
-/// What an interrupt pushes of the registers is pulled again.
+/// Registers that an interrupt pushes are pulled unchanged.
 pub fn frame_comes_back()
     ensures { FrameComesBack }
 {}
 
-/// Of the stack the bytes below SP are hidden, and no others: what is pushed is, and more where SP is
-/// higher.
+/// Of the stack exactly the bytes below SP are hidden: bytes pushed from there are, and where SP is higher, no less.
 pub fn stack_is_hidden()
     ensures more { HidesMoreAbove }
     ensures shown { ShowsFromSp }
     ensures pushed { HidesPushed }
 {}
 
-/// The table [`EVERY`](crate::form::EVERY) has an instruction of each form of the table.
+/// [`EVERY`](crate::form::EVERY) has an instruction of each form in the table.
 pub fn every_form_stands()
     ensures { EVERY ≡ every }
 {}
 
-/// What was encoded is decoded, wherever it stands.
+/// An encoded instruction is decoded to itself, at any address.
 pub fn decodes_encoded()
     ensures { DecodesEncoded }
 {}

@@ -1,4 +1,4 @@
-//! Memory, and words in it.
+//! Memory, and words made of bytes.
 ghost use Rattle.std.specs.Prelude.{ℕ, ◌≡◌, List, Option, length, slice_index, slice_set, IfOk};
 ghost use Rattle.cpu12_isa.specs.Memory.{zeros, word_of, high_of, low_of};
 ghost use Rattle.cpu12_isa.specs.{Regions.is_free, Watching.nothing_noted, Watching.length_nothing_noted};
@@ -9,7 +9,7 @@ use std::alloc::{AllocError, Global};
 /// The address of the interrupt's vector.
 pub const VECTOR: u16 = 0xFFF2;
 
-/// The first of the free bytes, which go up to the stack.
+/// The first free byte; the free bytes go up to the stack.
 pub const FREE_START: u16 = 0x1800;
 
 /// The first byte of the stack.
@@ -27,8 +27,7 @@ pub trait Mem: Sized {
     /// The 65536 bytes.
     ghost bytes: { Self → List ℕ };
 
-    /// For each of the 65536 addresses the byte that it is compared with, where it is watched. No write
-    /// changes it.
+    /// For each of the 65536 addresses the byte that it is compared with, if it is watched. No write changes this.
     ghost noted: { Self → List (Option ℕ) };
 
     /// A memory of zeros, with no address watched.

@@ -2,8 +2,8 @@
 ghost use Rattle.std.specs.Prelude.{◌≡◌};
 ghost use Rattle.cpu12_isa.specs.Mnemonics.{text_of};
 
-/// The name of an operation (CPU12 Reference Manual, appendix A). `WAVR` names the instruction that goes on
-/// with a `WAV`.
+/// The name of an operation (CPU12 Reference Manual, appendix A). `WAVR` names the instruction that resumes an
+/// interrupted `WAV`.
 #[derive(Clone, Copy, PartialEq, Eq, Drop)]
 pub enum Mnemonic {
     Ldaa,

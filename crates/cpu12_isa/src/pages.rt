@@ -1,4 +1,4 @@
-//! Memory of which only the pages that are written to take bytes of their own.
+//! Memory that allocates room only for pages that are written to.
 ghost use Rattle.std.specs.Prelude.{ℕ, ◌≡◌, ◌≢◌, ◌==◌, ◌/◌, ◌<◌, true, false, if◌then◌else◌, count_by, length};
 ghost use Rattle.std.specs.Prelude.{replicate, slice_index, slice_set, IfOk};
 ghost use Rattle.cpu12_isa.specs.Pages.{ArePages, bytes_in, given_in, given_with};
@@ -8,15 +8,15 @@ use crate::mem::{Mem, zeroed};
 use fz_list::Memory;
 use std::alloc::Global;
 
-/// A memory of 256 pages of 256 bytes. A page holds zeros, as all do at first, until a byte other
-/// than 0 is written into it; then it takes the next place of a pool that `fresh` took whole, so
-/// that no write takes memory.
+/// A memory of 256 pages of 256 bytes. A page holds zeros, as all do at first, until a byte other than 0 is
+/// written to it; then it takes the next slot of a pool that `fresh` allocated as a whole, so that no write
+/// allocates memory.
 #[derive(Drop)]
 pub struct PageMem {
-    /// For each page the place of its bytes in the pool, in pages; 0 is the place of the zero page.
+    /// For each page the index of its slot in the pool, in pages; 0 is that of the zero page.
     table: [u16; 256],
     pool: Vec<u8>,
-    /// The last place that is taken.
+    /// The last slot in use.
     used: u16,
     ghost pages: { ArePages table pool.items used },
     ghost full: { length (bytes_in table pool.items 65536) ≡ 65536 },
@@ -68,7 +68,7 @@ impl PageMem {
         self.put(at, value)
     }
 
-    /// Gives a page a place of its own, where it has none.
+    /// Gives a page its own slot, if it has none.
     fn give(&mut self, page: u8)
         ensures bytes { ⟦<PageMem as Mem>⟧.bytes self.new ≡ ⟦<PageMem as Mem>⟧.bytes self.old }
         ensures given { given self.new ≡ slice_set (given self.old) page true }
@@ -80,7 +80,7 @@ impl PageMem {
         }
     }
 
-    /// Writes into a page that has a place of its own.
+    /// Writes to a page that has its own slot.
     fn put(&mut self, at: u16, value: u8)
         requires has_place { slice_index self.old.table (at / 256) ≢ 0 }
         ensures bytes { ⟦<PageMem as Mem>⟧.bytes self.new ≡ slice_set (⟦<PageMem as Mem>⟧.bytes self.old) at value }
@@ -102,7 +102,7 @@ impl Mem for PageMem {
 
     ghost use Rattle.cpu12_isa.specs.PageMemory.{given};
 
-    /// All bytes 0, and no page with a place of its own.
+    /// All bytes 0, and no page with its own slot.
     fn fresh(alloc: Global) -> Result<Self, Memory>
         ensures bytes { IfOk result (λ m. ⟦<PageMem as Mem>⟧.bytes m ≡ zeros 65536) }
         ensures noted { IfOk result (λ m. ⟦<PageMem as Mem>⟧.noted m ≡ nothing_noted) }
@@ -116,7 +116,7 @@ impl Mem for PageMem {
         self.pool[place * 256 + (at % 256) as usize]
     }
 
-    /// Sets the byte at an address. A byte other than 0 gives its page a place of its own.
+    /// Sets the byte at an address. A byte other than 0 gives its page its own slot.
     fn write(&mut self, at: u16, value: u8)
         ensures bytes { ⟦<PageMem as Mem>⟧.bytes self.new ≡ slice_set (⟦<PageMem as Mem>⟧.bytes self.old) at value }
         ensures noted { ⟦<PageMem as Mem>⟧.noted self.new ≡ ⟦<PageMem as Mem>⟧.noted self.old }

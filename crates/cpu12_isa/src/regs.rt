@@ -1,4 +1,4 @@
-//! What groups of instructions do to the registers. `n` is the number of the instruction's bytes.
+//! What groups of instructions do to the registers. `n` is the length of the instruction in bytes.
 ghost use Rattle.std.specs.Prelude.{ℕ, ◌≡◌, ◌+◌, ◌*◌, ◌/◌, ◌%◌, ◌^◌, ◌<◌, ◌≤◌, ◌==◌, if◌then◌else◌};
 ghost use Rattle.cpu12_isa.specs.Memory.{plus};
 ghost use Rattle.cpu12_isa.specs.Registers.{passed, stored, loaded_a, loaded_b, loaded_x, loaded_y, loaded_sp};
@@ -11,7 +11,7 @@ use crate::instr::Regs;
 use crate::mem::{high_of, low_of};
 
 impl Regs {
-    /// Goes on at the next instruction.
+    /// Advances PC to the next instruction.
     #[inline(always)]
     pub fn pass(&mut self, n: u16)
         ensures { self.new ≡ passed self.old n }
@@ -19,7 +19,7 @@ impl Regs {
         self.pc = self.pc.wrapping_add(n);
     }
 
-    /// Flags of a byte that is stored.
+    /// The flags for a byte that is stored.
     #[inline(always)]
     pub fn store(&mut self, v: u8)
         ensures { self.new ≡ stored self.old v }
@@ -150,7 +150,7 @@ impl Regs {
         self.load_a(self.a | v, n);
     }
 
-    /// Adds `k` to X; 65535 is 1 down.
+    /// Adds `k` to X; 65535 subtracts 1.
     #[inline(always)]
     pub fn move_x(&mut self, k: u16)
         ensures { self.new ≡ moved_x self.old k }
@@ -160,7 +160,7 @@ impl Regs {
         self.pass(1);
     }
 
-    /// Adds `k` to Y; 65535 is 1 down.
+    /// Adds `k` to Y; 65535 subtracts 1.
     #[inline(always)]
     pub fn move_y(&mut self, k: u16)
         ensures { self.new ≡ moved_y self.old k }
@@ -179,7 +179,7 @@ impl Regs {
         self.pass(2);
     }
 
-    /// Branches to an offset from the next instruction, or goes on there.
+    /// Branches to an offset from the next instruction, or continues there.
     #[inline(always)]
     pub fn branch(&mut self, to: u8, go: bool)
         ensures { self.new ≡ branched self.old to go }
@@ -190,7 +190,7 @@ impl Regs {
         }
     }
 
-    /// EDIV. With X 0 or a quotient above 65535 the registers stay, and flags say so.
+    /// EDIV. If X is 0 or the quotient is above 65535, the registers are unchanged, and the flags report it.
     pub fn divide(&mut self, flags: u8)
         ensures { self.new ≡ divided flags self.old }
     {
@@ -216,7 +216,7 @@ impl Regs {
         self.ccr = self.ccr.tested_word(quotient as u16).put(CARRY, false);
     }
 
-    /// FDIV. Where D is not below X, X becomes `$FFFF` and D stays.
+    /// FDIV. If D is not below X, X becomes `$FFFF` and D is unchanged.
     pub fn divide_fraction(&mut self)
         ensures { self.new ≡ divided_fraction self.old }
     {
@@ -256,8 +256,8 @@ fn offset(to: u8) -> u16
     }
 }
 
-/// One side of a grade: `far` places from a point where the degree is 0, at a slope; a slope of 0
-/// is a vertical edge.
+/// One side of a grade: at distance `far` from a point where the degree is 0, with a slope; a slope of 0 is a
+/// vertical edge.
 fn side(far: u8, slope: u8) -> u16
     ensures { result ≡ (if slope == 0 then 255 else far * slope) }
 {
@@ -268,7 +268,7 @@ fn side(far: u8, slope: u8) -> u16
     }
 }
 
-/// The grade of `a` between two points with their slopes, as MEM gives it.
+/// The grade of `a` between two points with their slopes, as MEM computes it.
 pub fn grade(first: u8, second: u8, rise: u8, fall: u8, a: u8) -> u8
     ensures { result ≡ grade first second rise fall a }
 {

@@ -6,7 +6,7 @@ ghost use Rattle.cpu12_isa.specs.Memory.{plus, word_of, placed, from, bytes_at};
 use crate::instr::Regs;
 use crate::mem::{Mem, high_of, low_of, word_of};
 
-/// Writes bytes one after the other, from an address on.
+/// Writes bytes one after the other, starting at an address.
 pub fn place<M: Mem>(m: &mut M, at: u16, bytes: &[u8])
     ensures mem { M.bytes m.new ≡ write_all (placed at bytes.now) (M.bytes m.old) }
     ensures noted { M.noted m.new ≡ M.noted m.old }
@@ -61,7 +61,7 @@ pub fn push_frame<M: Mem>(r: &mut Regs, m: &mut M)
     place(m, r.sp, &bytes);
 }
 
-/// Pulls the nine bytes of an interrupt's frame. The X bit is never set by it.
+/// Pulls the nine bytes of an interrupt's frame. This never sets the X bit.
 pub fn pull_frame<M: Mem>(r: &mut Regs, m: &M)
     ensures { r.new ≡ pulled r.old (bytes_at (M.bytes m.now) (from r.old.sp 9)) }
 {

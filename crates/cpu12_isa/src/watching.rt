@@ -1,4 +1,4 @@
-//! Memory that tells whether watched bytes have changed.
+//! Memory that reports whether watched bytes have changed.
 ghost use Rattle.std.specs.Prelude.{ℕ, ◌≡◌, ◌<◌, List, Option, Some, None, true, length, option_map, slice_index};
 ghost use Rattle.std.specs.Prelude.{slice_index_or, slice_set, IfOk};
 ghost use Rattle.arrayvec.specs.ArrayVec.{array_vec_len};
@@ -11,20 +11,21 @@ use arrayvec::ArrayVec;
 use fz_list::Memory;
 use std::alloc::{AllocError, Global};
 
-/// A memory over another that notes the bytes at watched addresses, and tells whether one is another than
-/// it was when it was noted. As long as no watched byte has changed, this takes one test.
+/// A memory over another that notes the bytes at watched addresses, and reports whether any of them differs from
+/// what was noted. As long as no watched byte has changed, this takes one test.
 #[derive(Drop)]
 pub struct WatchedMem<M: Mem> {
     inner: M,
-    /// For each address the byte that was noted there, where it is watched.
+    /// For each address the byte that was noted there, if it is watched.
     table: Vec<Option<u8>>,
-    /// Watched addresses that were given another byte than the noted one; where it is full, there may be more.
+    /// Watched addresses that were given a byte other than the noted one; when the list is full, there may be
+    /// more.
     written: ArrayVec<u16, 64>,
     ghost size: { length table.items ≡ 65536 },
     ghost listed: { array_vec_len written < 64 → AreListed written.items table.items (M.bytes inner) },
 }
 
-/// A table of n addresses that are not watched.
+/// A table of n addresses, none watched.
 #[tactic(auto, unfolding(crate::specs::Watching::unwatched))]
 fn unwatched(alloc: Global, n: usize) -> Result<Vec<Option<u8>>, AllocError>
     ensures { IfOk result (λ v. v.items ≡ unwatched n) }
@@ -32,7 +33,7 @@ fn unwatched(alloc: Global, n: usize) -> Result<Vec<Option<u8>>, AllocError>
     vec![in alloc; None; n]
 }
 
-/// Whether a noted byte is another than the one that is there.
+/// Whether the noted byte differs from the one in memory.
 #[inline(always)]
 fn is_changed(noted: Option<u8>, byte: u8) -> bool
     ensures { result ≡ is_changed noted byte }
@@ -43,7 +44,7 @@ fn is_changed(noted: Option<u8>, byte: u8) -> bool
     }
 }
 
-/// Whether a noted byte at a listed address is another than memory's.
+/// Whether a noted byte at a listed address differs from memory's.
 fn any_listed<M: Mem>(table: &[Option<u8>], m: &M, written: &[u16]) -> bool
     requires size { length table.now ≡ 65536 }
     requires listed { AreListed written.now table.now (M.bytes m.now) }
@@ -57,7 +58,7 @@ fn any_listed<M: Mem>(table: &[Option<u8>], m: &M, written: &[u16]) -> bool
     false
 }
 
-/// Whether a noted byte is another than memory's.
+/// Whether any noted byte differs from memory's.
 fn any_of_all<M: Mem>(table: &[Option<u8>], m: &M) -> bool
     requires { length table.now ≡ 65536 }
     ensures { result ≡ any_changed table.now (M.bytes m.now) }
@@ -70,7 +71,7 @@ fn any_of_all<M: Mem>(table: &[Option<u8>], m: &M) -> bool
     false
 }
 
-/// Notes the byte at an address again, where it is watched.
+/// Notes the byte at an address again, if it is watched.
 fn note_at<M: Mem>(table: &mut [Option<u8>], m: &M, at: u16)
     requires { length table.old ≡ 65536 }
     ensures { table.new ≡ slice_set table.old at
@@ -102,7 +103,7 @@ fn note_all<M: Mem>(table: &mut [Option<u8>], m: &M)
     }
 }
 
-/// Notes the bytes at listed addresses again, and all where the list is full.
+/// Notes the bytes at listed addresses again, or all of them if the list is full.
 fn note_again<M: Mem>(table: &mut [Option<u8>], m: &M, written: &ArrayVec<u16, 64>)
     requires size { length table.old ≡ 65536 }
     requires listed { array_vec_len written.now < 64 → AreListed written.now.items table.old (M.bytes m.now) }
@@ -159,7 +160,7 @@ impl<M: Mem> WatchedMem<M> {
         self.table[at as usize] = Some(self.inner.read(at));
     }
 
-    /// Watches an address no more.
+    /// Stops watching an address.
     pub fn unwatch(&mut self, at: u16)
         ensures bytes { ⟦<WatchedMem<M> as Mem>⟧.bytes self.new ≡ ⟦<WatchedMem<M> as Mem>⟧.bytes self.old }
         ensures noted { ⟦<WatchedMem<M> as Mem>⟧.noted self.new ≡ slice_set (⟦<WatchedMem<M> as Mem>⟧.noted self.old)
@@ -180,7 +181,7 @@ impl<M: Mem> WatchedMem<M> {
         }
     }
 
-    /// Whether the byte at a watched address is another than the noted one.
+    /// Whether the byte at any watched address differs from the noted one.
     #[inline(always)]
     pub fn has_changed(&self) -> bool
         ensures { result
@@ -189,7 +190,7 @@ impl<M: Mem> WatchedMem<M> {
         !self.written.is_empty() && self.is_written_changed()
     }
 
-    /// `note`, where an address is listed.
+    /// `note` when some address is listed.
     #[inline(never)]
     fn note_written(&mut self)
         ensures bytes { ⟦<WatchedMem<M> as Mem>⟧.bytes self.new ≡ ⟦<WatchedMem<M> as Mem>⟧.bytes self.old }
@@ -200,7 +201,7 @@ impl<M: Mem> WatchedMem<M> {
         self.written.clear();
     }
 
-    /// `has_changed`, where an address is listed.
+    /// `has_changed` when some address is listed.
     #[inline(never)]
     fn is_written_changed(&self) -> bool
         ensures { result
@@ -213,7 +214,7 @@ impl<M: Mem> WatchedMem<M> {
         }
     }
 
-    /// Lists an address, where there is room.
+    /// Lists an address, if there is room.
     #[inline(never)]
     fn list(&mut self, at: u16)
         ensures bytes { ⟦<WatchedMem<M> as Mem>⟧.bytes self.new ≡ ⟦<WatchedMem<M> as Mem>⟧.bytes self.old }

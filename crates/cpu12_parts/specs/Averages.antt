@@ -1,4 +1,4 @@
--- What WAV makes of whole lists (CPU12 Reference Manual, section 9.5).
+-- What WAV makes of whole lists (CPU12 Reference Manual, section 9.6).
 -- Beside the promise.
 use Rattle.std.specs.Prelude.{ℕ, ◌+◌, ◌*◌, ◌%◌, ◌^◌, List, [], ◌∷◌, ◌++◌}
 use Rattle.cpu12_isa.specs.{declared.instr.Regs.Regs, Memory.plus, Memory.from, Memory.bytes_at}

@@ -1,4 +1,4 @@
--- Lists of rules, and what REV and REVW make of a whole list (CPU12 Reference Manual, section 9.4).
+-- Lists of rules, and what REV and REVW make of a whole list (CPU12 Reference Manual, section 9.5).
 -- Beside the promise.
 use Rattle.std.specs.Prelude.{◌≡◌, ◌≢◌, ℕ, ◌<◌, min, max, Bool, true, false, List, [], ◌∷◌, ◌++◌, slice_index}
 use Rattle.std.specs.Prelude.{slice_set}

@@ -11,9 +11,9 @@ ghost use Rattle.cpu12_parts.specs.{Fits.PartFits, Owed.OverCuts};
 use crate::temps::Resumable;
 use cpu12_isa::laws::writes_agree;
 
-/// The law over all cuts, for every instruction in parts: its parts, cut at any boundaries by
-/// `suspend` and then `resume`, end after as many as the whole instruction has, and in its state but
-/// for the six bytes below SP, where it reads none of these.
+/// The law over all cuts, for every instruction executed in parts: its parts, cut at any boundaries by `suspend`
+/// and then `resume`, end after as many parts as the whole instruction has, and in its state except for the six
+/// bytes below SP, provided that it reads none of these.
 pub fn over_cuts<R: Resumable>(k: &R)
     ensures { OverCuts (kind_by (R.act k.now) (R.push k.now) (R.pull k.now)) (R.whole k.now) }
 {
@@ -23,12 +23,12 @@ pub fn over_cuts<R: Resumable>(k: &R)
     k.makes_whole();
 }
 
-/// What WAV's `suspend` put away, its `resume` gets back.
+/// WAV's `resume` restores what its `suspend` pushed.
 pub fn wav_goes_on()
     ensures { GoesOn wav AreKept }
 {}
 
-/// WAV's `suspend` writes below SP as it was, and its `resume` nothing.
+/// WAV's `suspend` writes below SP as it was, and its `resume` writes nothing.
 pub fn wav_writes_below()
     ensures { WritesBelow wav }
 {}
@@ -58,7 +58,7 @@ pub fn revw_steady()
     ensures { IsSteady revw Any }
 {}
 
-/// WAV's parts make the whole instruction, and touch only what it does.
+/// WAV's parts make up the whole instruction, and access only what it does.
 pub fn wav_is_whole()
     ensures { WavIsWhole }
 {}
@@ -90,18 +90,18 @@ pub fn revw_cuts()
     revw_steady();
 }
 
-/// REV's parts make the whole instruction, and touch only what it does.
+/// REV's parts make up the whole instruction, and access only what it does.
 pub fn rev_is_whole()
     ensures { RevIsWhole }
 {}
 
-/// REVW's parts make the whole instruction, and touch only what it does.
+/// REVW's parts make up the whole instruction, and access only what it does.
 pub fn revw_is_whole()
     ensures { RevwIsWhole }
 {}
 
-/// REV's parts, cut at any boundaries by `suspend` and then `resume`, end in the whole instruction's state
-/// but for the six bytes below SP.
+/// REV's parts, cut at any boundaries by `suspend` and then `resume`, end in the whole instruction's state except
+/// for the six bytes below SP.
 pub fn rev_over_cuts()
     ensures { RevOverCuts }
 {
@@ -109,8 +109,8 @@ pub fn rev_over_cuts()
     rev_is_whole();
 }
 
-/// REVW's parts, cut at any boundaries by `suspend` and then `resume`, end in the whole instruction's state
-/// but for the six bytes below SP.
+/// REVW's parts, cut at any boundaries by `suspend` and then `resume`, end in the whole instruction's state except
+/// for the six bytes below SP.
 pub fn revw_over_cuts()
     ensures { RevwOverCuts }
 {
@@ -118,8 +118,8 @@ pub fn revw_over_cuts()
     revw_is_whole();
 }
 
-/// WAV's parts, cut at any boundaries by `suspend` and then `resume`, end in the whole instruction's state
-/// but for the six bytes below SP.
+/// WAV's parts, cut at any boundaries by `suspend` and then `resume`, end in the whole instruction's state except
+/// for the six bytes below SP.
 pub fn wav_over_cuts()
     ensures { WavOverCuts }
 {
@@ -127,51 +127,51 @@ pub fn wav_over_cuts()
     wav_is_whole();
 }
 
-/// A part of REV leaves what fits.
+/// A part of REV leaves registers and bytes that fit.
 pub fn rev_fits()
     ensures { PartFits rev }
 {}
 
-/// A part of REVW leaves what fits.
+/// A part of REVW leaves registers and bytes that fit.
 pub fn revw_fits()
     ensures { PartFits revw }
 {}
 
-/// A part of WAV leaves what fits.
+/// A part of WAV leaves registers and bytes that fit.
 pub fn wav_fits()
     ensures { PartFits wav }
 {}
 
-/// Between two parts of REV PC stands at it, and I and the sums are as they were.
+/// Between two parts of REV, PC is still at it, and I and the sums are as they were.
 pub fn rev_stays()
     ensures goes_on { GoesOnAt own_address rev }
     ensures sums { LeavesSums rev }
 {}
 
-/// Between two parts of REVW PC stands at it, and I and the sums are as they were.
+/// Between two parts of REVW, PC is still at it, and I and the sums are as they were.
 pub fn revw_stays()
     ensures goes_on { GoesOnAt own_address revw }
     ensures sums { LeavesSums revw }
 {}
 
-/// Between two parts of WAV PC stands at its second byte, I is as it was, and nothing is written.
+/// Between two parts of WAV, PC is at its second byte, I is as it was, and nothing is written.
 pub fn wav_stays()
     ensures goes_on { GoesOnAt second_byte wav }
     ensures writes { WritesNothing wav }
 {}
 
-/// Before an interrupt sums that run are pushed, and where none run nothing is.
+/// Before an interrupt, running sums are pushed; if none are running, nothing is.
 pub fn wav_suspends()
     ensures running { PushesRunning }
     ensures none { PushesNone }
 {}
 
-/// A whole instruction leads to one state, by one number of parts.
+/// A whole instruction leads to exactly one state, in one number of parts.
 pub fn whole_steps_are_one()
     ensures { WholeStepsAreOne }
 {}
 
-/// Whole instructions come to one first state that stops, in one way.
+/// Whole instructions reach only one first state that stops, in one way.
 pub fn executions_are_one()
     ensures { ExecutionsAreOne }
 {}

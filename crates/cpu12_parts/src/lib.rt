@@ -1,9 +1,9 @@
-//! The fuzzy instructions of the CPU12 that are done in parts, one list element at a time, so that an
-//! interrupt can cut in between: [`rules::Rev`], [`rules::Revw`] and [`wav::Wav`], as
-//! [`temps::Resumable`] with [`temps::Temps`] and [`temps::PartEnd`].
+//! The fuzzy instructions of the CPU12 that are executed in parts, one list element at a time, so that an
+//! interrupt can come in between: [`rules::Rev`], [`rules::Revw`] and [`wav::Wav`], as [`temps::Resumable`] with
+//! [`temps::Temps`] and [`temps::PartEnd`].
 //!
-//! `part` does exactly one part, `suspend` puts what is kept between parts on the stack, and `resume`
-//! takes it back. No call takes memory.
+//! `part` executes exactly one part, `suspend` pushes what is kept between parts, and `resume` pulls it back. No
+//! call allocates memory.
 #![tactic(auto)]
 
 pub mod laws;

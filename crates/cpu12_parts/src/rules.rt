@@ -1,4 +1,4 @@
-//! REV and REVW: rule evaluation (CPU12 Reference Manual, section 9.4).
+//! REV and REVW: rule evaluation (CPU12 Reference Manual, section 9.5).
 ghost use Rattle.std.specs.Prelude.{ℕ, ◌≡◌, ◌+◌, ◌*◌, ◌/◌, ◌^◌, List, slice_index};
 ghost use Rattle.cpu12_isa.specs.Act.{outcome, write_all};
 ghost use Rattle.cpu12_parts.specs.Parts.{rev_act, revw_act, weighted, met, nothing};
@@ -12,12 +12,12 @@ use cpu12_isa::ccr::{CARRY, HNZ, HNZC, OVERFLOW};
 use cpu12_isa::instr::Regs;
 use cpu12_isa::mem::{Mem, word_of};
 
-/// REV: the list at X has bytes, offsets from Y. `$FE` parts antecedents from conclusions and a rule
-/// from the next, `$FF` ends. V says which of the two an offset names.
+/// REV: the list at X has bytes, which are offsets from Y. `$FE` separates antecedents from conclusions and a rule
+/// from the next, and `$FF` ends the list. V states whether an offset is that of an antecedent or of a conclusion.
 pub struct Rev;
 
-/// REVW: the list at X has words, addresses. `$FFFE` and `$FFFF` part and end; where C is 1 each
-/// rule's truth is cut by the weight byte at Y.
+/// REVW: the list at X has words, which are addresses. `$FFFE` separates and `$FFFF` ends; if C is 1, each rule's
+/// truth is scaled by the weight byte at Y.
 pub struct Revw;
 
 impl Resumable for Rev {
@@ -76,7 +76,7 @@ impl Resumable for Rev {
     }
 }
 
-/// A truth that is cut by a weight byte.
+/// A truth scaled by a weight byte.
 fn weighted(a: u8, w: u8) -> u8
     ensures { result ≡ weighted a w }
 {

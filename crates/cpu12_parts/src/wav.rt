@@ -1,4 +1,4 @@
-//! WAV: the weighted average (CPU12 Reference Manual, section 9.5).
+//! WAV: the weighted average (CPU12 Reference Manual, section 9.6).
 ghost use Rattle.std.specs.Prelude.{ℕ, ◌≡◌, ◌<◌, ◌/◌, ◌%◌, ◌^◌};
 ghost use Rattle.cpu12_isa.specs.Memory.{plus};
 ghost use Rattle.cpu12_parts.specs.Parts.{wav_act, wav_end, wav_push, wav_pull};
@@ -11,9 +11,8 @@ use cpu12_isa::instr::Regs;
 use cpu12_isa::mem::Mem;
 use cpu12_isa::stack::{place, pull_word};
 
-/// WAV: the products of B pairs of bytes at X and Y are summed, and the bytes at Y. Between two parts
-/// PC stands at its last byte, `$3C`, and the sums run; an interrupt puts them on the stack, and
-/// `wavr` goes on with them.
+/// WAV: sums the products of B pairs of bytes at X and Y, and the bytes at Y. Between two parts PC is at its last
+/// byte, `$3C`, and the sums are running; an interrupt pushes them, and `wavr` resumes with them.
 pub struct Wav;
 
 /// Ends WAV.

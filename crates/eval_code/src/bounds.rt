@@ -79,7 +79,7 @@ fn elements(conjunctions: &[Conjunction]) -> u32
     count
 }
 
-/// REVW takes an instruction more than REV.
+/// REVW takes one more instruction than REV.
 fn form_bound(form: Form) -> u32
     ensures value { result ≡ form_bound form }
     ensures few { result ≤ 1 }
@@ -112,7 +112,7 @@ pub fn instruction_bound(width: Width, block: &Block, flat: &Flat) -> u32
         + form_bound(flat.form)
 }
 
-/// The steps of at most so many instructions of a sample.
+/// The steps of at most this many instructions of a sample.
 pub fn steps_by(block: &Block, flat: &Flat, instructions: u32) -> u32
     requires valid { IsValid block.now }
     requires flat { flat.now ≡ flat_of block.now }

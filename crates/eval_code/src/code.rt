@@ -26,7 +26,7 @@ pub(crate) fn push_code(items: &mut Vec<Item>, code: &[Instr]) -> Result<(), All
     Ok(())
 }
 
-/// One instruction so many times.
+/// One instruction, repeated.
 fn push_copies(items: &mut Vec<Item>, instruction: Instr, count: usize) -> Result<(), AllocError>
     ensures { OnOk result (items.new.items ≡ items.old.items ++ map Op (replicate count instruction)) }
 {
@@ -36,7 +36,7 @@ fn push_copies(items: &mut Vec<Item>, instruction: Instr, count: usize) -> Resul
     Ok(())
 }
 
-/// The grades of the inputs, of which the first stands at `first`.
+/// The grades of the inputs, the first of which is at `first`.
 pub(crate) fn push_fuzzify(
     items: &mut Vec<Item>,
     first: u16,
@@ -67,7 +67,7 @@ fn terms_before(inputs: &[Input], input: u8) -> u16
     terms
 }
 
-/// What a slot gets before the rules.
+/// What a slot is set to before the rules.
 fn push_slot(
     items: &mut Vec<Item>,
     slots: u16,
@@ -96,7 +96,7 @@ fn push_slot(
     }
 }
 
-/// What the slots get before the rules.
+/// What the slots are set to before the rules.
 pub(crate) fn push_slots(
     items: &mut Vec<Item>,
     first: u16,
@@ -149,8 +149,8 @@ pub(crate) fn push_rules(
     }
 }
 
-/// An answer of a byte from the sums of WAV, stored at an address. Where there is no mass, the
-/// default's byte or, with NC, nothing is.
+/// A byte answer from the sums of WAV, stored at an address. If there is no mass, the default's byte is stored or,
+/// with NC, nothing.
 fn push_byte_answer(items: &mut Vec<Item>, at: u16, default: Option<u8>) -> Result<(), AllocError>
     ensures { OnOk result (items.new.items ≡ items.old.items ++ map Op (quotient_code Width.Byte at default)) }
 {
@@ -180,8 +180,7 @@ fn push_byte_answer(items: &mut Vec<Item>, at: u16, default: Option<u8>) -> Resu
     }
 }
 
-/// An answer of a word, in the same way: the quotient is its high byte, and what the remainder makes
-/// its low one.
+/// A 16-bit answer, in the same way: the quotient is its high byte, and its low byte comes from the remainder.
 fn push_word_answer(items: &mut Vec<Item>, at: u16, default: Option<u8>) -> Result<(), AllocError>
     requires { at + 1 < 2 ^ 16 }
     ensures { OnOk result (items.new.items ≡ items.old.items ++ map Op (quotient_code Width.Word at default)) }

@@ -1,4 +1,4 @@
-//! The bytes that EVAL reads beside its code.
+//! The bytes that EVAL reads in addition to its code.
 ghost use Rattle.std.specs.Prelude.{◌≡◌, ◌+◌, ◌^◌, ◌<◌, ◌++◌, map, flat_map, IfOk, OnOk};
 ghost use Rattle.fuzzy_meaning.specs.Blocks.{IsValid, IsValidOutput};
 ghost use Rattle.cpu12_asm.specs.declared.items.Item.TheVariants.{Byte};
@@ -44,7 +44,7 @@ pub fn table_bytes(alloc: Global, block: &Block) -> Result<Vec<u8>, AllocError>
     Ok(bytes)
 }
 
-/// The singletons of an output behind other bytes.
+/// Appends the singletons of an output to other bytes.
 fn add_singletons(bytes: &mut Vec<u8>, output: &Output) -> Result<(), AllocError>
     requires { IsValidOutput output.now }
     ensures { OnOk result (bytes.new.items ≡ bytes.old.items ++ singleton_bytes_of output.now) }
@@ -67,7 +67,7 @@ pub fn singleton_bytes(alloc: Global, block: &Block) -> Result<Vec<u8>, AllocErr
     Ok(bytes)
 }
 
-/// The weights, for REVW alone.
+/// The weights, for REVW only.
 pub(crate) fn weight_bytes(flat: &Flat) -> &[u8]
     ensures { result.now ≡ weight_bytes_by flat.now.form flat.now.weights }
 {
@@ -89,7 +89,7 @@ fn bytes_of_words(alloc: Global, words: &[u16]) -> Result<Vec<u8>, AllocError>
     Ok(bytes)
 }
 
-/// The rule list, where the slots stand from an address on.
+/// The rule list, with the slots from an address on.
 pub fn rule_bytes(alloc: Global, slots: u16, flat: &Flat) -> Result<Vec<u8>, AllocError>
     requires laid_out { IsLaidOut flat.now }
     requires room { slots + 1024 < 2 ^ 16 }

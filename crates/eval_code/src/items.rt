@@ -17,8 +17,8 @@ use rule_layout::laws::flat_has_parts;
 use rule_layout::{Flat, Form, Slot};
 use std::alloc::{AllocError, Global};
 
-/// A block's code at a memory map, with what stands before and behind EVAL, its tables and its rule list,
-/// behind other items. `flat` is the block's rules as `spread` lays them out.
+/// Appends a block's code at a memory map to other items, with what comes before and after EVAL, its tables and
+/// its rule list. `flat` is the block's rules as `spread` lays them out.
 pub fn push_block(
     alloc: Global,
     items: &mut Vec<Item>,
@@ -64,7 +64,7 @@ pub fn push_block(
     Ok(())
 }
 
-/// The code that answers a sample, to where it returns.
+/// The code that answers a sample, up to its return.
 fn push_eval(
     items: &mut Vec<Item>,
     memory_map: &MemoryMap,

@@ -11,7 +11,7 @@ use cpu12_emul::laws::holds_image;
 use cpu12_isa::laws::{decodes_encoded, encoded_are_bytes, stays_fit};
 use rule_layout::laws::{layout_law, mass_law};
 
-/// The rules leave in the slots of the outputs' terms their masses.
+/// The rules leave the masses of the outputs' terms in their slots.
 pub fn rules_give_masses()
     ensures { RulesGiveMasses }
 {
@@ -19,7 +19,7 @@ pub fn rules_give_masses()
     mass_law();
 }
 
-/// An instruction is decoded where its bytes stand, and code whose operands fit is bytes.
+/// An instruction is decoded wherever its bytes are, and code whose operands fit consists of bytes.
 pub fn code_is_decoded()
     ensures decoded { DecodesWhereItStands }
     ensures bytes { CodeIsBytes }
@@ -28,8 +28,8 @@ pub fn code_is_decoded()
     encoded_are_bytes();
 }
 
-/// In the memory of an image of items that go up, bytes and code behind a place stand from there on,
-/// and below the first place it is 0; where what they give are bytes, it is one of bytes.
+/// In the memory of an image of ascending items, bytes and code that follow a place are there from it on, and
+/// below the first place memory is 0; if what they give are bytes, it is a memory of bytes.
 pub fn placed_items_stand()
     ensures bytes { BytesStand }
     ensures code { CodeStands }
@@ -40,9 +40,9 @@ pub fn placed_items_stand()
     holds_image();
 }
 
-/// EVAL answers a block over bytes, as bytes or in 16 bits, at the addresses of any memory map whose
-/// regions are apart, wherever SP is and whether or not interrupts are masked. It leads from its
-/// first instruction to behind its last, and touches what its memory map keeps for it alone.
+/// EVAL answers a block over bytes, as bytes or in 16 bits, at the addresses of any memory map whose regions are
+/// disjoint, wherever SP is and whether or not interrupts are masked. It goes from its first instruction to after
+/// its last, and accesses only what its memory map reserves for it.
 pub fn eval_answers()
     ensures { EvalAnswers }
 {
@@ -53,17 +53,17 @@ pub fn eval_answers()
     rules_give_masses();
 }
 
-/// The bound on a sample's instructions is 13 at least and 2000 at most; that on the steps of so many
-/// instructions is at most 5 less and at most 10044 more.
+/// The bound on a sample's instructions is from 13 to 2000; that on the steps of this many instructions is at most
+/// 5 less and at most 10044 more.
 pub fn bounds_are_few()
     ensures { BoundsAreFew }
 {
     layout_law();
 }
 
-/// A block's items at a memory map, with code before and behind EVAL, go up, are few, and give bytes at its
-/// parts alone, from the code to the rule list's end; each part of its data has a byte. In the memory of an image of
-/// items that go up, of which these are some, EVAL stands with its data between that code.
+/// A block's items at a memory map, with code before and after EVAL, ascend, are few, and give bytes only at its
+/// parts, from the code to the rule list's end; each part of its data has a byte. In the memory of an image of
+/// ascending items that include these, EVAL is there with its data, between that code.
 pub fn blocks_are_placed()
     ensures rises { BlockRises }
     ensures short { BlockIsShort }

@@ -1,12 +1,11 @@
 //! The code and data that answer one sample of a block, at the addresses of any memory map.
 //!
-//! EVAL takes the inputs' bytes at a [`MemoryMap`] to the outputs' answers, of the width that is
-//! asked for. [`push_block`] makes the items of EVAL with the code that its caller puts before and
-//! behind it, its tables, its singletons, its weights and its rule list: exactly the items that
-//! `block_items` names, behind those that were there. [`laws::eval_answers`] says what EVAL then does
-//! wherever these stand: from its first instruction it leads behind its last one with the block's
-//! answers over bytes, within [`instruction_bound`] and [`steps_by`], and reads, writes and leaves
-//! alone what its memory map says.
+//! EVAL computes the outputs' answers, of the given width, from the inputs' bytes at a [`MemoryMap`].
+//! [`push_block`] appends the items of EVAL, with the code that its caller puts before and after it, its tables,
+//! its singletons, its weights and its rule list: exactly the items that `block_items` names.
+//! [`laws::eval_answers`] states what EVAL then does wherever these are placed: from its first instruction it goes
+//! to the one after its last with the block's answers over bytes, within [`instruction_bound`] and [`steps_by`],
+//! and reads, writes and leaves unchanged what its memory map states.
 #![tactic(auto)]
 
 mod bounds;

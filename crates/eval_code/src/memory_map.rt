@@ -1,13 +1,13 @@
-//! Where a firmware stands in memory.
+//! Where the parts of a firmware are in memory.
 
 /// The addresses of a firmware's parts.
 #[derive(Clone, Copy)]
 pub struct MemoryMap {
-    /// The first instruction, which the reset vector holds.
+    /// The first instruction, whose address is in the reset vector.
     pub code: u16,
     /// Where the code waits for READY.
     pub wait: u16,
-    /// The instruction that the interrupt vector holds.
+    /// The instruction whose address is in the interrupt vector.
     pub interrupt: u16,
     /// The code that answers a sample.
     pub eval: u16,
@@ -15,13 +15,13 @@ pub struct MemoryMap {
     pub tables: u16,
     /// The singletons' bytes.
     pub singletons: u16,
-    /// The weights of the conjunctions, for REVW alone.
+    /// The weights of the conjunctions, for REVW only.
     pub weights: u16,
     /// The rule list.
     pub rules: u16,
-    /// READY, which is not 0 while a sample waits for its answer.
+    /// READY, which is nonzero while a sample waits for its answer.
     pub ready: u16,
-    /// Where a sample's bytes are put from outside: the inputs' bytes, unless the code copies them there.
+    /// Where a sample's bytes are put from outside: at the inputs' bytes, unless the code copies them there.
     pub samples: u16,
     /// The inputs' bytes.
     pub inputs: u16,

@@ -1,7 +1,7 @@
 //! The block of a tree: its rules, and the whole.
 //!
-//! It is built where no load fault was found, and takes what it needs from the tree without asking
-//! again: only memory can be wanting.
+//! It is built after no load fault was found, without checking the tree again: it can only fail for lack
+//! of memory.
 
 ghost use Rattle.std.specs.Prelude.{◌≡◌, IfOk, None, map, option_map};
 ghost use Rattle.std.specs.List.{AllZip};

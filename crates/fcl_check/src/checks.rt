@@ -1,4 +1,4 @@
-//! The kinds of faults over a whole tree, each at its first place.
+//! The kinds of faults in a whole tree, each at its first offset.
 
 ghost use Rattle.std.specs.Prelude.{◌≡◌, ◌++◌, ℕ, List, [], Option, option_map, slice_get};
 ghost use Rattle.std.specs.Fn.{FnReturnsAt};
@@ -136,7 +136,7 @@ pub fn too_many(names: &Names<'_>, tree: &Tree) -> Option<u32>
         .or_else(|| rule_over_limit(tree.block.rules.rules.as_slice()))
 }
 
-/// A point that lies below the one before it.
+/// A point that is below the one before it.
 pub fn points_not_ascending(parts: &[Part]) -> Option<u32>
     ensures { result ≡ first (flat_map falling_points parts.now) }
 {
@@ -157,7 +157,7 @@ pub fn term_outside(parts: &[Part]) -> Option<u32>
     first_at(parts, point_outside)
 }
 
-/// A range that is empty, or points that are all one.
+/// A range that is empty, or points that are all the same.
 pub fn bad_ranges(names: &Names<'_>, tree: &Tree) -> Option<u32>
     requires { Knows tree.now names.now }
     ensures { result ≡ first (flat_map (bad_range

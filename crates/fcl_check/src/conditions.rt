@@ -1,6 +1,6 @@
 //! Conditions of a block from those of a tree without load faults.
 //!
-//! The recursion goes down with what is open at once, which is at most 64 in the tree of a text.
+//! The depth of the recursion is the number of "(" and NOT open at once, at most 64 in the tree of a text.
 
 ghost use Rattle.std.specs.Prelude.{◌≡◌, IfOk};
 ghost use Rattle.fcl_check.specs.Faults.{and_pairs, not_pairs, or_pairs};

@@ -6,8 +6,8 @@ ghost use Rattle.fcl_check.specs.declared.fault.LoadFault.TheVariants.{Memory};
 use std::alloc::{AllocError, AllocFailed};
 use thiserror::Error;
 
-/// Why a tree is no block, with the offset of the place. The kinds are tried in this order; the
-/// first that occurs is answered, at its first place.
+/// Why a tree is no block, with the offset of the fault in the text. The kinds are checked in this order;
+/// the first that occurs is returned, at its first offset.
 #[derive(PartialEq, Debug, Drop, Error)]
 pub enum LoadFault {
     /// A second variable, section of a variable or term of a section, at its name, or a second
@@ -23,7 +23,7 @@ pub enum LoadFault {
     /// The first input, output or term over its limit, at its name, or rule, at RULE.
     #[error("at {0}: too many")]
     TooMany(u32),
-    /// A point that lies below the one before it, at its parenthesis.
+    /// A point that is below the one before it, at its parenthesis.
     #[error("at {0}: the points do not ascend")]
     PointsNotAscending(u32),
     /// Degrees that are not zeros, then ones, then zeros, at TERM.
@@ -32,8 +32,8 @@ pub enum LoadFault {
     /// A point outside the given RANGE, at its parenthesis.
     #[error("at {0}: a point outside RANGE")]
     TermOutside(u32),
-    /// A RANGE whose low end is not below its high end, at RANGE, or an input whose points are all
-    /// one, at its section's name.
+    /// A RANGE whose low end is not below its high end, at RANGE, or an input whose points are all the
+    /// same, at its section's name.
     #[error("at {0}: an empty range")]
     BadRange(u32),
     /// A singleton or DEFAULT outside the given RANGE, at TERM or DEFAULT.
@@ -49,7 +49,7 @@ pub enum LoadFault {
     /// at END_DEFUZZIFY; no input, no output or no rule, at END_FUNCTION_BLOCK.
     #[error("at {0}: a part is missing")]
     MissingPart(u32),
-    /// Memory was wanting; the tree may have a fault or none.
+    /// Out of memory; the tree may have a fault or none.
     #[error("out of memory")]
     Memory,
 }

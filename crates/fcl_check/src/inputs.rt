@@ -1,4 +1,4 @@
-//! The inputs of a block, each as its section in a tree without load faults has it.
+//! The inputs of a block, each from its section in a tree without load faults.
 
 ghost use Rattle.std.specs.Prelude.{◌≡◌, true, List as Items, [], ◌∷◌, ◌++◌, None, option_map, IfOk};
 ghost use Rattle.std.specs.List.{AllZip};

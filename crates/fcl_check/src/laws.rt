@@ -1,21 +1,21 @@
-//! Laws of load faults and loaded blocks, each the contract of a function that does nothing but call
-//! a law that it rests on.
+//! Laws of load faults and loaded blocks. Each is the contract of a function that only calls laws on
+//! which it depends.
 ghost use Rattle.fcl_check.specs.OneBlock.{BlocksAreOne, SpelledBlocksAreOne};
 ghost use Rattle.fcl_check.specs.{Courses.CourseLaw, Kept.NumbersAreKept, Order.PlacesAscend};
 ghost use Rattle.fcl_check.specs.Texts.{EachTextIsJudged, LoadFaultsAreOne, SpelledBlocksAreValid, TreesHaveBlocks};
 
 use fcl_syntax::laws::{each_text_is_read, numbers_in_scale, offsets_ascend, trees_are_one};
 
-/// In a tree that a text spells, the places of each kind of load fault ascend, so that the first
-/// place, which [`load`](crate::load) answers, is the least offset in the text.
+/// In a tree that a text spells, the offsets of each kind of load fault ascend, so that the first one,
+/// which [`load`](crate::load) returns, is the least.
 pub fn places_ascend()
     ensures { PlacesAscend }
 {
     offsets_ascend()
 }
 
-/// A tree of a text of at most 1048576 bytes has only valid blocks where it has no load fault: its rules
-/// are not too deep since the grammar bounds what is open at once, and not too large since the text
+/// A tree of a text of at most 1048576 bytes has only valid blocks if it has no load fault: its rules are
+/// not too deep, since the grammar bounds what is open at once, and not too large, since the text
 /// is not.
 pub fn spelled_blocks_are_valid()
     ensures { SpelledBlocksAreValid }
@@ -23,14 +23,14 @@ pub fn spelled_blocks_are_valid()
     offsets_ascend()
 }
 
-/// A tree lacks nothing that a block needs unless it has a load fault: without one it has a block,
-/// which [`load`](crate::load) builds.
+/// A tree without a load fault has everything that a block needs: it has a block, which
+/// [`load`](crate::load) builds.
 pub fn trees_have_blocks()
     ensures { TreesHaveBlocks }
 {}
 
-/// A loaded number is the token's number with its sign: no text has one beyond the scale, where it
-/// would be taken for the end of the scale.
+/// A loaded number is the token's number with its sign: no text has one beyond the scale, which would be
+/// cut down to the end of the scale.
 pub fn numbers_are_kept()
     ensures { NumbersAreKept }
 {
@@ -50,16 +50,15 @@ pub fn spelled_blocks_are_one()
     blocks_are_one()
 }
 
-/// A text has at most one load fault, and none where it spells a block: neither hangs on the tree that
-/// is held.
+/// A text has at most one load fault, and none if it spells a block: neither depends on which of its
+/// trees is used.
 pub fn load_faults_are_one()
     ensures { LoadFaultsAreOne }
 {
     trees_are_one()
 }
 
-/// No text is left out: one of at most 1048576 bytes has a first fault, or a load fault, or spells a
-/// block.
+/// Every text of at most 1048576 bytes has a first fault or a load fault, or spells a block.
 pub fn each_text_is_judged()
     ensures { EachTextIsJudged }
 {
@@ -68,9 +67,9 @@ pub fn each_text_is_judged()
     trees_have_blocks()
 }
 
-/// Where the points of a term ascend and their degrees are zeros, then ones, then zeros, the degree
-/// of the trapezoid that is loaded for it is at each number the course of the points: the straight
-/// line between two neighbours, the greatest degree at a doubled abscissa, and beyond the ends the
+/// If the points of a term ascend and their degrees are zeros, then ones, then zeros, the degree of its
+/// loaded trapezoid at each number is that of the line through the points: linear between two
+/// neighbours, the greatest degree if two points have the same abscissa, and beyond the ends the
 /// degree of the nearest end.
 pub fn course_law()
     ensures { CourseLaw }

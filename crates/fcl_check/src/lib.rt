@@ -1,9 +1,9 @@
-//! Trees of the Fuzzy Control Language to blocks.
+//! From trees of the Fuzzy Control Language to blocks.
 //!
-//! [`load`] applies the rules that a grammar cannot say: names that are declared and given once,
-//! terms that are trapezoids within their range, limits, weights, and nothing missing. It answers
-//! the tree's [`fuzzy_meaning::Block`], which is valid, exactly where the tree has no load fault,
-//! and otherwise exactly the first [`LoadFault`] with its place.
+//! [`load`] checks what a grammar cannot state: names are declared and given once, terms are
+//! trapezoids within their range, limits and weights are kept, and nothing is missing. It returns the
+//! tree's [`fuzzy_meaning::Block`], which is valid, if the tree has no load fault, and otherwise the
+//! first [`LoadFault`] with its offset.
 #![tactic(auto)]
 
 mod block;

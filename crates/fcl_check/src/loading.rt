@@ -1,4 +1,4 @@
-//! Trees to blocks.
+//! From trees to blocks.
 
 ghost use Rattle.std.specs.Prelude.{◌≡◌, [], IfOk};
 ghost use Rattle.fuzzy_meaning.specs.Blocks.{IsValid};
@@ -52,8 +52,8 @@ fn first_fault(names: &Names<'_>, tree: &Tree) -> Option<LoadFault>
 
 /// The block that a tree spells, or its first load fault.
 ///
-/// The kinds of faults are tried in the order of [`LoadFault`], each at its first place. A block
-/// is answered exactly where the tree has none; it is the tree's, and it is valid.
+/// The kinds of faults are checked in the order of [`LoadFault`], each at its first offset. If the tree
+/// has none, its block is returned, which is valid.
 pub fn load(alloc: Global, tree: &Tree) -> Result<Block, LoadFault>
     ensures fault { Answers result (first_fault tree.now.text.items tree.now.block) }
     ensures block { IfOk result (IsBlockOf tree.now.text.items tree.now.block) }

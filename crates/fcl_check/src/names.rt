@@ -31,7 +31,7 @@ pub struct Variable {
     pub number: usize,
 }
 
-/// The numbers of the terms of a section by their names in small letters.
+/// The numbers of the terms of a section, by their names in lower case.
 pub type Terms<'a> = BTreeMap<&'a [u8], usize>;
 
 /// A section, with the numbers of its terms.
@@ -41,7 +41,7 @@ pub struct Section<'a> {
     pub terms: Terms<'a>,
 }
 
-/// The variables and sections of a tree by their names in small letters.
+/// The variables and sections of a tree, by their names in lower case.
 #[derive(Drop)]
 pub struct Names<'a> {
     pub declared: Vec<(Direction, Name)>,
@@ -50,7 +50,7 @@ pub struct Names<'a> {
 }
 
 impl<'a> Names<'a> {
-    /// The names of a tree, or the first thing that is given twice.
+    /// The names of a tree, or the first thing that is declared or given twice.
     pub fn of(alloc: Global, tree: &'a Tree) -> Result<Names<'a>, LoadFault>
         ensures names { IfOk result (Knows tree.now) }
         ensures fault { Answers result (option_map load.Twice (first (twice tree.now.text.items tree.now.block))) }
@@ -90,8 +90,7 @@ impl<'a> Names<'a> {
         Some(self.sections.get(letters)?.part)
     }
 
-    /// The number of a term, looked for in the section of its variable that a variable of this
-    /// direction has.
+    /// The number of a term in the section of its variable, if that is a section for this direction.
     pub fn term(&self, direction: Direction, variable: &[u8], term: &[u8]) -> Option<usize>
         ensures { (tree : Tree) → Knows tree self.now → result ≡
             term_number tree.text.items tree.block direction variable.now term.now }
@@ -106,7 +105,7 @@ impl<'a> Names<'a> {
     }
 }
 
-/// The name of the variable that a section is of.
+/// The name of a section's variable.
 pub fn section_name(part: &Part) -> Name
     ensures { result ≡ section_name part.now }
 {

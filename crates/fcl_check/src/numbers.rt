@@ -10,7 +10,7 @@ use fcl_syntax::{Degree, FallbackValue, Number, Range, SignedNumber};
 use fcl_tokens::Amount;
 use fz_num::Dec;
 
-/// The greatest magnitude of a number, in 1/10000. A tree that was read has none above it.
+/// The greatest magnitude of a number, in 1/10000. No tree of a text has a greater one.
 const GREATEST: i64 = 1_000_000_000;
 
 const ONE: i64 = 10_000;
@@ -25,7 +25,7 @@ fn magnitude(number: Number) -> i64
     }
 }
 
-/// A number, in 1/10000.
+/// The value of a number, in 1/10000.
 pub fn value(number: SignedNumber) -> Dec
     ensures { result.0 ≡ value number }
 {
@@ -36,7 +36,7 @@ pub fn value(number: SignedNumber) -> Dec
     Dec(value.max(-GREATEST).min(GREATEST))
 }
 
-/// The number of DEFAULT, none for NC.
+/// The number of DEFAULT, or `None` for NC.
 pub fn fallback_number(value_or_nc: FallbackValue) -> Option<Dec>
     ensures { number_of result ≡ option_map value (fallback_number value_or_nc) }
 {
@@ -46,7 +46,7 @@ pub fn fallback_number(value_or_nc: FallbackValue) -> Option<Dec>
     }
 }
 
-/// Whether a degree is 1 rather than 0.
+/// Whether a degree is 1 and not 0.
 pub fn is_one(degree: Degree) -> bool
     ensures { result ≡ is_one degree }
 {
@@ -56,7 +56,7 @@ pub fn is_one(degree: Degree) -> bool
     }
 }
 
-/// From `lo` to `hi`.
+/// The range from `lo` to `hi`.
 #[derive(Clone, Copy)]
 pub struct Span {
     pub lo: Dec,
@@ -92,7 +92,7 @@ impl Span {
         self.lo.0 <= x.0 && x.0 <= self.hi.0
     }
 
-    /// What reaches to `x` too.
+    /// The span extended to `x`.
     pub fn with(self, x: Dec) -> Span
         ensures { ends_in result ≡ (int_min self.lo.0 x.0, int_max self.hi.0 x.0) }
     {
@@ -102,7 +102,7 @@ impl Span {
         }
     }
 
-    /// The same span, and from p to p + 1 where it is the one number p.
+    /// The same span, but from p to p + 1 if it is the single number p.
     pub fn widened(self) -> Span
         requires { self.hi.0 ≤ℤ pos 1000000000 }
         ensures { ends_in result ≡ widened (ends_in self) }

@@ -1,4 +1,4 @@
-//! The operands of a condition in the text's order.
+//! The operands of a condition, in the order of the text.
 
 ghost use Rattle.std.specs.Prelude.{◌≡◌, ℕ, List, Option};
 ghost use Rattle.std.specs.Fn.{FnReturnsAt};
@@ -9,7 +9,7 @@ ghost use Rattle.fcl_syntax.specs.declared.tree.Operand.{Operand};
 
 use fcl_syntax::{And, Node, Not, Operand, Or};
 
-/// The first place that is found at an operand of a condition.
+/// The first offset that `place` finds at an operand of a condition.
 #[cycle(operands)]
 pub fn first_in_or<F: Fn(&Operand) -> Option<u32>>(or: &Or, place: &F) -> Option<u32>
     requires { F.IsAlwaysCallable place.now }

@@ -1,4 +1,4 @@
-//! The outputs of a block, each as its section in a tree without load faults has it.
+//! The outputs of a block, each from its section in a tree without load faults.
 
 ghost use Rattle.std.specs.Prelude.{◌≡◌, ◌||◌, [], None, Some, filter_map, is_none, not, map, option_map, IfOk};
 ghost use Rattle.std.specs.List.{AllZip};
@@ -41,7 +41,7 @@ fn has_method(section: &Defuzzify) -> bool
     false
 }
 
-/// Whether a section has the lines that it needs beside its terms.
+/// Whether a section has the lines that it needs in addition to its terms.
 pub fn is_complete(section: &Defuzzify) -> bool
     ensures { not result ≡ (is_none (first (filter_map method_line section.now.lines)) || is_none
         (default_of section.now)) }

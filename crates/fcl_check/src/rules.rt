@@ -23,7 +23,7 @@ fn direction(names: &Names<'_>, tree: &Tree, name: Name) -> Option<Direction>
     Some(variable.direction)
 }
 
-/// The name of a section's variable, where it is not declared.
+/// The name of a section's variable, if it is not declared.
 pub fn unknown_section(names: &Names<'_>, tree: &Tree, part: &Part) -> Option<u32>
     requires { Knows tree.now names.now }
     ensures { result ≡ first (unknown_section tree.now.text.items tree.now.block part.now) }
@@ -169,7 +169,7 @@ fn mistaken_conclusion(names: &Names<'_>, tree: &Tree, rule: &Rule) -> Option<u3
     })
 }
 
-/// The first variable of a rule that stands on the wrong side.
+/// The first variable of a rule that is on the wrong side.
 #[tactic(auto, using(crate::proofs::Places::firsts))]
 pub fn mistaken_name(names: &Names<'_>, tree: &Tree, rule: &Rule) -> Option<u32>
     requires { Knows tree.now names.now }

@@ -182,7 +182,7 @@ fn has_shape(term: &Term) -> bool
     matches!(course, Course::Top | Course::Falling)
 }
 
-/// The first point of an input's section that lies below the one before it.
+/// The first point of an input's section that is below the one before it.
 pub fn falling_point(part: &Part) -> Option<u32>
     ensures { result ≡ first (falling_points part.now) }
 {
@@ -199,7 +199,7 @@ fn shapeless(term: &Term) -> Option<u32>
     if has_shape(term) { None } else { Some(term.at) }
 }
 
-/// The first term of an input's section whose degrees have not the shape of a trapezoid.
+/// The first term of an input's section whose degrees do not have the shape of a trapezoid.
 pub fn shapeless_term(part: &Part) -> Option<u32>
     ensures { result ≡ first (shapeless_terms part.now) }
 {
@@ -244,7 +244,7 @@ fn with_term(hull: Option<Span>, term: &Term) -> Span
     with_points(span, term.more.as_slice())
 }
 
-/// From the least to the greatest of all points of a section; none where it has no term.
+/// From the least to the greatest of all points of a section, or `None` if it has no term.
 pub fn hull(section: &Fuzzify) -> Option<Span>
     ensures { option_map ends_in result ≡ hull_of (abscissas section.now) }
 {
@@ -257,7 +257,8 @@ pub fn hull(section: &Fuzzify) -> Option<Span>
     hull
 }
 
-/// A RANGE that is empty, or the name of an input's section whose points are all one.
+/// The RANGE of a section if it is empty, or the name of an input's section without RANGE if all its points are the
+/// same.
 pub fn bad_range(names: &Names<'_>, tree: &Tree, part: &Part) -> Option<u32>
     requires { Knows tree.now names.now }
     ensures { result ≡ first (bad_range (is_declared_as tree.now.text.items tree.now.block side.Input) part.now) }
@@ -289,7 +290,7 @@ fn empty_range(range: Range) -> Option<u32>
     }
 }
 
-/// The number of a line of an output's section and the place where it is refused.
+/// The number of a line of an output's section, and the offset at which it is refused.
 pub fn number_line(line: &DefuzzyLine) -> Option<(Dec, u32)>
     ensures { option_map (λ (n : Dec × ℕ). (n.0.0, n.1)) result ≡ number_line line.now }
 {

@@ -1,4 +1,4 @@
-//! What a block is built from, and the numbers of what its rules name.
+//! What a block is built from, and the numbers of the variables and terms that its rules name.
 
 ghost use Rattle.std.proofs.Props.{props};
 ghost use Rattle.std.specs.Prelude.{◌≡◌, None};
@@ -8,7 +8,7 @@ use crate::names::Names;
 use fcl_syntax::{Direction, Name, Tree};
 use std::alloc::Global;
 
-/// A tree without load faults, its names, and where memory is taken.
+/// A tree without load faults, its names, and the allocator.
 #[derive(Clone, Copy)]
 pub struct Source<'a, 'n> {
     pub alloc: Global,

@@ -12,9 +12,9 @@ use std::alloc::{AllocError, Global};
 
 /// What a block has of a declared variable: an input, or an output.
 ///
-/// Its section is FUZZIFY or DEFUZZIFY, and stands in the tree as one of the parts.
+/// Its section is FUZZIFY or DEFUZZIFY, which is one of the parts of the tree.
 pub trait FromSection: Sized + Drop {
-    /// The section that tells what it is.
+    /// The section that defines it.
     type Section;
 
     /// The direction in which it is declared.
@@ -23,10 +23,10 @@ pub trait FromSection: Sized + Drop {
     /// The section that a part is, if it is one of this kind.
     ghost as_section: { Part → Option Self.Section };
 
-    /// Whether a section has no fault that a builder would meet.
+    /// Whether a section has no fault that would stop `from_section`.
     ghost IsWellFormed: { Self.Section → Type 0 };
 
-    /// What is made of a section.
+    /// Whether a value is what a section defines.
     ghost IsOf: { Self.Section → Self → Type 0 };
 
     /// The direction in which it is declared.
@@ -37,7 +37,7 @@ pub trait FromSection: Sized + Drop {
     fn section(part: &Part) -> Option<&Self::Section>
         ensures { option_map (λ s. s.now) result ≡ as_section part.now };
 
-    /// What is made of a well-formed section. Only memory can be wanting.
+    /// What a well-formed section defines. It can only fail for lack of memory.
     fn from_section(alloc: Global, section: &Self::Section) -> Result<Self, AllocError>
         requires { IsWellFormed section.now }
         ensures { IfOk result (IsOf section.now) };

@@ -30,11 +30,11 @@ pub enum LexKind {
 pub struct LexFault {
     /// What is wrong.
     pub kind: LexKind,
-    /// Where it stands: its offset in the text.
+    /// Where it is: its offset in the text.
     pub at: u32,
 }
 
-/// What stands at the front of a text, and how many bytes it takes.
+/// What is at the front of a text, and how many bytes it takes.
 #[derive(Clone, Copy)]
 pub enum Piece {
     Skip(usize),
@@ -60,7 +60,7 @@ fn is_name_byte(b: u8) -> bool
     is_name_start(b) || b.is_ascii_digit()
 }
 
-/// How many letters, digits and `_` stand at the front: the length of a name that begins there.
+/// How many letters, digits and `_` are at the front: the length of a name that begins there.
 pub fn name_len(bytes: &[u8]) -> usize
     ensures value { result ≡ run is_name_byte bytes.now }
     ensures bound { result ≤ length bytes.now }
@@ -282,7 +282,7 @@ fn front_piece(at: u32, bytes: &[u8]) -> Piece
 /// Why a call has no tokens.
 #[derive(Drop)]
 pub enum LexError {
-    /// Memory was wanting; the text may have a fault or none.
+    /// Out of memory; the text may or may not have a fault.
     Memory,
     /// The text's first token fault.
     Fault(LexFault),

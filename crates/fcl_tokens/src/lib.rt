@@ -1,9 +1,9 @@
-//! The tokens of the Fuzzy Control Language: texts to tokens.
+//! The tokens of the Fuzzy Control Language: from texts to tokens.
 //!
-//! [`lex`] cuts a text into blanks, comments and [`Token`]s from the left, by the words and delimiters of
-//! IEC 61131-7 in the profile of `docs/LANGUAGE.md`. It answers exactly the text's tokens with the place of
-//! each, or exactly its first [`LexFault`]; that these are what stands in the text, each the longest there,
-//! is the law [`laws::cuts_are_tokens`].
+//! [`lex`] cuts a text into blanks, comments and [`Token`]s from the left, by the words and delimiters of IEC
+//! 61131-7 in the profile of `docs/LANGUAGE.md`. It returns exactly the text's tokens with the place of each, or
+//! exactly its first [`LexFault`]; the law [`laws::cuts_are_tokens`] states that these are what is in the text,
+//! each the longest at its place.
 #![tactic(auto)]
 
 pub mod laws;

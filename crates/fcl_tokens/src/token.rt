@@ -1,4 +1,4 @@
-//! Tokens, and the words that have a meaning of their own.
+//! Tokens, and words with a special meaning.
 
 use fz_num::Dec;
 
@@ -35,8 +35,7 @@ pub enum Keyword {
     EndOptions,
 }
 
-/// What a name says where it stands in the place of a type, an operator or a method; anywhere
-/// else it is a name like the others.
+/// What a name means in the place of a type, an operator or a method; anywhere else it is a name like the others.
 #[derive(Clone, Copy, PartialEq, Eq)]
 pub enum Word {
     Real,
@@ -56,7 +55,7 @@ pub enum Word {
     Other,
 }
 
-/// The value of a number without its sign. 0 and 1 stand apart, since they alone are degrees.
+/// The value of a number without its sign. 0 and 1 are separate, since they alone are degrees.
 #[derive(Clone, Copy, PartialEq, Eq)]
 pub enum Amount {
     Zero,
@@ -82,14 +81,14 @@ pub enum Token {
     Minus,
 }
 
-/// What a word says that is written like a name.
+/// The meaning of a word that is spelled like a name.
 #[derive(Clone, Copy)]
 pub enum Meaning {
     Keyword(Keyword),
     Name(Word),
 }
 
-/// The words that have a meaning of their own. Case does not count.
+/// The words with a special meaning. Case does not count.
 pub const MEANINGS: [(&[u8], Meaning); 42] = [
     (b"FUNCTION_BLOCK", Meaning::Keyword(Keyword::FunctionBlock)),
     (

@@ -1,4 +1,4 @@
-//! How a firmware is given samples, and where its answers are read.
+//! How a firmware is given samples, and where its answers are.
 ghost use Rattle.std.specs.Prelude.{◌≡◌, ◌≤◌, true, false, length};
 ghost use Rattle.cpu12_parts.specs.State.{State};
 ghost use Rattle.alone_code.specs.Interruptible.{is_idle};
@@ -18,7 +18,7 @@ pub fn is_idle<M: Mem>(memory_map: &MemoryMap, m: &Machine<M>) -> bool
     m.regs().pc == memory_map.wait && m.peek(memory_map.ready) == 0
 }
 
-/// Whether PC is elsewhere than where the firmware waits, so that it is busy as long as PC stays.
+/// Whether PC is not where the firmware waits, so that it is busy as long as PC does not change.
 #[inline(always)]
 pub fn is_busy_here<M: Mem>(memory_map: &MemoryMap, m: &Machine<M>) -> bool
     ensures { result ≡ true → (s : State) → s.regs.pc ≡ m.now.state.regs.pc → is_idle memory_map.now s ≡ false }
@@ -40,7 +40,7 @@ pub fn give<M: Mem>(memory_map: &MemoryMap, m: &mut Machine<M>, bytes: &[u8])
     m.poke(memory_map.ready, 1);
 }
 
-/// The answer that stands at an address.
+/// The answer at an address.
 fn answer_at<M: Mem>(m: &Machine<M>, width: Width, at: u16) -> u16
     ensures { result ≡ answer_at width at m.now.state.mem }
 {
@@ -51,7 +51,7 @@ fn answer_at<M: Mem>(m: &Machine<M>, width: Width, at: u16) -> u16
     }
 }
 
-/// So many answers, at most four, one behind another from an address on.
+/// The given number of answers, at most four, one after another from an address on.
 pub fn answers_from<M: Mem>(m: &Machine<M>, width: Width, first: u16, count: u8) -> ArrayVec<u16, 4>
     requires { count ≤ 4 }
     ensures { result.items ≡ answers_at width count first m.now.state.mem }

@@ -18,7 +18,7 @@ struct Heavy {
     mass: Frac,
 }
 
-/// The terms that have a mass, two at most.
+/// The terms that have a mass, at most two.
 #[derive(Clone, Copy)]
 enum Held {
     Nothing,
@@ -27,7 +27,7 @@ enum Held {
 }
 
 impl Held {
-    /// With one more in front, or `None` where there are two.
+    /// With one more in front, or `None` if there are two.
     fn with(self, term: Heavy) -> Option<Held>
         requires held { AreSmall self }
         requires term { IsSmall term }
@@ -42,7 +42,7 @@ impl Held {
         }
     }
 
-    /// The singletons weighted by their masses, in units of 1, where there is a mass.
+    /// The singletons weighted by their masses, in units of 1, if there is a mass.
     fn centre(self) -> Option<Frac>
         requires { AreSmall self }
         ensures none { (result ≡ None) ↔ (shares_of self ≡ []) }
@@ -71,7 +71,7 @@ impl Held {
 }
 
 impl Heavy {
-    /// Its mass's numerator, over the denominator of both.
+    /// The numerator of its mass, over the denominator of both.
     fn mass_over(self, other: Heavy) -> u128
         requires this { IsSmall self }
         requires other { IsSmall other }
@@ -93,10 +93,10 @@ fn times(at: Dec, n: u128) -> i128
     i128::from(at.0) * n as i128
 }
 
-/// The exact answer of an output to a sample `xs`, in units of 1, where `before` is its answer
-/// before: the singletons weighted by their masses; where no term has a mass the DEFAULT, and with
-/// NC `before`, whatever it is. `None` exactly where more than two terms have a mass: their common denominator
-/// could pass 128 bits.
+/// The exact answer of an output to a sample `xs`, in units of 1, where `before` is its previous answer: the
+/// singletons weighted by their masses; if no term has a mass, the DEFAULT, and with NC `before`, whatever it is.
+/// The result is `None` exactly where more than two terms have a mass: their common denominator could exceed 128
+/// bits.
 pub fn exact(block: &Block, out: u8, xs: &[Dec], before: Frac) -> Option<Frac>
     requires block { IsValid block.now }
     requires out_from { 1 ≤ out }
@@ -115,7 +115,7 @@ pub fn exact(block: &Block, out: u8, xs: &[Dec], before: Frac) -> Option<Frac>
     }
 }
 
-/// The DEFAULT, or with NC the answer before.
+/// The DEFAULT, or with NC the previous answer.
 fn resting(output: &Output, before: Frac) -> Frac
     ensures { (q : Quotient) → IsValueOf q before → IsValueOf (resting_answer output.now q) result }
 {
@@ -128,7 +128,7 @@ fn resting(output: &Output, before: Frac) -> Frac
     }
 }
 
-/// The terms of an output that have a mass, or `None` where there are more than two.
+/// The terms of an output that have a mass, or `None` if there are more than two.
 fn held_terms(block: &Block, out: u8, output: &Output, xs: &[Dec]) -> Option<Held>
     requires block { IsValid block.now }
     requires out_from { 1 ≤ out }

@@ -19,8 +19,8 @@ pub struct Input {
     pub terms: List<Trapezoid>,
 }
 
-/// A term of an input. `b` is the first point of degree 1 and `c` the last; `a` is the last zero
-/// point before `b` and `d` the first after `c`, where there is one.
+/// A term of an input. `b` is the first point of degree 1 and `c` the last; `a` is the last zero point before `b`
+/// and `d` the first after `c`, if there is one.
 #[derive(Clone, Copy)]
 pub struct Trapezoid {
     pub a: Option<Dec>,
@@ -29,8 +29,8 @@ pub struct Trapezoid {
     pub d: Option<Dec>,
 }
 
-/// An output: its range, the singletons of its terms, which count from 1, and its DEFAULT, where
-/// that is a number. With `DEFAULT := NC` it keeps the last answer.
+/// An output: its range, the singletons of its terms, which count from 1, and its DEFAULT, if that is a number.
+/// With `DEFAULT := NC` it keeps the last answer.
 #[derive(Drop)]
 pub struct Output {
     pub lo: Dec,
@@ -39,8 +39,7 @@ pub struct Output {
     pub default: Option<Dec>,
 }
 
-/// A rule: its condition, its weight where it has a WITH, and its conclusions, each an output and
-/// a term of it.
+/// A rule: its condition, its weight if it has a WITH, and its conclusions, each an output and one of its terms.
 #[derive(Drop)]
 pub struct Rule {
     pub cond: Condition,

@@ -1,6 +1,7 @@
 //! Conditions of rules.
 //!
-//! A condition is what a contract sees as a tree, wherever its parts lie in memory: two with one tree are one.
+//! A contract sees a condition as a tree, wherever its parts are in memory: two conditions with the same tree are
+//! equal.
 ghost use Rattle.std.specs.Prelude.{◌≡◌, IfOk};
 ghost use Rattle.fuzzy_meaning.specs.Conditions.{is as is_of, negation, all as all_of, any as any_of, conditions};
 
@@ -14,7 +15,7 @@ pub struct Condition {
     pub node: Node,
 }
 
-/// What a condition says of its parts. `Is` names an input and a term of it.
+/// A condition's operator with its parts. `Is` names an input and one of its terms.
 #[derive(Drop)]
 #[cycle(condition)]
 pub enum Node {
@@ -46,7 +47,7 @@ impl Model for Condition {
 }
 
 impl Condition {
-    /// That an input is a term of it, both counted from 1.
+    /// The condition that an input is one of its terms, both counted from 1.
     pub fn is(input: u8, term: u8) -> Condition
         ensures { result ≡ is_of input term }
     {
@@ -65,7 +66,7 @@ impl Condition {
         })
     }
 
-    /// The AND of conditions. In a valid block there is one at least.
+    /// The AND of conditions. In a valid block there is at least one.
     pub fn all(parts: Vec<Condition>) -> Condition
         ensures { result ≡ all_of (conditions parts.items) }
     {
@@ -74,7 +75,7 @@ impl Condition {
         }
     }
 
-    /// The OR of conditions. In a valid block there is one at least.
+    /// The OR of conditions. In a valid block there is at least one.
     pub fn any(parts: Vec<Condition>) -> Condition
         ensures { result ≡ any_of (conditions parts.items) }
     {

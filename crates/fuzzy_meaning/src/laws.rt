@@ -7,15 +7,14 @@ pub fn parts_are_valid()
     ensures { PartsAreValid }
 {}
 
-/// Valid blocks exist, up to every limit: a heater with two rules, a latch with vertical edges, a
-/// NOT and `DEFAULT := NC`, and a block that meets the limits on counts, depth, size and
-/// magnitudes.
+/// Valid blocks exist, up to every limit: a heater with two rules, a latch with vertical edges, a NOT and `DEFAULT
+/// := NC`, and a block that reaches the limits on counts, depth, size and magnitudes.
 pub fn examples_are_valid()
     ensures { ExamplesAreValid }
 {}
 
-/// The degree at a place of an input's range, which may stand between numbers, is at each number
-/// the number's degree.
+/// The degree at a place of an input's range, which may lie between numbers, equals at each number the number's
+/// degree.
 pub fn numbers_have_their_degrees()
     ensures { NumbersHaveTheirDegrees }
 {}

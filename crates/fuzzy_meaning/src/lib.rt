@@ -2,9 +2,9 @@
 //! a term, the truth of a condition, the strength of a rule, the mass of an output's term, and the
 //! exact answer (IEC 61131-7:2000: linear terms, MIN, MAX, NOT, WITH, COGS).
 //!
-//! Each call on a block asks for a valid one and gives the value of its definition, which knows
-//! nothing of bytes, tables or machines. No call takes memory but [`Condition::not`], which boxes what it
-//! negates, and [`heater`], an example for tests.
+//! Each call on a block requires a valid one and returns the value of its definition, which involves no bytes,
+//! tables or machines. No call allocates memory except [`Condition::not`], which boxes what it negates, and
+//! [`heater`], an example for tests.
 #![tactic(auto)]
 
 mod answers;

@@ -9,8 +9,7 @@ use crate::condition::{Condition, Node};
 use crate::degrees::{NONE, ONE, degree};
 use fz_num::{Dec, Frac};
 
-/// The truth of a condition where the inputs are `xs`: the degree, one minus, the least, the
-/// greatest.
+/// The truth of a condition for the input values `xs`: the degree, one minus, the least, the greatest.
 pub fn truth(condition: &Condition, block: &Block, xs: &[Dec]) -> Frac
     requires condition { IsValidCondition block.now condition.now }
     requires block { IsValid block.now }

@@ -3,7 +3,7 @@ ghost use Rattle.std.specs.Prelude.{◌≡◌, ◌↔◌, [], List as Items, len
 
 use std::marker::Model;
 
-/// A list of items, which a contract sees as just that.
+/// A list of items, which a contract sees as exactly that.
 #[derive(Drop)]
 pub struct List<T> {
     items: Vec<T>,

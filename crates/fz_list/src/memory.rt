@@ -1,5 +1,5 @@
-//! Want of memory.
+//! Lack of memory.
 
-/// Memory was wanted and not found.
+/// Out of memory.
 #[derive(Clone, Copy, Debug, Drop)]
 pub struct Memory;

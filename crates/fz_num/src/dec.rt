@@ -8,7 +8,7 @@ ghost use Rattle.fz_num.specs.Decimals.{number, four_places};
 #[derive(Clone, Copy, PartialEq, Eq, PartialOrd, Ord, Debug)]
 pub struct Dec(pub i64);
 
-/// Why bytes are no decimal.
+/// Why bytes spell no decimal.
 #[derive(Clone, Copy, PartialEq, Eq, Debug)]
 pub enum DecFault {
     /// They are not `[+|-]digits[.digits]`.
@@ -22,13 +22,13 @@ pub enum DecFault {
 /// The greatest magnitude, in 1/10000.
 const GREATEST: u64 = 1_000_000_000;
 
-/// Where counting stops.
+/// The value at which counting stops.
 const TOO_LARGE: u64 = GREATEST + 1;
 
 impl Dec {
     ghost use Rattle.fz_num.specs.Decimals.{distance, decimal};
 
-    /// The decimal that the bytes spell. Of several faults the first of the enum is told.
+    /// The decimal that the bytes spell. Of several faults the first in the enum's order is reported.
     pub fn read(bytes: &[u8]) -> Result<Dec, DecFault>
         ensures { result ≡ decimal bytes.now }
     {
@@ -50,7 +50,7 @@ impl Dec {
         Ok(Dec(if leads_with_minus(bytes) { -size } else { size }))
     }
 
-    /// How far it stands above `lo`, in 1/10000.
+    /// How far it is above `lo`, in 1/10000.
     pub fn above(self, lo: Dec) -> u64
         requires { lo.0 ≤ℤ self.0 }
         ensures { result ≡ distance lo self }
@@ -74,7 +74,7 @@ fn after_sign(bytes: &[u8]) -> &[u8]
     }
 }
 
-/// The index of the point, or the length where there is none.
+/// The index of the point, or the length if there is none.
 fn point_of(numeral: &[u8]) -> usize
     ensures { result ≡ position_or_len is_point numeral.now }
 {
@@ -113,7 +113,7 @@ fn fits_four_places(places: &[u8]) -> bool
     places.iter().skip(4).all(|c| *c == b'0')
 }
 
-/// The digits before the point and four places as one number, or `TOO_LARGE` where it is above.
+/// The digits before the point and four places as one number, or `TOO_LARGE` if the number is greater.
 fn size_of_digits(whole: &[u8], places: &[u8]) -> u64
     ensures { result ≡ min (number (whole.now ++ four_places places.now)) TOO_LARGE }
 {

@@ -18,7 +18,7 @@ pub struct Nano(pub u64);
 
 const BILLION: u128 = 1_000_000_000;
 
-/// The operations on fractions ask for values from 0 to 1 with denominators of at most 10^16.
+/// The operations on fractions require values from 0 to 1 with denominators of at most 10^16.
 impl Frac {
     ghost use Rattle.fz_num.specs.Fractions.{fraction_of, IsTruth};
 
@@ -44,7 +44,7 @@ impl Frac {
         self.cross(other).cmp(&other.cross(self))
     }
 
-    /// The lesser of the two; where they are equal, the first.
+    /// The lesser of the two; if they are equal, the first.
     pub fn min(self, other: Frac) -> Frac
         requires left { IsTruth 10000000000000000 self }
         requires right { IsTruth 10000000000000000 other }
@@ -58,7 +58,7 @@ impl Frac {
         }
     }
 
-    /// The greater of the two; where they are equal, the second.
+    /// The greater of the two; if they are equal, the second.
     pub fn max(self, other: Frac) -> Frac
         requires left { IsTruth 10000000000000000 self }
         requires right { IsTruth 10000000000000000 other }
@@ -137,7 +137,8 @@ impl Frac {
         ((num * BILLION + (whole - 1)) / whole) as u64
     }
 
-    /// The numerator over the other's denominator and its own. The two have 64 bits, so it is one product.
+    /// The numerator over the product of both denominators. Numerator and denominator fit in 64 bits, so it is one
+    /// product.
     fn cross(self, other: Frac) -> u128
         requires left { IsTruth 10000000000000000 self }
         requires right { IsTruth 10000000000000000 other }

@@ -1,9 +1,8 @@
 //! Exact numbers: decimals of at most four places ([`Dec`]), fractions ([`Frac`]) and lengths in
 //! parts of 10^9 ([`Nano`]).
 //!
-//! A decimal is read from its text with its refusals in their order. The operations on fractions
-//! are exact, and never overflow 128 bits where the denominators are as asked. No call takes
-//! memory.
+//! A decimal is read from its text, and faults are reported in a fixed order. The operations on fractions are
+//! exact, and never overflow 128 bits for the denominators that they require. No call allocates memory.
 #![tactic(auto)]
 
 mod dec;

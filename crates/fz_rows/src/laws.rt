@@ -1,7 +1,7 @@
 //! Laws of rows, each the contract of a function that does nothing.
 ghost use Rattle.fz_rows.specs.Laws.{EachTextHasFirstRows, FirstRowsAreOne};
 
-/// A text has one list of first rows.
+/// A text has only one list of first rows.
 pub fn first_rows_are_one()
     ensures { FirstRowsAreOne }
 {}

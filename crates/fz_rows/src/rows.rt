@@ -6,10 +6,11 @@ ghost use Rattle.fz_rows.specs.FirstRows.{AreFirstRows, is_want_of_memory};
 use csv::{ByteRecord, ErrorKind, ReaderBuilder};
 use std::alloc::{AllocError, Global};
 
-/// One row more than a caller takes.
+/// One more row than a caller accepts.
 const MOST: usize = 10001;
 
-/// Whether a fault tells nothing of the text: memory ran out, or the source failed, which bytes in memory don't.
+/// Whether a fault implies nothing about the text: memory ran out, or the source failed, which bytes in memory do
+/// not.
 fn is_want_of_memory(kind: &ErrorKind) -> bool
     ensures { result ≡ is_want_of_memory kind.now }
 {

@@ -1,4 +1,4 @@
-//! The one line on err, put in parts that take no memory.
+//! The one line on err, put in parts that need no memory.
 ghost use Rattle.std.specs.Prelude.{◌≡◌, ◌++◌, length};
 ghost use Rattle.fz_shelf.specs.Told.{gained, HasRoom};
 ghost use Rattle.fz_status.specs.Words.{texts_of};
@@ -41,8 +41,8 @@ fn put_line<F: Sink>(err: &mut F, words: &[String], status: &Status) -> Result<(
     }
 }
 
-/// Puts the line of a status, which is none for `Ok`. It takes no memory. Where a put fails a
-/// beginning of the line is there.
+/// Puts the line of a status; `Ok` has none. Allocates no memory. If a put fails, err has taken a
+/// prefix of the line.
 pub fn report<F: Sink>(err: &mut F, words: &[String], status: &Status)
     ensures quiet { status.now ≡ Status.Ok
         → (F.told err.new ≡ F.told err.old) × (F.faults err.new ≡ F.faults err.old) }

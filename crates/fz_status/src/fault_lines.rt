@@ -1,4 +1,4 @@
-//! The lines of faults of contents, put in parts that take no memory.
+//! The lines of faults of contents, put in parts that need no memory.
 ghost use Rattle.std.specs.Prelude.{◌≡◌, ◌++◌};
 ghost use Rattle.fz_shelf.specs.Parts.{part_text, parts_text, newline};
 ghost use Rattle.fz_status.specs.Errors.{Puts};
@@ -29,7 +29,7 @@ pub(crate) fn put<F: Sink>(err: &mut F, parts: &[Part]) -> Result<(), Failed>
     put_parts(err, parts)
 }
 
-/// Puts texts, behind each of them a part or none, and the end of the line.
+/// Puts texts, each with an optional part after it, and the line feed.
 macro_rules! write_line {
     ($err:ident; $($text:tt $($kind:ident $value:expr)?),+) => {
         put($err, &[$(Part::Text($text), $(part!($kind $value),)?)+ Part::Text(b"\n")])
@@ -42,14 +42,14 @@ macro_rules! part {
     ($kind:ident $value:expr) => { Part::$kind($value) };
 }
 
-/// A text and the end of the line.
+/// A text and the line feed.
 pub(crate) fn put_text<F: Sink>(err: &mut F, text: &[u8]) -> Result<(), Failed>
     ensures { Puts F.told F.faults F.reliable err.old err.new (text.now ++ newline) result }
 {
     write_line!(err; text)
 }
 
-/// A number between two texts, and the end of the line.
+/// A number between two texts, and the line feed.
 pub(crate) fn put_number<'a, F: Sink>(
     err: &mut F,
     label: &'a [u8],
@@ -61,7 +61,7 @@ pub(crate) fn put_number<'a, F: Sink>(
     write_line!(err; label Number n, rest)
 }
 
-/// A name behind a text, and the end of the line.
+/// A name after a text, and the line feed.
 pub(crate) fn put_name<'a, F: Sink>(
     err: &mut F,
     label: &'a [u8],
@@ -73,7 +73,7 @@ pub(crate) fn put_name<'a, F: Sink>(
     write_line!(err; label, name)
 }
 
-/// The byte at an address is no instruction.
+/// The line of a trap: the byte at an address that begins no instruction.
 pub(crate) fn put_trap<F: Sink>(err: &mut F, pc: u16, byte: u8) -> Result<(), Failed>
     ensures { Puts F.told F.faults F.reliable err.old err.new (trap_line pc byte) result }
 {
@@ -346,7 +346,7 @@ pub(crate) fn put_handler<F: Sink>(err: &mut F, fault: &HandlerFault) -> Result<
     }
 }
 
-/// The line of a fault of the fast block's file: that of the same fault of another block, with `fast ` in front.
+/// The line of a fault in a file of the fast block: the usual line with `fast ` in front.
 pub(crate) fn put_fast<F: Sink>(err: &mut F, fault: &FastFault) -> Result<(), Failed>
     ensures { Puts F.told F.faults F.reliable err.old err.new (fast_line fault.now) result }
 {
@@ -354,7 +354,7 @@ pub(crate) fn put_fast<F: Sink>(err: &mut F, fault: &FastFault) -> Result<(), Fa
     put_usual(err, fault)
 }
 
-/// The line of the same fault of another block.
+/// The usual line of the same fault, as for the file of any block.
 fn put_usual<F: Sink>(err: &mut F, fault: &FastFault) -> Result<(), Failed>
     ensures { Puts F.told F.faults F.reliable err.old err.new (usual_line fault.now) result }
 {

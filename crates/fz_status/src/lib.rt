@@ -1,10 +1,9 @@
 //! How a call of the program ends: its [`Status`], the number of each, and the line that
 //! [`report`] puts on err for it.
 //!
-//! A status tells what was refused by the fault that the crate below answered, and never by that
-//! fault's own want of memory, which has the status `Memory`; the definition `CarriesNoMemory`
-//! says so. `Refuses` says what it is that contents are refused with a status, whatever the
-//! command is that reads them.
+//! A status carries the fault of the crate that refused the input, except lack of memory, which
+//! is always the status `Memory` (definition `CarriesNoMemory`). `Refuses` defines when contents
+//! are refused with a status, whichever command reads them.
 #![tactic(auto)]
 
 mod errors;

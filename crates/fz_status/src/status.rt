@@ -19,16 +19,16 @@ use srecord::SrecFault;
 use std::alloc::AllocError;
 use trace_io::TraceFault;
 
-/// How a call of the program ends. A word is told by its index, the program's name being 0.
+/// How a call of the program ends. A word is given by its index, the program's name being 0.
 #[derive(Drop)]
 pub enum Status {
     /// All input was read and accepted, and all lines were put.
     Ok,
-    /// The words are of no command.
+    /// The words are not those of a command.
     Usage,
     /// The file of that word could not be read.
     ReadFault(u32),
-    /// A line could not be put, or a file not be written.
+    /// A line could not be put, or a file could not be written.
     WriteFault,
     /// The text spells no block that can be laid out.
     Fcl(FclFault),
@@ -42,9 +42,9 @@ pub enum Status {
     Plan(PlanFault),
     /// The text is no list of upsets of the image.
     Upset(UpsetFault),
-    /// Halving gives no certificate for the target. It is never `NotReached::Memory`.
+    /// Halving gives no certificate for the target. The fault is never `NotReached::Memory`.
     NotReached(NotReached),
-    /// Memory was wanted and not found.
+    /// Out of memory.
     Memory,
     /// The file of that word has more than 1048576 bytes.
     TooLong(u32),
@@ -52,17 +52,17 @@ pub enum Status {
     Asm(AsmFault),
     /// The byte at an address is no instruction.
     Trap(u16, u8),
-    /// So many steps were taken without arriving.
+    /// That many steps were taken, and the image did not come to a branch to itself.
     Budget(u32),
-    /// The image is no handler. It is never `HandlerFault::Memory`.
+    /// The image is no handler. The fault is never `HandlerFault::Memory`.
     Handler(HandlerFault),
-    /// That line of the script is of no form.
+    /// That line of the script is no order.
     Script(u32),
     /// A file of the fast block is refused.
     Fast(FastFault),
 }
 
-/// Why a file of the fast block is refused, where a slow block's files are read beside it.
+/// Why a file of the fast block is refused, by a command that also reads those of a slow block.
 #[derive(Drop)]
 pub enum FastFault {
     /// The text spells no block that can be laid out.
@@ -73,7 +73,7 @@ pub enum FastFault {
     Trace(TraceFault),
 }
 
-/// Why a text gives no firmware. It never carries want of memory.
+/// Why a text gives no firmware. It never carries lack of memory.
 #[derive(Drop)]
 pub enum FclFault {
     /// The text is not of the grammar, or uses a part that is left out.
@@ -84,10 +84,10 @@ pub enum FclFault {
     Layout(LayoutFault),
 }
 
-/// Why an image is refused. It never carries want of memory.
+/// Why an image is refused. It never carries lack of memory.
 #[derive(Drop)]
 pub enum ImageFault {
-    /// The text has no image.
+    /// The text gives no image.
     Records(SrecFault),
     /// At an address the image has the first byte, or none, where the firmware has the second, or none.
     Byte(u16, Option<u8>, Option<u8>),
@@ -95,10 +95,10 @@ pub enum ImageFault {
     Start(u16, u16),
 }
 
-/// Why a certificate is refused. It never carries want of memory.
+/// Why a certificate is refused. It never carries lack of memory.
 #[derive(Drop)]
 pub enum CertRefusal {
-    /// The text has no certificate.
+    /// The text spells no certificate.
     Text(CertFault),
     /// The certificate is not accepted.
     Check(CheckFault),
@@ -275,7 +275,7 @@ impl Status {
         }
     }
 
-    /// The same, told of the fast block's file where it tells of a block's.
+    /// The same for the fast block: a fault in a block's file becomes one in a file of the fast block.
     pub fn of_fast(self) -> Status
         ensures { result ≡ of_fast self }
     {

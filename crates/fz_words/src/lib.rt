@@ -1,10 +1,10 @@
 //! The words of the command line: which command they name, by `clap`.
 //!
-//! The caller gives a table of the commands, each with its name, the number of words that follow
-//! it, and what the caller calls it. Every word after the program's own is taken as it stands, so
-//! none may begin with a hyphen. [`command_of`] answers the command of a row exactly where the words
-//! are the program's name, the row's name and as many words as the row has; it refuses exactly the
-//! words that `clap` refuses, or of which one begins with a hyphen.
+//! The caller gives a table of the commands, each with its name, the number of words that follow it, and the
+//! caller's value for it. Every word after the program's own is taken literally, so none may begin with a hyphen.
+//! [`command_of`] returns the command of a row exactly where the words are the program's name, the row's name and
+//! as many words as the row has; it refuses exactly the words that `clap` refuses, or of which one begins with a
+//! hyphen.
 #![tactic(auto)]
 
 ghost use Rattle.std.specs.Prelude.{◌≡◌, ◌≢◌, ◌↔◌, ◌+◌, ◌<◌, [], length, map, string_bytes, false, IfOk, OnOk, IsErrOf};
@@ -22,13 +22,13 @@ use std::alloc::{AllocError, Global};
 /// Why words name no command.
 #[derive(Clone, Copy, PartialEq, Eq)]
 pub enum Refusal {
-    /// They are of no command.
+    /// They match no command.
     Usage,
-    /// Memory was wanted and not found.
+    /// Out of memory.
     Memory,
 }
 
-/// The argument that takes so many words.
+/// The argument that takes this many words.
 fn argument<'a>(alloc: Global, count: usize) -> Arg<'a>
     ensures rule { rule_of result ≡ words_rule count }
     ensures local { result.global ≡ false }
@@ -39,7 +39,7 @@ fn argument<'a>(alloc: Global, count: usize) -> Arg<'a>
         .num_args(count)
 }
 
-/// The subcommand of a name with so many words.
+/// The subcommand of a name with this many words.
 fn subcommand<'a>(alloc: Global, name: &'a str, count: usize) -> Result<Command<'a>, AllocError>
     ensures app { IfOk result (λ c. app_of c ≡ leaf_app name.entry.now count) }
     ensures local { IfOk result (λ c. (fields_of c).has_globals ≡ false) }
@@ -70,7 +70,7 @@ fn command<'a, T: Copy>(
     Ok(command)
 }
 
-/// Whether `clap` takes the words.
+/// Whether `clap` accepts the words.
 fn takes_words<'a, T: Copy>(
     alloc: Global,
     rows: &'a [(&'a str, usize, T)],
@@ -145,8 +145,8 @@ fn command_by_form<T: Copy>(rows: &[(&str, usize, T)], words: &[String]) -> Opti
     }
 }
 
-/// The command of the row that the words, the program's own name first, are of. It is `Usage`
-/// exactly where a word after the first begins with a hyphen or `clap` does not take the words.
+/// The command of the row that the words match, of which the first is the program's own name. The result is
+/// `Usage` exactly where a word after the first begins with a hyphen or `clap` does not accept the words.
 pub fn command_of<'a, T: Copy>(
     alloc: Global,
     rows: &'a [(&'a str, usize, T)],

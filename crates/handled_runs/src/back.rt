@@ -1,4 +1,4 @@
-//! The way of a handler to its RTI.
+//! The steps of a handler up to its RTI.
 ghost use Rattle.std.specs.Prelude.{◌≡◌, ◌≤◌, ◌-◌};
 ghost use Rattle.handler_check.specs.Running.{until_rti, step_limit};
 ghost use Rattle.handled_runs.specs.Forms.{end_of};
@@ -7,7 +7,7 @@ use cpu12_emul::machine::Machine;
 use cpu12_isa::mem::Mem;
 use handler_check::STEP_LIMIT;
 
-/// The byte of RTI.
+/// The opcode of RTI.
 const RTI: u8 = 0x0B;
 
 /// How the steps of a handler ended.
@@ -15,11 +15,11 @@ const RTI: u8 = 0x0B;
 pub struct HandlerEnd {
     /// How many there were.
     pub steps: u16,
-    /// Whether the last was an RTI: else no step is defined where they ended, or they came to the limit.
+    /// Whether the last was an RTI: otherwise the next step is undefined, or the limit was reached.
     pub done: bool,
 }
 
-/// The end where so many steps of the limit are left.
+/// The end when this many steps of the limit are left.
 fn ended(left: u16, done: bool) -> HandlerEnd
     requires { left ≤ step_limit }
     ensures { result ≡ record { steps = step_limit - left; done = done } }
@@ -30,7 +30,7 @@ fn ended(left: u16, done: bool) -> HandlerEnd
     }
 }
 
-/// Does steps up to the first of an RTI, at most [`STEP_LIMIT`] and as long as one is defined.
+/// Does steps up to the first RTI, at most [`STEP_LIMIT`] and while steps are defined.
 pub(crate) fn until_rti<M: Mem>(m: &mut Machine<M>) -> HandlerEnd
     ensures state { m.new.state ≡ (until_rti m.old.flags step_limit m.old.state).state }
     ensures end { result ≡ end_of (until_rti m.old.flags step_limit m.old.state) }

@@ -24,7 +24,7 @@ use run_law::laws::SoundForm;
 use std::alloc::Global;
 use trace_io::Sample;
 
-/// A firmware that stands alone beside a handler in memory, with a trace. Where the handler is accepted it is a sound
+/// A firmware that stands alone, with a handler in memory and a trace. If the handler is accepted it is a sound
 /// form.
 #[derive(Drop)]
 pub(crate) struct HandledForm<'a> {
@@ -35,7 +35,7 @@ pub(crate) struct HandledForm<'a> {
     ghost outputs: { firmware.now.outputs ≤ 4 },
 }
 
-/// How many steps were told of in all.
+/// How many steps were reported in all.
 fn steps_in(told: &[HandlerEnd]) -> u32
     requires { length told.now ≤ 10000 }
     ensures { result ≡ steps_of told.now }

@@ -8,7 +8,7 @@ use cpu12_isa::mem::VECTOR;
 use fz_list::Memory;
 use std::alloc::{AllocError, Global};
 
-/// Puts all bytes of one map into another, in the place of those that are there.
+/// Puts all bytes of one map into another, replacing those that are there.
 fn put_each(alloc: Global, map: &mut ByteMap, from: &ByteMap) -> Result<(), AllocError>
     ensures { OnOk result ((q : ℕ) → byte_at map.new q ≡ either (byte_at from.now q) (byte_at map.old q)) }
 {
@@ -31,8 +31,8 @@ fn joint_map(alloc: Global, firmware: &ByteMap, handler: &ByteMap) -> Result<Byt
     Ok(map)
 }
 
-/// The image of a firmware with a handler's bytes in the place of those at their addresses, and `$4000` in the
-/// interrupt's vector. Want of memory is the one error.
+/// The image of a firmware with a handler's bytes replacing those at their addresses, and `$4000` in the
+/// interrupt's vector. Lack of memory is the only error.
 pub fn joint_image(alloc: Global, firmware: &Image, handler: &Image) -> Result<Image, Memory>
     ensures bytes { IfOk result (λ i. (q : ℕ)
         → byte_at i.bytes q ≡ byte_at (joint_bytes firmware.now.bytes handler.now.bytes) q) }

@@ -15,9 +15,9 @@ use run_forms::Notes;
 use run_forms::laws::rows_are_shown;
 use run_law::laws::{handlers_begin, runs_follow, sums_fit_below};
 
-/// Under every good plan a block's firmware whose interrupts run an accepted handler gives the rows of
-/// the run in which they do the listed writes alone, and each interrupt comes to its handler's RTI after
-/// at most as many steps as the handler has instructions on a path.
+/// Under every good plan a block's firmware whose interrupts run an accepted handler gives the rows of the run in
+/// which they only do the listed writes, and each interrupt reaches its handler's RTI after at most as many steps
+/// as the handler has instructions on a path.
 pub fn handled_answers()
     ensures { HandledAnswers }
 {
@@ -35,7 +35,7 @@ pub fn handled_answers()
     rows_are_shown::<Request, Notes<HandlerEnd>, HandledRow, HandledForm>();
 }
 
-/// In each state of such a run the handler can begin, and its interrupt is a take that writes free bytes.
+/// In each state of such a run the handler can begin, and its interrupt is one that writes free bytes.
 pub fn states_run_as_takes()
     ensures { StatesRunAsTakes }
 {

@@ -20,7 +20,7 @@ use run_forms::{Start, run_form};
 use std::alloc::Global;
 use trace_io::Sample;
 
-/// What a sample's run gave, and how many steps of the handler the interrupts of the sample did.
+/// The results of a sample's run, and how many steps of the handler the interrupts of the sample did.
 #[derive(Drop)]
 pub struct HandledRow {
     pub row: Row,
@@ -60,11 +60,11 @@ fn joint_rows(
     Ok(rows)
 }
 
-/// Runs a firmware over a trace under a plan, where each interrupt runs the code of a handler's image, up to its RTI or
-/// to the one limit of all handlers, and answers a row for each sample. Bits of `flags` give the flags that the CPU12
-/// Reference Manual leaves undefined. Where the image is an accepted handler and the firmware a block's, the rows are
-/// those of `alone_runs::run`, and each interrupt comes to its RTI, after at most as many steps as the handler has
-/// instructions on a path. Want of memory is the one error.
+/// Runs a firmware over a trace under a plan, where each interrupt runs the code of a handler's image, up to its
+/// RTI or to the limit for all handlers, and returns a row for each sample. Bits of `flags` supply the flags that
+/// the CPU12 Reference Manual leaves undefined. If the image is an accepted handler and the firmware a block's,
+/// the rows are those of `alone_runs::run`, and each interrupt reaches its RTI, after at most as many steps as the
+/// handler has instructions on a path. Lack of memory is the only error.
 pub fn run_handler(
     alloc: Global,
     firmware: &Firmware,

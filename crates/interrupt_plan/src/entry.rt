@@ -1,4 +1,4 @@
-//! What rows spell, and what reads it.
+//! What rows spell, and how it is read.
 ghost use Rattle.std.specs.Prelude.{◌≡◌, ◌↔◌, ◌≤◌, ℕ, List, IfOk, MatchOption, IsTrue};
 ghost use Rattle.csv.specs.Records.{fields_of};
 ghost use Rattle.cpu12_isa.specs.declared.instr.Write as isa;
@@ -19,20 +19,20 @@ pub(crate) trait Entry: Sized + Drop {
     /// What it writes.
     ghost written: { Self → List isa.Write };
 
-    /// Which others may stand behind it.
+    /// Which others may follow it.
     ghost not_after: { Self → Self → Type 0 };
 
     /// What it writes, in order.
     fn writes(&self) -> &[Write]
         ensures { result.now ≡ written self.now };
 
-    /// Whether the other may stand behind it.
+    /// Whether the other may follow it.
     fn is_not_after(&self, other: &Self) -> bool
         ensures { IsTrue result ↔ not_after self.now other.now };
 }
 
-/// What reads the entries of rows: a private type, since an impl on an entry's public type would put csv
-/// into what every crate above reads.
+/// A reader of rows' entries: a private type, since an impl on an entry's public type would make csv part of what
+/// every crate above reads.
 pub(crate) trait RowReader<E> {
     /// Which fields spell which entry.
     ghost spells: { Self → List (List ℕ) → E → Type 0 };
@@ -43,7 +43,7 @@ pub(crate) trait RowReader<E> {
             (spells self.now (fields_of row.now))) };
 }
 
-/// Whether the first of two samples with moments in them does not come after the second.
+/// Whether the first of two pairs of a sample and a moment in it does not come after the second.
 pub(crate) fn is_no_later(first: (u32, u32), second: (u32, u32)) -> bool
     ensures { IsTrue result ↔ NoLaterThan first second }
 {
@@ -109,7 +109,7 @@ impl Entry for Post {
     }
 }
 
-/// Reads rows of posts, of so many samples.
+/// Reads rows of posts, with the given number of samples.
 #[derive(Drop)]
 pub(crate) struct PostReader {
     pub(crate) samples: u32,

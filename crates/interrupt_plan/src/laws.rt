@@ -14,14 +14,14 @@ pub fn spelled_plans_have_no_fault()
     fz_rows::laws::first_rows_are_one();
 }
 
-/// Nor has one that spells posts.
+/// A text that spells posts has no fault.
 pub fn spelled_posts_have_no_fault()
     ensures { SpelledPostsHaveNoFault }
 {
     fz_rows::laws::first_rows_are_one();
 }
 
-/// Nor has one that spells levels.
+/// A text that spells levels has no fault.
 pub fn spelled_levels_have_no_fault()
     ensures { SpelledLevelsHaveNoFault }
 {
@@ -35,7 +35,7 @@ pub fn spelled_upsets_have_no_fault()
     fz_rows::laws::first_rows_are_one();
 }
 
-/// A text has one first fault: as a plan, as posts, as levels, and as upsets of an image.
+/// A text has only one first fault: as a plan, as posts, as levels, and as upsets of an image.
 pub fn first_faults_are_one()
     ensures plans { PlanFaultsAreOne }
     ensures posts { PostFaultsAreOne }
@@ -45,7 +45,7 @@ pub fn first_faults_are_one()
     fz_rows::laws::first_rows_are_one();
 }
 
-/// A text spells one plan, and one list of posts, of levels, and of upsets of an image.
+/// A text spells only one plan, and one list of posts, of levels, and of upsets of an image.
 pub fn spelled_entries_are_one()
     ensures plans { SpelledPlansAreOne }
     ensures posts { SpelledPostsAreOne }
@@ -55,7 +55,8 @@ pub fn spelled_entries_are_one()
     fz_rows::laws::first_rows_are_one();
 }
 
-/// Each text spells a plan or has a first fault, and so with posts, with levels, and with upsets of an image.
+/// Each text spells a plan or has a first fault, and the same holds for posts, for levels, and for upsets of an
+/// image.
 pub fn each_text_is_judged()
     ensures plans { EachPlanTextIsJudged }
     ensures posts { EachPostsTextIsJudged }

@@ -1,4 +1,4 @@
-//! Levels: takes of a handler that answers fast samples, and is interrupted itself.
+//! Levels: interrupts whose handler answers fast samples, and is itself interrupted.
 ghost use Rattle.std.specs.Prelude.{◌≡◌, ◌≢◌, ◌↔◌, ◌≤◌, ℕ, List as Items, [], length, map, All, IfOk, IfErr};
 ghost use Rattle.std.specs.Prelude.{MatchOption, Some, IsTrue};
 ghost use Rattle.std.specs.List.Sorted.{IsNonDecreasing};
@@ -17,17 +17,17 @@ use csv::ByteRecord;
 use fz_list::List;
 use std::alloc::{AllocError, Global};
 
-/// A take of a handler that answers a fast sample, and the interrupts that come meanwhile.
+/// An interrupt whose handler answers a fast sample, and the interrupts that come meanwhile.
 #[derive(Drop)]
 pub struct Level {
     /// The slow sample that is interrupted, counted from 1.
     pub sample: u32,
-    /// How many of its steps are done before it, at the least.
+    /// The least number of its steps that are done before the interrupt.
     pub moment: u32,
     /// The fast sample that the handler answers, counted from 1, or 0 for none.
     pub fast: u32,
-    /// How many of the handler's steps are done before each interrupt of it, at the least. They do not
-    /// fall, and there are none where there is no fast sample.
+    /// The least number of the handler's steps that are done before each of its interrupts. The numbers do not
+    /// decrease, and there are none if there is no fast sample.
     pub inner: ArrayVec<u32, 8>,
 }
 
@@ -37,7 +37,7 @@ pub type Levels = List<Level>;
 /// The most numbers of a row: three, and eight inner moments.
 const MOST_NUMBERS: usize = 11;
 
-/// The numbers of a row, one a field.
+/// The numbers of a row, one per field.
 fn numbers_in(row: &ByteRecord) -> Option<ArrayVec<u32, 11>>
     ensures { MatchOption result
         ((ns : Items ℕ) → map count_of (fields_of row.now) ≡ map Some ns → length ns ≤ 11 → ⊥)
@@ -67,7 +67,7 @@ fn is_answered(fast: u32, moments: &[u32]) -> bool
     fast > 0 || moments.is_empty()
 }
 
-/// The good level of these numbers, where there are so many fast samples.
+/// The good level of these numbers, with the given number of fast samples.
 fn level_of(numbers: &[u32], fast: u32) -> Option<Level>
     requires { All (λ n. n ≤ 999999999) numbers.now }
     ensures { MatchOption result ((l : TheLevel) → numbers.now ≡ numbers_of l → IsGoodLevel fast l → ⊥)
@@ -90,7 +90,7 @@ fn level_of(numbers: &[u32], fast: u32) -> Option<Level>
     }
 }
 
-/// The level that a row spells, where there are so many fast samples.
+/// The level that a row spells, with the given number of fast samples.
 fn level_in(row: &ByteRecord, fast: u32) -> Option<Level>
     ensures { MatchOption result ((l : TheLevel) → SpellsLevel fast (fields_of row.now) l → ⊥)
         (SpellsLevel fast (fields_of row.now)) }
@@ -113,7 +113,7 @@ impl Entry for Level {
     }
 }
 
-/// Reads rows of levels, over so many fast samples.
+/// Reads rows of levels, with the given number of fast samples.
 #[derive(Drop)]
 struct LevelReader {
     fast: u32,
@@ -127,8 +127,8 @@ impl RowReader<Level> for LevelReader {
     }
 }
 
-/// The levels that a text spells over so many fast samples: a row per level, with the slow sample and a
-/// moment in it, the fast sample that is answered there or 0 for none, and up to eight inner moments.
+/// The levels that a text spells, with the given number of fast samples: a row per level, with the slow sample and
+/// a moment in it, the fast sample that is answered there or 0 for none, and up to eight inner moments.
 pub fn read_levels(alloc: Global, text: &[u8], fast: u32) -> Result<Levels, PlanFault>
     requires { length text.now ≤ 1048576 }
     ensures levels { IfOk result (SpellsLevels fast text.now) }

@@ -1,16 +1,15 @@
 //! Interrupt plans: the schedule of the interrupts that a run takes.
 //!
-//! A [`Plan`] is a list of [`Request`]s. A request names a sample, a moment in it, counted in
-//! steps, and the bytes that its handler writes; it is taken at the first boundary at or after
-//! its moment where interrupts are allowed. A good plan writes only bytes that the firmware
-//! leaves free, and its requests ascend. [`read_plan`] answers exactly the plan that the rows of a
-//! text spell, which is good, or the fault of the first row that fails. [`read_posts`] does the same
-//! for the [`Posts`] of the mailbox form, whose handler may post a sample.
+//! A [`Plan`] is a list of [`Request`]s. A request names a sample, a moment in it, counted in steps, and the bytes
+//! that its handler writes; it is taken at the first boundary at or after its moment where interrupts are allowed.
+//! A good plan writes only bytes that the firmware leaves free, and its requests ascend. [`read_plan`] returns
+//! exactly the plan that the rows of a text spell, which is good, or the fault of the first row that fails.
+//! [`read_posts`] does the same for the [`Posts`] of the mailbox form, whose handler may post a sample.
 //!
-//! [`read_levels`] reads the [`Levels`] at which a handler answers fast samples, and is interrupted meanwhile.
+//! [`read_levels`] reads the [`Levels`] at which a handler answers fast samples and is itself interrupted.
 //!
-//! [`read_upsets`] reads in the same way which byte of a firmware's tables holds another value while
-//! a sample is answered: a list of [`Upset`]s, one at most for each sample.
+//! [`read_upsets`] reads in the same way which byte of a firmware's tables holds another value while a sample is
+//! answered: a list of [`Upset`]s, at most one for each sample.
 #![tactic(auto)]
 
 ghost use Rattle.std.specs.Prelude.{◌≡◌, []};
@@ -33,12 +32,12 @@ pub use reader::{read_plan, read_posts};
 pub use row::{count_in, word_in};
 pub use upsets::{Upset, UpsetFault, Upsets, read_upsets};
 
-/// An interrupt that is asked for.
+/// A request for an interrupt.
 #[derive(Drop)]
 pub struct Request {
     /// The sample, counted from 1.
     pub sample: u32,
-    /// How many of the sample's steps are done before it, at the least.
+    /// The least number of the sample's steps that are done before it.
     pub moment: u32,
     /// What its handler writes, in order: at most 8 bytes, each from `$1800` to `$1FDF`.
     pub writes: List<Write>,
@@ -47,14 +46,14 @@ pub struct Request {
 /// Requests that ascend by sample and then by moment, at most 10000 of them.
 pub type Plan = List<Request>;
 
-/// A take of a handler that may post a sample.
+/// A request for an interrupt whose handler may post a sample.
 #[derive(Drop)]
 pub struct Post {
-    /// How many steps of the run are done before it, at the least: at most 1000000.
+    /// The least number of the run's steps that are done before it, at most 1000000.
     pub moment: u32,
     /// The sample that it posts, counted from 1, or 0 for none.
     pub sample: u32,
-    /// What its handler writes besides, in order: at most 8 bytes, each from `$1800` to `$1FDF`.
+    /// What its handler writes in addition, in order: at most 8 bytes, each from `$1800` to `$1FDF`.
     pub writes: List<Write>,
 }
 
@@ -67,23 +66,23 @@ pub enum PlanFault {
     /// There is a row 10001.
     #[error("too many rows")]
     TooMany,
-    /// That row is not its two numbers, a sample and a moment or a moment and a sample, each in its
-    /// limits, and at most eight pairs of an address and a value; or not the numbers of a level.
+    /// That row does not have its two numbers, a sample and a moment or a moment and a sample, each within its
+    /// limits, followed by at most eight pairs of an address and a value; or does not have the numbers of a level.
     #[error("row {0} is malformed")]
     BadRow(u32),
     /// In that row, that address is the first that is not free.
     #[error("row {0}: the byte at {1} is not free")]
     NotFree(u32, u16),
-    /// That row comes before the one above it: a request or a level by its sample and moment, a post by
-    /// its moment.
+    /// That row belongs before the one above it: a request or a level by its sample and moment, a post by its
+    /// moment.
     #[error("row {0} falls back")]
     NotAscending(u32),
-    /// Memory was wanted and not found.
+    /// Out of memory.
     #[error("no memory")]
     Memory,
 }
 
-/// The plan of a run without interrupts. It takes no memory.
+/// The plan of a run without interrupts. It allocates no memory.
 pub fn no_interrupts(alloc: Global) -> Plan
     ensures empty { result ≡ [] }
     ensures good { IsGood result }

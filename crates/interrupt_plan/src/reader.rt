@@ -16,7 +16,7 @@ use std::alloc::Global;
 /// The most rows.
 const MOST_ROWS: usize = 10000;
 
-/// The entry of a row with this number, behind those of the rows above it.
+/// The entry of a row with this number, after those of the rows above it.
 fn next_entry<E: Entry, R: RowReader<E>>(
     alloc: Global,
     before: &[E],
@@ -74,10 +74,9 @@ fn entries_in<E: Entry, R: RowReader<E>>(
     Ok(entries)
 }
 
-/// The entries that a text spells: comma-separated values without a header row, one row per entry,
-/// with two numbers and up to eight pairs of an address and a value, both hexadecimal. What `csv` does
-/// by default holds: empty lines are no rows, fields may be quoted, and a byte order mark at the start
-/// is skipped.
+/// The entries that a text spells: comma-separated values without a header row, one row per entry, with two
+/// numbers and up to eight pairs of an address and a value, both hexadecimal. The defaults of `csv` apply: empty
+/// lines are no rows, fields may be quoted, and a byte order mark at the start is skipped.
 pub(crate) fn entries_of<E: Entry, R: RowReader<E>>(
     alloc: Global,
     text: &[u8],
@@ -106,7 +105,7 @@ pub fn read_plan(alloc: Global, text: &[u8]) -> Result<Plan, PlanFault>
     entries_of(alloc, text, &RequestReader)
 }
 
-/// The posts that a text spells over so many samples: a row per post, with its moment, its sample and
+/// The posts that a text spells, with the given number of samples: a row per post, with its moment, its sample and
 /// its writes.
 pub fn read_posts(alloc: Global, text: &[u8], samples: u32) -> Result<Posts, PlanFault>
     requires { length text.now ≤ 1048576 }

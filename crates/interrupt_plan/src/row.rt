@@ -19,7 +19,7 @@ use std::alloc::{AllocError, Global};
 /// The most digits of a number.
 const MOST_DIGITS: usize = 9;
 
-/// One more than the greatest number of so many digits.
+/// One more than the greatest number with that many digits.
 const TOO_GREAT: u32 = 1_000_000_000;
 
 /// The most fields of a row: two numbers, and eight writes.
@@ -31,7 +31,7 @@ fn has_digits_only(field: &[u8]) -> bool
     field.iter().all(|c| *c >= b'0' && *c <= b'9')
 }
 
-/// The number that digits spell, or `TOO_GREAT` where that is less.
+/// The number that digits spell, or `TOO_GREAT` if that is less.
 fn value_of(digits: &[u8]) -> u32
     ensures { result ≡ min (number digits.now) TOO_GREAT }
 {
@@ -94,7 +94,7 @@ pub(crate) fn field_at(row: &ByteRecord, at: usize) -> &[u8]
     }
 }
 
-/// The writes of a row behind its numbers.
+/// The writes of a row after its numbers.
 fn writes_in(alloc: Global, row: &ByteRecord) -> Result<Option<Vec<Write>>, AllocError>
     requires some { 2 ≤ length (fields_of row.now) }
     requires pairs { length (fields_of row.now) % 2 ≡ 0 }

@@ -20,9 +20,9 @@ use thiserror::Error;
 pub struct Upset {
     /// The sample, counted from 1.
     pub sample: u32,
-    /// The byte's address: one that the image has from `$D000` to `$FEFF`.
+    /// The byte's address: one from `$D000` to `$FEFF` at which the image has a byte.
     pub at: u16,
-    /// What it holds.
+    /// The value that it holds.
     pub value: u8,
 }
 
@@ -44,7 +44,7 @@ pub enum UpsetFault {
     /// That row's sample does not come after that of the row above it.
     #[error("row {0} does not ascend")]
     NotAscending(u32),
-    /// Memory was wanted and not found.
+    /// Out of memory.
     #[error("no memory")]
     Memory,
 }
@@ -55,7 +55,7 @@ const MOST_UPSETS: usize = 10000;
 /// The fields of a row: a sample, an address and a value.
 const FIELDS: usize = 3;
 
-/// Where the tables of an image stand.
+/// Where the tables of an image are.
 const TABLES_FROM: u16 = 0xD000;
 
 const TABLES_TO: u16 = 0xFEFF;
@@ -87,7 +87,7 @@ fn upset_in(row: &ByteRecord) -> Option<Upset>
     }
 }
 
-/// The good upset of a row with this number, behind those of the rows above it.
+/// The good upset of a row with this number, after those of the rows above it.
 fn next_upset(
     image: &Image,
     before: &[Upset],
@@ -138,10 +138,9 @@ fn upsets_in(alloc: Global, image: &Image, rows: &[ByteRecord]) -> Result<Vec<Up
     Ok(upsets)
 }
 
-/// The upsets that a text spells, of the tables of an image: comma-separated values without a header
-/// row, one row per upset, with its sample, its address and its value, both hexadecimal. What `csv`
-/// does by default holds: empty lines are no rows, fields may be quoted, and a byte order mark at the
-/// start is skipped.
+/// The upsets that a text spells, in the tables of an image: comma-separated values without a header row, one row
+/// per upset, with its sample, its address and its value, the latter two hexadecimal. The defaults of `csv` apply:
+/// empty lines are no rows, fields may be quoted, and a byte order mark at the start is skipped.
 pub fn read_upsets(alloc: Global, text: &[u8], image: &Image) -> Result<Upsets, UpsetFault>
     requires { length text.now ≤ 1048576 }
     ensures upsets { IfOk result (SpellsUpsets image.now.bytes text.now) }

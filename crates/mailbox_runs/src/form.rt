@@ -19,11 +19,11 @@ use run_forms::{Notes, SampleForm};
 use run_law::laws::SoundForm;
 use trace_io::Sample;
 
-/// The most writes of a post: eight inputs, POSTED, and eight of its own.
+/// The most writes of a post: eight inputs, POSTED, and the post's own eight.
 const MOST_WRITES: usize = 17;
 
-/// A turn of the mailbox form of a firmware under posts of these samples, from one arrival where the code waits to the
-/// next. It is given nothing. Behind the copy it is a sound form, to whose posts the mailbox is open too.
+/// A turn of the mailbox form of a firmware under posts of these samples, from one arrival where the code waits to
+/// the next. It is given nothing. After the copy it is a sound form, to whose posts the mailbox is open too.
 #[derive(Drop)]
 pub(crate) struct MailboxForm<'a> {
     pub(crate) firmware: &'a Firmware,
@@ -32,7 +32,7 @@ pub(crate) struct MailboxForm<'a> {
     pub(crate) begun: u32,
 }
 
-/// Puts a write behind so many others.
+/// Puts a write after the first `count`.
 fn put(writes: &mut [Write], count: usize, write: Write)
     requires { count < length writes.old }
     ensures items { take (count + 1) writes.new ≡ take count writes.old ++ write ∷ [] }
@@ -41,7 +41,8 @@ fn put(writes: &mut [Write], count: usize, write: Write)
     writes[count] = write;
 }
 
-/// Writes bytes one after the other, from an address on, behind so many writes. Answers how many there are then.
+/// Writes bytes one after the other, from an address on, after the first `count` writes. Returns how many writes
+/// there are then.
 fn put_bytes(writes: &mut [Write], count: usize, at: u16, bytes: &[u8]) -> usize
     requires { count + length bytes.now ≤ length writes.old }
     ensures items { take result writes.new ≡ take count writes.old ++ writes_from at bytes.now }
@@ -65,7 +66,7 @@ fn put_bytes(writes: &mut [Write], count: usize, at: u16, bytes: &[u8]) -> usize
     done
 }
 
-/// Does the same with writes.
+/// Does the same with writes instead of bytes.
 fn put_all(writes: &mut [Write], count: usize, more: &[Write]) -> usize
     requires { count + length more.now ≤ length writes.old }
     ensures items { take result writes.new ≡ take count writes.old ++ more.now }
@@ -80,8 +81,8 @@ fn put_all(writes: &mut [Write], count: usize, more: &[Write]) -> usize
     done
 }
 
-/// What the handler of a post writes: of a sample its bytes and 1 to POSTED, and then the post's writes. Answers how
-/// many these are.
+/// What the handler of a post writes: the bytes of the sample, if any, and 1 to POSTED, and then the post's
+/// writes. Returns the number of writes.
 fn write_post(
     memory_map: &MemoryMap,
     samples: &[Sample],

@@ -21,7 +21,7 @@ use firmware_runs::laws::instructions_are_steps;
 use run_forms::laws::plain_is_one_step;
 use run_law::laws::{run_follows, taken_at_first_open};
 
-/// Posts have one list of turns, whatever the turns' lengths are.
+/// Posts have only one list of turns, whatever the turns' lengths are.
 pub fn turns_are_one()
     ensures { TurnsAreOne }
 {}
@@ -36,8 +36,8 @@ pub fn all_are_taken()
     ensures { AllAreTaken }
 {}
 
-/// The turns of good posts answer samples that there are, each in as many steps as is said of the
-/// samples up to its own; the others take 2 steps, or none.
+/// The turns of good posts answer existing samples, each in the number of steps given for the samples up to its
+/// own; the other turns take 2 steps, or none.
 pub fn turns_have_steps()
     ensures { TurnsHaveSteps }
 {}
@@ -56,7 +56,7 @@ pub fn mailbox_runs_turns()
     uninterrupted_are_one();
 }
 
-/// Good posts have turns, however many steps these take.
+/// Good posts have turns, however many steps the turns take.
 pub fn posts_have_turns()
     ensures { PostsHaveTurns }
 {}
@@ -67,7 +67,7 @@ pub fn turns_count_on()
     ensures { RunsCountOn (Unit {0}) plan.Post (Unit {0}) }
 {}
 
-/// What is known where posts come: of their writes, of steps, and of interrupts that are taken.
+/// What is known where posts come: about their writes, about steps, and about interrupts that are taken.
 fn posting_laws()
     ensures { PostingLaws }
 {
@@ -83,8 +83,8 @@ fn posting_laws()
     plain_is_step();
 }
 
-/// Behind the copy a turn under posts follows the turn without interrupts, and the mailbox holds the
-/// sample that was posted last.
+/// After the copy a turn under posts follows the turn without interrupts, and the mailbox holds the sample that
+/// was posted last.
 pub fn turns_follow_behind()
     ensures { FollowsBehind }
 {
@@ -92,7 +92,7 @@ pub fn turns_follow_behind()
     run_follows::<MailboxForm>();
 }
 
-/// What is known of turns under posts.
+/// What is known about turns under posts.
 fn turn_laws()
     ensures { TurnLaws }
 {
@@ -102,33 +102,33 @@ fn turn_laws()
     turns_follow_behind();
 }
 
-/// Under posts a turn that answers is the turn without interrupts of the sample that was posted last
-/// before the copy: it takes its steps and ends in its state, but for free bytes and the mailbox, where
-/// the sample waits that was posted last behind the copy. From the copy on its states simulate those.
+/// Under posts a turn that answers is the turn without interrupts of the sample that was posted last before the
+/// copy: it takes its steps and ends in its state, except for free bytes and the mailbox, which holds the sample
+/// that was posted last after the copy. From the copy on its states simulate those.
 pub fn posted_turns_follow()
     ensures { PostedTurnsFollow }
 {
     turn_laws();
 }
 
-/// Under posts an idle turn is the idle turn without interrupts: it takes two steps and ends in its
-/// state, but for free bytes and the mailbox, where the sample waits that was posted last.
+/// Under posts an idle turn is the idle turn without interrupts: it takes two steps and ends in its state, except
+/// for free bytes and the mailbox, which holds the sample that was posted last.
 pub fn idle_turns_follow()
     ensures { IdleTurnsFollow }
 {
     posting_laws();
 }
 
-/// The run under good posts is that of its turns, each from where the one before ended without
-/// interrupts, and behind the copy its states simulate theirs.
+/// The run under good posts is that of its turns, each starting where the one before ended without interrupts, and
+/// after the copy its states simulate theirs.
 pub fn runs_are_turns()
     ensures { RunsAreTurns }
 {
     turn_laws();
 }
 
-/// The mailbox firmware of a block answers under all good posts by its turns, which are as long as
-/// without posts and whose states behind the copy its own simulate.
+/// The mailbox firmware of a block answers under all good posts by its turns, which are as long as without posts
+/// and whose states after the copy are simulated by its own.
 pub fn posts_are_answered()
     ensures { AnswersUnderAllPosts }
 {

@@ -37,24 +37,23 @@ pub struct Answer {
     pub bytes: ArrayVec<u8, 8>,
     /// The answers: bytes, or words where the firmware's answers are wide.
     pub answers: ArrayVec<u16, 4>,
-    /// How many instructions the turn took: steps that were plain, or the last part of REV, REVW or
+    /// How many instructions the turn took: steps that were plain instructions, or the last part of REV, REVW or
     /// WAV.
     pub instrs: u32,
 }
 
-/// What a run under posts gave.
+/// The results of a run under posts.
 #[derive(Drop)]
 pub struct PostRun {
     /// In the order of the turns.
     pub answers: Vec<Answer>,
     /// What each interrupt pushed, with its boundary.
     pub frames: Vec<(u32, Frame)>,
-    /// At how many boundaries an interrupt was taken while REV, REVW or WAV had done a part and not
-    /// ended.
+    /// At how many boundaries an interrupt was taken after a part of REV, REVW or WAV that was not its last.
     pub resumed: u32,
 }
 
-/// What a run gave that ends here.
+/// The results of a run that ends here.
 fn run_of(answers: Vec<Answer>, t: Counts<Notes<()>>) -> PostRun
     ensures { result ≡ record { answers = answers; frames = t.notes.frames; resumed = t.resumed } }
 {
@@ -84,9 +83,9 @@ fn last_boundary(firmware: &Firmware) -> u32
     (turns + u64::from(LAST_MOMENT)).min(u64::from(LAST_BOUNDARY)) as u32
 }
 
-/// Runs the mailbox form of a firmware under posts of these samples. Bits of `flags` give the flags that
-/// the CPU12 Reference Manual leaves undefined. All memory is taken before the first step: room for one
-/// answer and one frame for each post.
+/// Runs the mailbox form of a firmware under posts of these samples. Bits of `flags` supply the flags that the
+/// CPU12 Reference Manual leaves undefined. All memory is allocated before the first step: room for one answer and
+/// one frame for each post.
 pub fn run_posts(
     alloc: Global,
     firmware: &Firmware,

@@ -11,7 +11,7 @@ use cpu12_isa::mem::Mem;
 use interrupt_plan::Post;
 use run_forms::{Notes, SampleState, run_sample};
 
-/// Goes on until the code waits again, or up to boundary `last`. Answers whether it waits.
+/// Continues until the code waits again, or up to boundary `last`. Returns whether it waits.
 pub(crate) fn turn<M: Mem>(
     m: &mut Machine<M>,
     form: &MailboxForm,

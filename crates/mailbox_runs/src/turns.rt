@@ -1,4 +1,4 @@
-//! Turn after turn.
+//! Runs as sequences of turns.
 ghost use Rattle.std.specs.Prelude.{ℕ, ◌≡◌, ◌≤◌, ◌<◌, ◌+◌, ◌-◌, ◌*◌, ◌^◌, ◌==◌, ◌&&◌, ◌++◌, [], ◌∷◌, true, false, min};
 ghost use Rattle.std.specs.Prelude.{if◌then◌else◌, suc, All, length, map, drop, slice_index, vec_len, vec_capacity};
 ghost use Rattle.run_law.specs.{Forms.takes, Forms.is_empty, Following.asked};
@@ -24,10 +24,10 @@ use interrupt_plan::Post;
 use run_forms::{Counts, Notes, SampleState, take_due};
 use trace_io::Sample;
 
-/// The most turns: each takes a step at least.
+/// The most turns: each takes at least one step.
 const MOST_TURNS: u32 = 1_000_003;
 
-/// The sample that these posts put last, or the one before where they put none.
+/// The sample that these posts put last, or `before` if they put none.
 fn posted_last(before: u32, posts: &[Post]) -> u32
     ensures { result ≡ waiting before posts.now }
 {
@@ -64,7 +64,7 @@ fn values_in<M: Mem>(firmware: &Firmware, m: &Machine<M>) -> ArrayVec<u16, 4>
     answers(firmware, m)
 }
 
-/// The answer of a turn that ends here, of this sample.
+/// The answer of a turn that ends here, to this sample.
 fn answer_of<M: Mem>(
     m: &Machine<M>,
     firmware: &Firmware,
@@ -92,9 +92,8 @@ fn answer_of<M: Mem>(
     }
 }
 
-/// Where a turn ends in which these posts were taken: puts its answer, if a sample waited when it
-/// began. That is of the sample that was posted last before the copy. Answers which sample waits next,
-/// 0 for none.
+/// The end of a turn in which these posts were taken: appends its answer, if a sample waited when it began. The
+/// answer is to the sample that was posted last before the copy. Returns which sample waits next, or 0 for none.
 fn end_turn<M: Mem>(
     m: &Machine<M>,
     firmware: &Firmware,
@@ -129,8 +128,8 @@ fn end_turn<M: Mem>(
     posted_last(0, &taken[early..])
 }
 
-/// Begins a turn: takes what is due where the code waits. Answers which sample waits then, where this
-/// one did before.
+/// Begins a turn: takes the posts that are due where the code waits. Returns which sample waits then, where
+/// `waits` did before.
 fn look<M: Mem>(
     m: &mut Machine<M>,
     form: &MailboxForm,
@@ -187,7 +186,7 @@ fn is_over<M: Mem>(
     }
 }
 
-/// Goes on by a turn, unless the run is over. Answers whether the code waits again.
+/// Runs the next turn, unless the run is over. Returns whether the code waits again.
 fn next_turn<M: Mem>(
     m: &mut Machine<M>,
     firmware: &Firmware,
@@ -253,7 +252,7 @@ fn next_turn<M: Mem>(
     true
 }
 
-/// Goes on to the run's end.
+/// Continues to the run's end.
 pub(crate) fn run_turns<M: Mem>(
     m: &mut Machine<M>,
     firmware: &Firmware,

@@ -1,8 +1,7 @@
-//! The tables of the input terms, from which the machine takes grades, and what a block answers
-//! over bytes.
+//! The tables of the input terms, from which the machine computes grades, and what a block answers over bytes.
 //!
-//! A term's table is four bytes: the first and the last byte of its support, and the slopes of its
-//! two sides. Each call gives exactly the value of its definition; `table` alone takes memory.
+//! A term's table is four bytes: the first and the last byte of its support, and the slopes of its two sides. Each
+//! call returns exactly the value of its definition; only `table` allocates memory.
 #![tactic(auto)]
 
 mod grades;

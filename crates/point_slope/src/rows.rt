@@ -9,8 +9,7 @@ use fuzzy_meaning::{Block, Input, Trapezoid};
 use fz_list::Memory;
 use std::alloc::Global;
 
-/// The slope of a side that is w bytes wide: 255/w to the nearest, a tie going up, and 0 for a
-/// vertical side.
+/// The slope of a side that is w bytes wide: 255/w to the nearest, a tie rounding up, and 0 for a vertical side.
 pub fn slope(w: u8) -> u8
     ensures { result ≡ slope_of w }
 {

@@ -12,8 +12,8 @@ pub enum Slot {
     Out(u8, u8),
 }
 
-/// A rule without OR and NOT, by the numbers of its slots, which count from 0. Its condition is
-/// as true as the least of its literals.
+/// A rule without OR and NOT, by the numbers of its slots, which count from 0. The truth of its condition is the
+/// least of its literals.
 #[derive(Drop)]
 pub struct Conjunction {
     pub literals: List<u16>,
@@ -34,7 +34,7 @@ pub enum Form {
 pub struct Flat {
     /// The input terms, the complements that some rule uses and the output terms.
     pub slots: List<Slot>,
-    /// Those of each rule, in the rules' order.
+    /// The conjunctions of each rule, in the rules' order.
     pub conjunctions: List<Conjunction>,
     /// A byte for each conjunction, 255 for a weight of 1.
     pub weights: List<u8>,
@@ -44,10 +44,10 @@ pub struct Flat {
 /// Why rules cannot be laid out.
 #[derive(Clone, Copy, PartialEq, Eq, Debug)]
 pub enum LayoutFault {
-    /// The first rule, from 1, with which there are more than 512 conjunctions.
+    /// More than 512 conjunctions: the first rule, from 1, that exceeds this number.
     TooManyRules(u16),
     /// The list has this number of bytes, which is above 9984.
     ListTooLong(u32),
-    /// Memory was wanted and not found.
+    /// Out of memory.
     Memory,
 }

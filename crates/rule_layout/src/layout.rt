@@ -23,7 +23,7 @@ use std::alloc::{AllocError, Global};
 /// The most bytes of a rule list.
 const MOST_LIST_BYTES: u32 = 9984;
 
-/// The most slots that bytes can number beside the marks `$FE` and `$FF`.
+/// The most slots that bytes can number in addition to the marks `$FE` and `$FF`.
 const MOST_BYTE_SLOTS: usize = 254;
 
 impl From<AllocError> for LayoutFault {
@@ -34,9 +34,8 @@ impl From<AllocError> for LayoutFault {
     }
 }
 
-/// A block's rules laid out. The number of conjunctions and the length of the list are found
-/// before anything is spread, and so are `TooManyRules` and, where that does not come,
-/// `ListTooLong`.
+/// A block's rules laid out. The number of conjunctions and the length of the list are computed before anything is
+/// spread, and so are `TooManyRules` and, if that does not apply, `ListTooLong`.
 pub fn spread(alloc: Global, block: &Block) -> Result<Flat, LayoutFault>
     requires { IsValid block.now }
     ensures value { IfOk result (λ f. f ≡ flat_of block.now) }
@@ -85,7 +84,7 @@ fn size_of_rules(rules: &[Rule]) -> Result<Size, LayoutFault>
     Ok(total)
 }
 
-/// The same of one rule: each conjunction has the rule's conclusions and two marks.
+/// The same for one rule: each conjunction has the rule's conclusions and two marks.
 fn size_of_rule(rule: &Rule) -> Option<Size>
     requires { IsCountable rule.now }
     ensures { IsSizeOfRule rule.now result }
@@ -174,7 +173,7 @@ fn conclusions_of(
     Ok(all)
 }
 
-/// Puts conjunctions of one rule behind those before.
+/// Appends conjunctions of one rule to those before.
 fn push_conjunctions(
     alloc: Global,
     all: &mut Vec<Conjunction>,
@@ -194,7 +193,7 @@ fn push_conjunctions(
     Ok(())
 }
 
-/// Puts a byte behind the others a number of times.
+/// Appends a byte a number of times.
 fn push_times(bytes: &mut Vec<u8>, byte: u8, times: usize) -> Result<(), AllocError>
     ensures { OnOk result (bytes.new.items ≡ bytes.old.items ++ replicate times byte) }
 {

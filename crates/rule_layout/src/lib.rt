@@ -1,13 +1,12 @@
 //! The rules of a block laid out for the fuzzy instructions REV and REVW (CPU12 Reference Manual).
 //!
-//! [`spread`] turns each rule into conjunctions, which have neither OR nor NOT, and numbers the
-//! bytes that they read and write, the slots. [`Flat`] holds the result, and [`Flat::bytes`] and
-//! [`Flat::words`] give it as the list that REV or REVW evaluates.
+//! [`spread`] turns each rule into conjunctions, which have neither OR nor NOT, and numbers the bytes that they
+//! read and write, the slots. [`Flat`] holds the result, and [`Flat::bytes`] and [`Flat::words`] return it as the
+//! list that REV or REVW evaluates.
 //!
-//! `spread` answers exactly the layout of its definition, or refuses exactly where the
-//! conjunctions are more than 512 or else the list would have more than 9984 bytes. Spreading
-//! keeps the truth of each condition ([`laws::spreading_law`]), and so the list leaves each output term
-//! its byte mass ([`laws::mass_law`]).
+//! `spread` returns exactly the layout of its definition, or refuses exactly where there are more than 512
+//! conjunctions or else the list would have more than 9984 bytes. Spreading keeps the truth of each condition
+//! ([`laws::spreading_law`]), and so the list leaves each output term its byte mass ([`laws::mass_law`]).
 #![tactic(auto)]
 
 mod flat;

@@ -6,7 +6,7 @@ ghost use Rattle.rule_layout.specs.{Layouts.IsLaidOut, Layouts.IsBelow, declared
 use crate::flat::{Conjunction, Flat};
 use std::alloc::{AllocError, Global};
 
-/// Where the slots of the firmware stand.
+/// Where the slots of the firmware are.
 const SLOTS: u16 = 0x1100;
 
 impl Flat {
@@ -68,7 +68,7 @@ fn marked(
     Ok(list)
 }
 
-/// Puts slots behind a list, counted from a base.
+/// Appends slots to a list, counted from a base.
 fn push_from(list: &mut Vec<u16>, numbers: &[u16], base: u16) -> Result<(), AllocError>
     requires numbers { All (λ n. n < 300) numbers.now }
     requires room { base < 0xFE00 }

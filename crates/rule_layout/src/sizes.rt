@@ -1,4 +1,4 @@
-//! How much conditions spread into, found without spreading them.
+//! How much conditions spread into, computed without spreading them.
 ghost use Rattle.std.specs.Prelude.{ℕ, ◌+◌, ◌*◌, ◌<◌, ◌≤◌, ◌^◌, map, MatchOption};
 ghost use Rattle.fuzzy_meaning.specs.Conditions.{conditions, nodes, total_nodes};
 ghost use Rattle.rule_layout.specs.{Spreading.spread_of, Spreading.spread_parts, Sizes.IsSizeOf};
@@ -36,7 +36,7 @@ impl Size {
         entries: 1,
     };
 
-    /// The conjunctions of both, where they are few enough.
+    /// The conjunctions of both, if they are few enough.
     pub fn plus(self, other: Size) -> Option<Size>
         requires self_small { IsSmall self }
         requires other_small { IsSmall other }
@@ -52,7 +52,7 @@ impl Size {
         })
     }
 
-    /// Each conjunction followed by each of the other's, where they are few enough.
+    /// Each conjunction followed by each of the other's, if they are few enough.
     fn times(self, other: Size) -> Option<Size>
         requires self_small { IsSmall self }
         requires other_small { IsSmall other }
@@ -68,7 +68,7 @@ impl Size {
         })
     }
 
-    /// The conjunctions of an OR, `any`, or of an AND of both, where they are few enough.
+    /// The conjunctions of an OR, `any`, or else of an AND, of both, if they are few enough.
     fn joined(self, other: Size, any: bool) -> Option<Size>
         requires self_small { IsSmall self }
         requires other_small { IsSmall other }
@@ -82,8 +82,8 @@ impl Size {
     }
 }
 
-/// What a condition spreads into, or None where that is more than 512 conjunctions. `odd` says
-/// that it stands under an odd number of NOTs, where an AND is an OR and an OR an AND.
+/// What a condition spreads into, or `None` if that is more than 512 conjunctions. `odd` is set under an odd
+/// number of NOTs, where an AND is an OR and an OR an AND.
 #[cycle(size)]
 pub fn size_of(condition: &Condition, odd: bool) -> Option<Size>
     requires fits { FitsGrid condition.now }
@@ -98,7 +98,7 @@ pub fn size_of(condition: &Condition, odd: bool) -> Option<Size>
     }
 }
 
-/// The same of the parts of an OR, `any`, or of an AND.
+/// The same for the parts of an OR, `any`, or else of an AND.
 #[cycle(size)]
 fn size_of_parts(parts: &[Condition], odd: bool, any: bool) -> Option<Size>
     requires fits { AllFitGrid (conditions parts.now) }

@@ -15,11 +15,11 @@ use std::alloc::{AllocError, Global};
 /// The most terms of a variable.
 const MOST_TERMS: usize = 15;
 
-/// The most slots: for 8 inputs terms and complements, and for 4 outputs terms.
+/// The most slots: terms and complements of 8 inputs, and terms of 4 outputs.
 const MOST_SLOTS: usize = 20 * MOST_TERMS;
 
-/// A slot's place in a table with a row for each input's terms, then one for each input's
-/// complements, then one for each output.
+/// A slot's place in a table with a row for each input's terms, then one for each input's complements, then one
+/// for each output.
 fn place(slot: Slot) -> usize
     requires { IsInTable slot }
     ensures value { result ≡ place_of slot }
@@ -82,7 +82,7 @@ impl Complements {
         complements
     }
 
-    /// Adds those of a condition; `odd` says that it stands under an odd number of NOTs.
+    /// Adds those of a condition; `odd` is set under an odd number of NOTs.
     fn add(&mut self, condition: &Condition, odd: bool)
         requires { FitsGrid condition.now }
         ensures { AreAdded odd condition.now self.old.table self.new.table }
@@ -110,7 +110,7 @@ impl Complements {
     }
 }
 
-/// Puts a variable's terms behind the terms of the variables before it.
+/// Appends a variable's terms to the terms of the variables before it.
 fn push_terms(terms: &mut Vec<(u8, u8)>, variable: u8, count: usize) -> Result<(), AllocError>
     requires { count ≤ 15 }
     ensures { OnOk result

@@ -10,9 +10,8 @@ use fuzzy_meaning::{Condition, Node};
 use fz_list::List;
 use std::alloc::{AllocError, Global};
 
-/// The conjunctions that a condition spreads into, by the numbers of their literals' slots.
-/// `odd` says that the condition stands under an odd number of NOTs, where an AND is an OR and an
-/// OR an AND.
+/// The conjunctions that a condition spreads into, by the numbers of their literals' slots. `odd` is set under an
+/// odd number of NOTs, where an AND is an OR and an OR an AND.
 #[cycle(spread)]
 pub fn conjunctions(
     alloc: Global,
@@ -40,7 +39,7 @@ pub fn conjunctions(
     }
 }
 
-/// The same of the parts of an OR, `any`, or of an AND.
+/// The same for the parts of an OR, `any`, or else of an AND.
 #[cycle(spread)]
 fn conjunctions_of_parts(
     alloc: Global,
@@ -61,7 +60,7 @@ fn conjunctions_of_parts(
     Ok(all)
 }
 
-/// An OR of nothing, `any`, has no conjunction, and an AND of nothing the empty one.
+/// An empty OR, `any`, has no conjunction, and an empty AND has the empty one.
 fn of_no_parts(alloc: Global, any: bool) -> Result<Vec<List<u16>>, AllocError>
     ensures { IfOk result (λ v. v.items ≡ spreads.none any) }
 {
@@ -72,7 +71,7 @@ fn of_no_parts(alloc: Global, any: bool) -> Result<Vec<List<u16>>, AllocError>
     }
 }
 
-/// The conjunctions of an OR, `any`, or of an AND of two conditions with these.
+/// The conjunctions of an OR, `any`, or else of an AND, of two conditions with these.
 fn joined(
     alloc: Global,
     mut front: Vec<List<u16>>,
@@ -97,8 +96,8 @@ fn single(alloc: Global, literals: List<u16>) -> Result<Vec<List<u16>>, AllocErr
     Ok(all)
 }
 
-/// Each head followed by each tail. One tail goes behind the heads in place, so that an AND of
-/// many literals takes no copies.
+/// Each head followed by each tail. A single tail is appended to the heads in place, so that an AND of many
+/// literals needs no copies.
 fn extended(
     alloc: Global,
     heads: Vec<List<u16>>,
@@ -133,7 +132,7 @@ fn followed(
     Ok(all)
 }
 
-/// Puts the head followed by each tail behind the rest.
+/// Appends the head followed by each tail to the rest.
 fn push_choices(
     alloc: Global,
     all: &mut Vec<List<u16>>,

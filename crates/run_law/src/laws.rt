@@ -17,8 +17,8 @@ use cpu12_parts::laws::{
     revw_steady, wav_fits, wav_is_whole, wav_stays, wav_steady, wav_suspends,
 };
 
-/// A form of firmware with its handler, and what it owes so that its runs under interrupts follow
-/// those without. It has ghost members alone: an implementation is the proof that they are sound.
+/// A form of firmware with its handler, and what it has to prove so that its runs under interrupts follow those
+/// without. It has only ghost members: an implementation is the proof that they are sound.
 pub trait SoundForm {
     /// What the form depends on, such as the memory map of a firmware.
     ghost Setting: { Type 0 };
@@ -26,16 +26,16 @@ pub trait SoundForm {
     /// What it is given.
     ghost Sample: { Type 0 };
 
-    /// What asks for an interrupt.
+    /// What requests an interrupt.
     ghost Request: { Type 0 };
 
-    /// What a handler tells of its interrupt.
+    /// What a handler reports of its interrupt.
     ghost Told: { Type 0 };
 
     /// How it is given samples, ends, answers and serves requests.
     ghost form: { Setting → Form Sample Request Told };
 
-    /// How sums that its interrupts pushed may be marked: as on the stack alone, unless its handler runs WAV.
+    /// How sums that its interrupts pushed may be marked: as on the stack only, unless its handler runs WAV.
     ghost marks: { Marks };
 
     /// The bytes that are open to the handler.
@@ -47,16 +47,16 @@ pub trait SoundForm {
     /// Which requests are good.
     ghost good: { Setting → Request → Type 0 };
 
-    /// What stands in the open bytes after requests.
+    /// What the open bytes hold after requests.
     ghost own: { Setting → List (Request × Told) → State → Type 0 };
 
-    /// The form is sound. Its proof may use that the same writes keep memories agreed, and that listed
-    /// writes are quiet.
+    /// The form is sound. Its proof may use that memories that agree still do after the same writes, and that
+    /// listed writes are quiet.
     ghost sound: { (x : Setting) → WritesAgree → WritesAreQuiet
         → Sound marks (open_to x) (form x) (holds x) (good x) (own x) };
 }
 
-/// What is known of a step beside hidden bytes, of what an interrupt pushes and of what is hidden then.
+/// What is known of a step apart from hidden bytes, of what an interrupt pushes and of what is hidden then.
 fn machine_laws()
     ensures { MachineLaws }
 {
@@ -66,15 +66,15 @@ fn machine_laws()
     wav_suspends();
 }
 
-/// In each state that simulates one in which an interrupt has room a handler begins.
+/// In each state that simulates one in which there is room for an interrupt, a handler begins.
 pub fn handlers_begin()
     ensures { HandlersBegin }
 {
     machine_laws();
 }
 
-/// The run of one sample, from any boundary on, follows the run without interrupts, and each handler tells
-/// of a state in which it began where the run without interrupts is at that boundary.
+/// The run of one sample, from any boundary on, follows the run without interrupts, and each handler reports on a
+/// state in which it began while the run without interrupts is at that boundary.
 pub fn run_follows<F: SoundForm>()
     ensures { (x : F.Setting) → RunFollows F.marks (F.open_to x) (F.form x) (F.holds x) (F.good x) (F.own x) }
 {
@@ -83,11 +83,10 @@ pub fn run_follows<F: SoundForm>()
     writes_are_quiet();
 }
 
-/// The runs of a list of samples, each of which leaves what stands in the open bytes, follow the runs
-/// without interrupts: the same number of steps and of instructions, the same answers, the frames and
-/// resumed boundaries that are read off the states without interrupts, a state that simulates at every
-/// boundary, handlers that tell of states in which they began there, and the same last memory but for the
-/// bytes that interrupts may change.
+/// The runs of a list of samples, each of which leaves the contents of the open bytes, follow the runs without
+/// interrupts: the same number of steps and of instructions, the same answers, the frames and resumed boundaries
+/// that are read off the states without interrupts, a state that simulates at every boundary, handlers that report
+/// on states in which they began there, and the same last memory except for the bytes that interrupts may change.
 pub fn runs_follow<F: SoundForm>()
     ensures { (x : F.Setting) → RunsFollow F.marks (F.open_to x) (F.form x) (F.holds x) (F.good x) (F.own x) }
 {
@@ -96,17 +95,17 @@ pub fn runs_follow<F: SoundForm>()
     writes_are_quiet();
 }
 
-/// A request is taken at the least boundary from its moment on at which I is 0 without interrupts.
+/// A request is taken at the least boundary, from its moment on, at which I is 0 in the run without interrupts.
 pub fn taken_at_first_open()
     ensures { TakenAtFirstOpen }
 {}
 
-/// Where I is 0 throughout without interrupts, a request is taken at its moment.
+/// If I is 0 throughout the run without interrupts, a request is taken at its moment.
 pub fn taken_at_once()
     ensures { TakenAtOnce }
 {}
 
-/// Registers with SP below sums that are pushed fit, and SP is no more than six lower.
+/// Registers with SP below pushed sums fit, and SP is at most six lower.
 pub fn sums_fit_below()
     ensures { SumsFitBelow }
 {}
@@ -118,8 +117,8 @@ pub fn writes_are_quiet()
     takes_quietly();
 }
 
-/// What whole instructions are as steps: a plain one is one step, and so is each part of REV, REVW and WAV, which fit,
-/// stay where they are and are in all the whole instruction.
+/// What whole instructions are as steps: a plain one is one step, and so is each part of REV, REVW and WAV; the
+/// parts fit, PC stays at the instruction between them, and together they are the whole instruction.
 pub fn step_laws()
     ensures { StepLaws }
 {

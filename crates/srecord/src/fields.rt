@@ -16,24 +16,24 @@ pub(crate) enum Kind {
     Header,
     /// S1: bytes, the first of them at its address.
     Bytes,
-    /// S5: how many S1 records stand before it, as its address.
+    /// S5: the number of S1 records before it, as its address.
     Count,
     /// S9: the start, as its address.
     Start,
 }
 
-/// The fields of a record behind its kind.
+/// The fields of a record after its kind.
 #[derive(Drop)]
 pub(crate) struct Fields<'a> {
     pub(crate) address: u16,
     pub(crate) payload: &'a [u8],
-    /// The checksum that stands there.
+    /// The checksum in the text.
     sum: u8,
     /// The right checksum.
     want: u8,
 }
 
-/// The digit behind a line's letter, and the digits behind that.
+/// The digit after a line's letter, and the digits after that.
 fn parts_of(line: &[u8]) -> Option<(u8, &[u8])>
     ensures { MatchOption result (parts_of line.now ≡ None) (λ r. parts_of line.now ≡ Some (r.0, r.1.now)) }
 {
@@ -62,7 +62,7 @@ fn kind_of(digit: u8) -> Option<Kind>
     }
 }
 
-/// The fault of line number `number`, whose digits spell no bytes.
+/// The fault of line `number`, whose digits spell no bytes.
 fn refusal(error: FromHexError, number: u32) -> SrecFault
     ensures memory { error ≡ FromHexError.OutOfMemory → result ≡ SrecFault.Memory }
     ensures bad { result ≢ SrecFault.Memory → result ≡ SrecFault.BadLine number }
@@ -106,7 +106,7 @@ fn fits(kind: Kind, address: u16, payload: &[u8]) -> bool
     }
 }
 
-/// The fields of bytes, if the first counts those behind it.
+/// The fields of bytes, if the first is the number of those after it.
 fn split(bytes: &[u8]) -> Option<Fields<'_>>
     ensures { MatchOption result
         ((at : ℕ) (payload : List ℕ) (sum : ℕ) → bytes.now ≢ body_of at payload ++ sum ∷ [])

@@ -13,17 +13,17 @@ pub fn faults_are_one()
     ensures { FaultsAreOne }
 {}
 
-/// An image has at most 32768 records of bytes, so their count always fits its record.
+/// An image has at most 32768 records of bytes, so their number always fits into its record.
 pub fn images_have_few_records()
     ensures { ImagesHaveFewRecords }
 {}
 
-/// A text gives an image, or it has a fault.
+/// Each text gives an image or has a fault.
 pub fn each_text_is_judged()
     ensures { EachTextIsJudged }
 {}
 
-/// An image has one text of records at most.
+/// An image has at most one text of records.
 pub fn image_texts_are_one()
     ensures { ImageTextsAreOne }
 {}

@@ -38,7 +38,7 @@ fn piece_len(bytes: &[(u16, u8)]) -> usize
     len
 }
 
-/// Appends the record of neighbouring bytes.
+/// Appends the record of adjacent bytes.
 fn put_piece(alloc: Global, text: &mut Vec<u8>, bytes: &[(u16, u8)]) -> Result<(), AllocError>
     requires some { 0 < length bytes.now }
     requires few { length bytes.now ≤ MOST_BYTES }
@@ -53,7 +53,7 @@ fn put_piece(alloc: Global, text: &mut Vec<u8>, bytes: &[(u16, u8)]) -> Result<(
     put_record(alloc, text, b'1', bytes[0].0, piece.as_slice())
 }
 
-/// Appends the records of bytes, and answers how many there are.
+/// Appends the records of bytes, and returns their number.
 pub(crate) fn put_pieces(
     alloc: Global,
     text: &mut Vec<u8>,

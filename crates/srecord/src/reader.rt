@@ -14,7 +14,7 @@ use std::alloc::Global;
 #[derive(Drop)]
 struct Reader {
     bytes: ByteMap,
-    /// How many records of bytes there are.
+    /// The number of records of bytes.
     records: u32,
     start: Option<u16>,
 }
@@ -23,7 +23,7 @@ impl Reader {
     ghost use Rattle.srecord.specs.Texts.{Give, Given, LineFails, MayFollow, RecordFails, given_with};
     ghost use Rattle.srecord.specs.Reading.{Has};
 
-    /// Takes what a record gives.
+    /// Adds what a record gives.
     fn take_record(&mut self, kind: Kind, fields: &Fields<'_>, number: u32) -> Result<(), SrecFault>
         requires room { kind ≡ Kind.Bytes → fields.now.address + length fields.now.payload.now ≤ 65536 }
         requires few { self.old.records < number }
@@ -54,7 +54,7 @@ impl Reader {
         Ok(())
     }
 
-    /// Takes what a line gives.
+    /// Adds what a line gives.
     fn take_line(&mut self, alloc: Global, line: &[u8], number: u32) -> Result<(), SrecFault>
         requires few { self.old.records < number }
         ensures few { OnOk result (self.new.records ≤ number) }
@@ -72,7 +72,7 @@ impl Reader {
     }
 }
 
-/// Puts bytes one after another from an address, and answers whether none of them was taken.
+/// Puts bytes one after another from an address on, and returns whether all of their addresses were free.
 fn put_bytes(bytes: &mut ByteMap, address: u16, payload: &[u8]) -> Result<bool, SrecFault>
     requires { address + length payload.now ≤ 65536 }
     ensures put { result ≡ Ok true
@@ -95,8 +95,8 @@ fn put_bytes(bytes: &mut ByteMap, address: u16, payload: &[u8]) -> Result<bool, 
 
 /// The image of a text of records, or the text's first fault. Its start is the S9 record's address.
 ///
-/// Digits and the letter S have either case; lines end with LF or CR LF, the last perhaps with
-/// neither. S0 and S5 records may stand anywhere before the S9 record, or be left out.
+/// Digits and the letter S may have either case; lines end with LF or CR LF, which the last may lack. S0 and S5
+/// records may be anywhere before the S9 record, or be left out.
 pub fn read(alloc: Global, text: &[u8]) -> Result<Image, SrecFault>
     requires { length text.now ≤ 1048576 }
     ensures image { IfOk result (GivesImage text.now) }

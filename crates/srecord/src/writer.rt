@@ -21,8 +21,7 @@ fn text_of(alloc: Global, bytes: &[(u16, u8)], start: u16) -> Result<Vec<u8>, Al
     Ok(text)
 }
 
-/// The records of an image, with upper case digits, each ended by LF. Read again they give the
-/// same image.
+/// The records of an image, with upper-case digits, each ended by LF. They read back as the same image.
 pub fn write(alloc: Global, image: &Image) -> Result<Vec<u8>, AllocError>
     ensures records { IfOk result (λ text. ImageText image.now.bytes image.now.start text.items) }
     ensures image { IfOk result (λ text. GivesImage text.items image.now) }

@@ -8,7 +8,7 @@ pub fn spelled_traces_have_no_fault()
     fz_rows::laws::first_rows_are_one();
 }
 
-/// A text has one first fault.
+/// A text has only one first fault.
 pub fn first_faults_are_one()
     ensures { FirstFaultsAreOne }
 {

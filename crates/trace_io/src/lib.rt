@@ -1,8 +1,8 @@
 //! Traces: the samples that a run answers, read from text.
 //!
-//! A trace is comma-separated text with one row per sample and one decimal per input. A
-//! [`Sample`] has its values and the byte of each in its input's range. [`read_trace`] answers
-//! exactly the samples that the first rows spell, or the fault of the first row that fails.
+//! A trace is comma-separated text with one row per sample and one decimal per input. A [`Sample`] has its values
+//! and the byte of each in its input's range. [`read_trace`] returns exactly the samples that the first rows
+//! spell, or the fault of the first row that fails.
 #![tactic(auto)]
 
 pub mod laws;

@@ -20,13 +20,13 @@ pub enum TraceFault {
     /// There is a row 10001.
     #[error("too many rows")]
     TooMany,
-    /// That row has not one decimal per input.
+    /// That row does not have exactly one decimal per input.
     #[error("row {0}: bad row")]
     BadRow(u32),
-    /// In that row, the value of that input is the first that is outside its range.
+    /// In that row, the value of that input is the first that is out of range.
     #[error("row {0}: input {1} out of range")]
     OutOfRange(u32, u8),
-    /// Memory was wanted and not found.
+    /// Out of memory.
     #[error("no memory")]
     Memory,
 }

@@ -20,7 +20,7 @@ use std::alloc::{AllocError, Global};
 /// The most samples of a trace.
 const MOST_SAMPLES: usize = 10000;
 
-/// The decimals of a row's fields, or `None` where a field is no decimal.
+/// The decimals of a row's fields, or `None` if a field is no decimal.
 fn decimals_of(alloc: Global, row: &ByteRecord) -> Result<Option<Vec<Dec>>, AllocError>
     ensures { IfOk result (λ values. MatchOption values (decimals (fields_of row.now) ≡ None)
         (λ v. decimals (fields_of row.now) ≡ Some v.items)) }
@@ -38,8 +38,7 @@ fn decimals_of(alloc: Global, row: &ByteRecord) -> Result<Option<Vec<Dec>>, Allo
     Ok(Some(values))
 }
 
-/// The bytes of values in their inputs' ranges, or the number of the first input whose value is
-/// outside.
+/// The bytes of values in their inputs' ranges, or the number of the first input whose value is out of range.
 fn bytes_in(inputs: &[Input], values: &[Dec]) -> Result<ArrayVec<u8, 8>, u8>
     requires valid { All IsValidInput inputs.now }
     requires few { length inputs.now ≤ 8 }
@@ -118,9 +117,9 @@ fn samples_in(
     Ok(samples)
 }
 
-/// The samples that a text spells: comma-separated values without a header row, one row per
-/// sample and one decimal per input. What `csv` does by default holds: empty lines are no rows,
-/// fields may be quoted, and a byte order mark at the start is skipped.
+/// The samples that a text spells: comma-separated values without a header row, one row per sample and one decimal
+/// per input. The defaults of `csv` apply: empty lines are no rows, fields may be quoted, and a byte order mark at
+/// the start is skipped.
 pub fn read_trace(alloc: Global, text: &[u8], block: &Block) -> Result<Vec<Sample>, TraceFault>
     requires small { length text.now ≤ 1048576 }
     requires valid { IsValid block.now }

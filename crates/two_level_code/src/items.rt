@@ -13,12 +13,12 @@ use fuzzy_meaning::Block;
 use rule_layout::Flat;
 use std::alloc::{AllocError, Global};
 
-/// How far below the ROM of a firmware that stands alone the fast block has its own, and how far above its RAM.
+/// How far the fast block's ROM is below that of a firmware that stands alone, and how far its RAM is above.
 const LOWERED: u16 = 0x8000;
 
 const RAISED: u16 = 0x0400;
 
-/// Where the fast block stands. Its code begins with the instruction of two bytes that lets interrupts in.
+/// The memory map of the fast block. Its code begins with the two-byte instruction that enables interrupts.
 pub fn fast_map() -> MemoryMap
     ensures { result ≡ fast_map }
 {

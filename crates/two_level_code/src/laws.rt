@@ -11,8 +11,8 @@ use cpu12_emul::laws::holds_image;
 use cpu12_isa::laws::{decodes_encoded, stays_fit, writes_stay};
 use eval_code::laws::{blocks_are_placed, eval_answers, placed_items_stand};
 
-/// Wherever an interrupt enters the fast code it leads to its return with its block's answers, within its
-/// bounds, touches what is the fast block's alone, and leaves X.
+/// Wherever an interrupt enters the fast code, it reaches its return with its block's answers, within its bounds,
+/// accesses only what is the fast block's, and leaves X unchanged.
 pub fn fast_answers_entered()
     ensures { FastAnswersEntered }
 {
@@ -23,8 +23,8 @@ pub fn fast_answers_entered()
     writes_stay();
 }
 
-/// The slow firmware answers as it does alone, beside interrupts that may change all that is the fast
-/// block's, and the free bytes; and an interrupt enters the fast code, which lets interrupts in at once.
+/// The slow firmware answers as it does alone, under interrupts that may change all that is the fast block's, and
+/// the free bytes; and an interrupt enters the fast code, which enables interrupts at once.
 pub fn two_stand_beside()
     ensures { TwoStandBeside }
 {
@@ -50,7 +50,7 @@ pub fn blocks_have_twos()
     blocks_have_firmware();
 }
 
-/// Two blocks have one firmware at two levels.
+/// Two blocks have only one firmware at two levels.
 pub fn twos_are_one()
     ensures { TwosAreOne }
 {

@@ -19,7 +19,7 @@ use thiserror::Error;
 /// A slow block with a fast one that runs inside its interrupts.
 #[derive(Drop)]
 pub struct Two {
-    /// The bytes of both, and where the slow one starts.
+    /// The bytes of both, and the start of the slow one.
     pub image: Image,
     /// The slow block's firmware, as it stands alone.
     pub slow: Firmware,
@@ -27,8 +27,8 @@ pub struct Two {
     pub fast: Firmware,
 }
 
-/// Why two blocks are refused: for the slow one's rules, or else for the fast one's, or for want of memory,
-/// which says nothing of either.
+/// Why two blocks are refused: for the slow one's rules, or else for the fast one's, or for lack of memory, which
+/// implies nothing about either.
 #[derive(Clone, Copy, PartialEq, Eq, Debug, Error)]
 pub enum TwoFault {
     /// The slow block's rules can't be laid out. It is never `LayoutFault::Memory`.
@@ -37,20 +37,21 @@ pub enum TwoFault {
     /// The fast block's rules can't be laid out. It is never `LayoutFault::Memory`.
     #[error("the fast block's rules can't be laid out")]
     Fast(LayoutFault),
-    /// There was no memory for the firmware.
+    /// Out of memory for the firmware.
     #[error("no memory")]
     Memory,
 }
 
 impl Two {
-    /// The most instructions that the fast code takes, its return counted, REV, REVW and WAV as one each.
+    /// The most instructions that the fast code takes, including its return, with REV, REVW and WAV counting as
+    /// one each.
     pub fn fast_bound(&self) -> u32
         ensures { result ≡ fast_most self.now.fast.instr_bound }
     {
         fast_most(self.fast.instr_bound)
     }
 
-    /// The most steps that the fast code takes, its return counted.
+    /// The most steps that the fast code takes, including its return.
     pub fn fast_step_bound(&self) -> u32
         ensures { result ≡ fast_most self.now.fast.step_bound }
     {
@@ -58,15 +59,15 @@ impl Two {
     }
 }
 
-/// How many instructions or steps the fast code takes at most, by the bound of its block alone.
+/// The most instructions or steps that the fast code takes, from the bound of its block alone.
 fn fast_most(bound: u32) -> u32
     ensures { result ≡ fast_most bound }
 {
     bound.saturating_sub(4)
 }
 
-/// The firmware of two levels: of a slow block, with a fast block that runs inside its interrupts. It is
-/// refused where `compile` refuses the slow block, or else the fast one.
+/// The firmware for two levels: a slow block with a fast block that runs inside its interrupts. It is refused
+/// where `compile` refuses the slow block, or else the fast one.
 pub fn compile_two(alloc: Global, slow: &Block, fast: &Block) -> Result<Two, TwoFault>
     requires slow { IsValid slow.now }
     requires fast { IsValid fast.now }
@@ -98,8 +99,8 @@ pub fn compile_two(alloc: Global, slow: &Block, fast: &Block) -> Result<Two, Two
     }
 }
 
-/// The same of two blocks whose layouts are at hand: the flats are the blocks' rules as `spread` lays them
-/// out. It wants nothing but memory.
+/// The same for two blocks that are already laid out: the flats are the blocks' rules as `spread` lays them out.
+/// It can only fail for lack of memory.
 pub fn compile_two_laid_out(
     alloc: Global,
     slow: &Block,

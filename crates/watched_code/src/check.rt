@@ -14,10 +14,10 @@ use eval_code::MemoryMap;
 use fuzzy_meaning::Output;
 use std::alloc::{AllocError, Global};
 
-/// FAULT, which is 1 where the tables are not what they were, and else 0.
+/// FAULT, which is 1 if the tables have changed, and else 0.
 pub const FAULT: u16 = 0x1030;
 
-/// How many bytes code has.
+/// The length of code in bytes.
 pub(crate) fn code_length(code: &[Instr]) -> u16
     requires { length code.now ≤ 1000 }
     ensures { result ≡ code_length code.now }
@@ -65,7 +65,7 @@ pub(crate) fn bad_code(
     Ok(code)
 }
 
-/// B gets the sum of the segments' bytes.
+/// Sets B to the sum of the segments' bytes.
 fn sum_code(alloc: Global, segments: &[Segment]) -> Result<Vec<Instr>, AllocError>
     requires { AreSegments segments.now }
     ensures { IfOk result (λ code. code.items ≡ Instr.LdabImmediate 0 ∷ segments_code segments.now) }
@@ -81,8 +81,7 @@ fn sum_code(alloc: Global, segments: &[Segment]) -> Result<Vec<Instr>, AllocErro
     Ok(code)
 }
 
-/// The check: BAD where the sum of the segments with their check byte is not 0, and else FAULT is
-/// cleared.
+/// The check: goes to BAD if the sum of the segments with their check byte is not 0, and else clears FAULT.
 fn check_code(
     alloc: Global,
     memory_map: &MemoryMap,

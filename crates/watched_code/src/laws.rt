@@ -11,17 +11,17 @@ use byte_scaling::laws::nearest_is_byte;
 use cpu12_isa::laws::stays_fit;
 use eval_code::laws::{blocks_are_placed, code_is_decoded};
 
-/// With its check byte the sum of bytes is 0. Where one byte is changed to another it is not; where
-/// two are it may be.
+/// With its check byte the sum of bytes is 0. If one byte is changed to another value it is not 0; if two are, it
+/// may be.
 pub fn one_change_is_seen()
     ensures unchanged { UnchangedSumIsZero }
     ensures one { OneChangeIsSeen }
     ensures two { TwoChangesMayPass }
 {}
 
-/// The firmware of a block with watched tables answers every list of samples, whatever the open flags
-/// are, within its bounds: by the block's answers over bytes and FAULT 0, but by the outputs' defaults
-/// and FAULT 1 while a byte of its tables holds another value.
+/// The firmware of a block with watched tables answers every list of samples, whatever the open flags are, within
+/// its bounds: with the block's answers over bytes and FAULT 0, or with the outputs' defaults and FAULT 1 while a
+/// byte of its tables holds another value.
 pub fn watched_answers()
     ensures { WatchedAnswers }
 {
@@ -37,7 +37,7 @@ pub fn watched_answers()
     free_bytes_leave();
 }
 
-/// The image of a block's firmware with watched tables is one of bytes.
+/// The image of a block's firmware with watched tables consists of bytes.
 pub fn watched_is_bytes()
     ensures { WatchedIsBytes }
 {
@@ -55,7 +55,7 @@ pub fn blocks_have_watched_firmware()
     items_have_images()
 }
 
-/// A block has one firmware with watched tables.
+/// A block has only one firmware with watched tables.
 pub fn watched_firmwares_are_one()
     ensures { WatchedFirmwaresAreOne }
 {

@@ -19,7 +19,7 @@ pub struct Segment {
     pub bytes: List<u8>,
 }
 
-/// With REVW the weights, behind other segments.
+/// Appends the weights to other segments, with REVW.
 fn push_weights(
     alloc: Global,
     segments: &mut Vec<Segment>,
@@ -43,8 +43,8 @@ fn push_weights(
     }
 }
 
-/// The segments of a block's image: the tables of its terms, its singletons, with REVW the weights,
-/// and the rule list. `flat` is the block's rules as `spread` lays them out.
+/// The segments of a block's image: the tables of its terms, its singletons, the weights with REVW, and the rule
+/// list. `flat` is the block's rules as `spread` lays them out.
 pub(crate) fn segments(
     alloc: Global,
     memory_map: &MemoryMap,
@@ -86,7 +86,7 @@ fn add_bytes(start: u8, bytes: &[u8]) -> u8
     total
 }
 
-/// The number that makes the sum of all segments' bytes 0, modulo 256.
+/// The byte that makes the sum of all segments' bytes 0, modulo 256.
 pub(crate) fn check_byte(segments: &[Segment]) -> u8
     ensures { result ≡ check_byte (segment_bytes segments.now) }
 {

@@ -51,7 +51,7 @@ fn watched_items(
     Ok(items)
 }
 
-/// The image of a firmware with watched tables. It wants nothing but memory.
+/// The image of a firmware with watched tables. It can only fail for lack of memory.
 fn watched_image(
     alloc: Global,
     memory_map: &MemoryMap,
@@ -72,10 +72,9 @@ fn watched_image(
     image_of(alloc, items.as_slice())
 }
 
-/// The firmware of a block with watched tables, which answers bytes: before each sample it sums
-/// them, and where they are not what they were it sets FAULT, the byte at `$1030`, and answers the
-/// outputs' defaults; an output with NC keeps its byte. Else FAULT is 0. It is refused where
-/// `compile` is.
+/// The firmware of a block with watched tables, which answers bytes: before each sample it sums the tables, and if
+/// they have changed it sets FAULT, the byte at `$1030`, to 1 and answers the outputs' defaults; an output with NC
+/// keeps its byte. Otherwise FAULT is 0. It is refused where `compile` is.
 pub fn compile_scrub(alloc: Global, block: &Block) -> Result<Firmware, LayoutFault>
     requires { IsValid block.now }
     ensures firmware { IfOk result (IsWatchedFirmwareOf block.now) }

@@ -25,30 +25,29 @@ use std::alloc::Global;
 use trace_io::Sample;
 use watched_code::FAULT;
 
-/// What a sample's run gave, and what FAULT held at its end.
+/// The results of a sample's run, and FAULT at its end.
 #[derive(Drop)]
 pub struct WatchedRow {
     /// The row.
     pub row: Row,
-    /// The byte at FAULT: 1 where a byte of the tables was another than the image's, and else 0.
+    /// The byte at FAULT: 1 if a byte of the tables differed from the image's, and else 0.
     pub fault: u8,
 }
 
-/// A firmware with watched tables, with a trace and upsets. Its handler does the writes that a request
-/// lists.
+/// A firmware with watched tables, with a trace and upsets. Its handler does the writes that a request lists.
 #[derive(Drop)]
 pub struct WatchedForm<'a> {
     /// The firmware, of at most four outputs.
     pub firmware: &'a Firmware,
     /// The trace.
     pub samples: &'a [Sample],
-    /// What is upset in its samples, one byte at most in each.
+    /// The upsets of its samples, at most one byte in each.
     pub upsets: &'a [Upset],
     ghost outputs: { firmware.now.outputs ≤ 4 },
     ghost ascend: { AscendThroughout upsets.now },
 }
 
-/// The bytes of a sample, of which there are at most eight.
+/// The bytes of a sample, at most eight.
 fn bytes_of(samples: &[Sample], k: usize) -> &[u8]
     requires { k < length samples.now }
     ensures bytes { (bytes : List ℕ) → slice_get (map input_bytes samples.now) k ≡ Some bytes → result.now ≡ bytes }

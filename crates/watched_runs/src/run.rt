@@ -16,15 +16,14 @@ use run_forms::{Start, run_form};
 use std::alloc::Global;
 use trace_io::Sample;
 
-/// Runs firmware with watched tables over a trace under a plan, with the upsets of the samples of their numbers,
-/// counted from 1: during such a sample its byte holds the upset's value, and then the image's byte
-/// stands there again. Answers a row for each sample. Bits of `flags` give the flags that the CPU12
-/// Reference Manual leaves undefined. All memory is taken before the first step, and want of it is the
-/// one error.
+/// Runs firmware with watched tables over a trace under a plan, with upsets: during the sample with an upset's
+/// number, counted from 1, the upset's byte holds its value, and afterwards the image's byte is restored. Returns
+/// a row for each sample. Bits of `flags` supply the flags that the CPU12 Reference Manual leaves undefined. All
+/// memory is allocated before the first step, and lack of memory is the only error.
 ///
-/// Where the firmware is that of a block with watched tables, a sample without an upset, or with one
-/// whose value is the image's byte, is answered as the block answers it over bytes, with FAULT 0, and
-/// each other sample by the outputs' defaults, or with NC by the byte before, with FAULT 1.
+/// If the firmware is that of a block with watched tables, a sample without an upset, or with one whose value is
+/// the image's byte, is answered as the block answers it over bytes, with FAULT 0, and each other sample by the
+/// outputs' defaults, or with NC by the byte before, with FAULT 1.
 pub fn run_upsets(
     alloc: Global,
     firmware: &Firmware,

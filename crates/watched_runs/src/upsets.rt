@@ -1,4 +1,4 @@
-//! The upset of a sample, among upsets that ascend, and what it does.
+//! The upset of a sample, in a list with ascending samples, and what it does.
 ghost use Rattle.std.specs.Prelude.{ℕ, ◌≡◌, MatchResult, None, slice_get};
 ghost use Rattle.cpu12_emul.specs.Image.{image_memory};
 ghost use Rattle.interrupt_plan.specs.Upsets.{SamplesAscend};
@@ -11,7 +11,7 @@ use cpu12_emul::machine::Machine;
 use cpu12_isa::mem::Mem;
 use interrupt_plan::{Upset, Upsets};
 
-/// Upsets, whose samples ascend.
+/// Upsets with ascending samples.
 pub(crate) fn ascending(upsets: &Upsets) -> &[Upset]
     requires { SamplesAscend upsets.now }
     ensures same { result.now ≡ upsets.now }
@@ -20,7 +20,7 @@ pub(crate) fn ascending(upsets: &Upsets) -> &[Upset]
     upsets.as_slice()
 }
 
-/// Where the upset of a sample stands, or would stand.
+/// The index of the upset of a sample, or where it would be.
 fn place_of(upsets: &[Upset], number: usize) -> Result<usize, usize>
     requires { AscendThroughout upsets.now }
     ensures { MatchResult result (λ i. change_in (slice_get upsets.now i) ≡ change_of number upsets.now)
@@ -52,7 +52,7 @@ pub(crate) fn change<M: Mem>(m: &mut Machine<M>, upset: Option<Upset>)
     }
 }
 
-/// Puts the image's byte back where an upset changed it, if there is one.
+/// Restores the image's byte where an upset changed it, if there is one.
 pub(crate) fn restore<M: Mem>(m: &mut Machine<M>, image: &Image, upset: Option<Upset>)
     ensures state { m.new.state ≡ restored (image_memory image.now.bytes) (change_in upset) m.old.state }
     ensures noted { m.new.noted ≡ m.old.noted }

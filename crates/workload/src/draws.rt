@@ -9,7 +9,7 @@ pub(crate) struct Draws {
 }
 
 impl Draws {
-    /// Before the first draw of a number.
+    /// The state before the first draw of a number.
     pub(crate) fn of(number: u32) -> Draws
         ensures { result.state ≡ number }
     {
@@ -18,7 +18,7 @@ impl Draws {
         }
     }
 
-    /// The next draw: a number below the bound, by the state's upper 31 bits.
+    /// The next draw: a number below the bound, from the state's upper 31 bits.
     pub(crate) fn below(&mut self, bound: u32) -> u32
         requires { 1 ≤ bound }
         ensures state { self.new.state ≡ next_state self.old.state }
@@ -55,7 +55,7 @@ impl Draws {
         (x, y)
     }
 
-    /// The moment of a request, how far behind the first free byte it writes, and what.
+    /// The moment of a request, the offset of the byte that it writes from the first free one, and the value.
     pub(crate) fn request(&mut self) -> (u32, u32, u32)
         ensures state { (number n : ℕ) → self.old.state ≡ state_after number n
             → self.new.state ≡ state_after number (n + 3) }

@@ -25,7 +25,7 @@ pub fn numbers_have_workloads()
     drawn_texts_spell_blocks()
 }
 
-/// A number draws one block, the bytes of one list of samples, and one plan.
+/// A number draws only one block, one list of samples by their bytes, and one plan.
 pub fn workloads_are_one()
     ensures { WorkloadsAreOne }
 {}

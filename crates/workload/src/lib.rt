@@ -1,9 +1,9 @@
-//! A workload that is made of a number: an FCL text, a trace and a plan, large enough to measure a run by.
+//! A workload drawn from a number: an FCL text, a trace and a plan, large enough to measure a run by.
 //!
-//! [`generate`] answers a [`Workload`]: three texts, none longer than a file may be, and what they spell. Nothing of
-//! what it writes is read: that the text spells the block that the number draws, the trace its 1000 samples, and the
-//! plan one request for each of them, by the definitions that the product's readers meet, is its contract. Only want of
-//! memory is refused.
+//! [`generate`] returns a [`Workload`]: three texts, none longer than a file may be, and what they spell. Nothing
+//! that it writes is read back: its contract states that, by the definitions of the product's readers, the text
+//! spells the block that the number draws, the trace its 1000 samples, and the plan one request for each of them.
+//! The only error is lack of memory.
 #![tactic(auto)]
 
 mod blocks;

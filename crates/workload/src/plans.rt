@@ -44,7 +44,7 @@ pub(crate) fn drawn_plan(alloc: Global, draws: &mut Draws) -> Result<PlanText, A
     })
 }
 
-/// The text with a request's row behind it.
+/// The text followed by a request's row.
 fn with_request(
     alloc: Global,
     text: Vec<u8>,
@@ -69,7 +69,7 @@ fn with_request(
     with_field(with_address, value_digits.as_bytes(), b'\n')
 }
 
-/// A request for one byte in a sample, so far behind the first free one.
+/// A request for one byte in a sample, at an offset from the first free byte.
 fn request_of(
     alloc: Global,
     sample: u32,

@@ -5,7 +5,7 @@ ghost use Rattle.workload.specs.Texts.{decimal_text, last_digit};
 use itoa::Buffer;
 use std::alloc::{AllocError, Global};
 
-/// The text with a field behind it, and the byte that ends the field.
+/// The text followed by a field, and the byte that ends the field.
 pub(crate) fn with_field(mut text: Vec<u8>, field: &[u8], end: u8) -> Result<Vec<u8>, AllocError>
     ensures { IfOk result (λ t. t.items ≡ text.items ++ (field.now ++ (end ∷ []))) }
 {

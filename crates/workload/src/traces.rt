@@ -23,7 +23,7 @@ pub(crate) struct Trace {
     pub(crate) samples: Vec<Sample>,
 }
 
-/// Draws 1000 samples of two inputs that are alike.
+/// Draws 1000 samples of two identical inputs.
 pub(crate) fn drawn_trace(
     alloc: Global,
     draws: &mut Draws,
@@ -49,7 +49,7 @@ pub(crate) fn drawn_trace(
     Ok(Trace { text, samples })
 }
 
-/// The text with a sample's row behind it.
+/// The text followed by a sample's row.
 fn with_sample(alloc: Global, text: Vec<u8>, x: u32, y: u32) -> Result<Vec<u8>, AllocError>
     ensures { IfOk result (λ t. t.items ≡ text.items ++ row_text default_writer (sample_fields (x, y))) }
 {

@@ -28,7 +28,7 @@ pub struct Workload {
     pub requests: Plan,
 }
 
-/// The workload of a number. Its texts are written, and not read: what they spell is proved.
+/// The workload of a number. Its texts are written and not read back: what they spell is proved.
 pub fn generate(alloc: Global, number: u32) -> Result<Workload, Memory>
     ensures workload { IfOk result (λ w.
         IsWorkload number w.text.items w.trace.items w.plan.items w.block w.samples.items w.requests) }
@@ -41,7 +41,7 @@ pub fn generate(alloc: Global, number: u32) -> Result<Workload, Memory>
     workload_of(alloc, number).map_err(|_| Memory)
 }
 
-/// The same, where what wants memory says so.
+/// The same, with the allocator's error.
 fn workload_of(alloc: Global, number: u32) -> Result<Workload, AllocError>
     ensures workload { IfOk result (λ w.
         IsWorkload number w.text.items w.trace.items w.plan.items w.block w.samples.items w.requests) }
