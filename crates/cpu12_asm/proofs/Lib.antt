@@ -16,3 +16,4 @@ pub mod Standing
 pub mod Shapes
 pub mod Ascending
 pub mod SourceBytes
+pub mod Judged

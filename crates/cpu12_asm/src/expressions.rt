@@ -18,20 +18,20 @@ use std::collections::BTreeMap;
 /// Values by names.
 pub(crate) type Names<'a> = BTreeMap<&'a [u8], u64>;
 
-/// What a term stands for.
+/// What a term is.
 #[derive(Clone, Copy)]
 pub(crate) enum Term {
     Value(u64),
     /// A number above 65535.
     Large,
-    /// A name with no value.
+    /// A name without a value.
     Unknown,
     /// Neither a number nor a name.
     Bad,
 }
 
-/// What the terms of an expression sum to, those with a plus and those with a minus apart, and which
-/// of them have no value. `negative` is the sign of the next term.
+/// The sums of an expression's terms, those with a plus and those with a minus separately, and which of them have
+/// no value. `negative` is the sign of the next term.
 #[derive(Clone, Copy)]
 pub(crate) struct Sum {
     pub added: u128,
@@ -114,7 +114,7 @@ fn has_name_form(word: &[u8]) -> bool
     }
 }
 
-/// Whether a word is a name: a letter or `_`, then letters, digits and `_`, and no operation.
+/// Whether a word is a name: a letter or `_`, then letters, digits and `_`, and not an operation.
 pub(crate) fn is_name(word: &[u8]) -> bool
     ensures { result ≡ is_name word.now }
 {
@@ -165,7 +165,7 @@ fn hexadecimal(digits: &[u8]) -> u64
     n
 }
 
-/// The term of a number that is told as far as 65536.
+/// The term of a number that is counted up to 65536.
 fn number(n: u64) -> Term
     ensures { (whole : ℕ) → n ≡ min whole 65536 → result ≡ number whole }
 {
@@ -226,7 +226,7 @@ impl Sum {
     }
 }
 
-/// A sum with the terms of a group, of which the first is added and the others are taken away.
+/// A sum with the terms of a group, of which the first is added and the others are subtracted.
 fn with_group(names: &Names<'_>, sum: Sum, group: &[u8]) -> Sum
     requires { sum.added + sum.taken + 2 ^ 64 * (length group.now + 1) < 2 ^ 128 }
     ensures value { result ≡ with_group (value_in names.now) sum group.now }

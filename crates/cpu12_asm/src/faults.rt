@@ -4,7 +4,7 @@ ghost use Rattle.cpu12_asm.specs.Faults.{at_line};
 
 use crate::items::AsmFault;
 
-/// What a line is refused for, or that there was no memory.
+/// Why a line is refused: a fault, or lack of memory.
 #[derive(Clone, Copy, Drop)]
 pub(crate) enum LineFault {
     BadLine,

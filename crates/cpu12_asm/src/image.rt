@@ -12,7 +12,7 @@ use std::alloc::{AllocError, Global};
 use std::collections::BTreeMap;
 use std::marker::Model;
 
-/// Bytes by their addresses. A contract sees the list of the addresses with their bytes.
+/// Bytes by their addresses. A contract sees the list of addresses with their bytes.
 #[derive(Drop)]
 pub struct ByteMap {
     bytes: BTreeMap<u16, u8>,
@@ -60,7 +60,7 @@ impl ByteMap {
         self.bytes.get(&at).copied()
     }
 
-    /// The bytes with their addresses, which ascend.
+    /// The bytes with their addresses, in ascending order.
     pub fn to_vec(&self, alloc: Global) -> Result<Vec<(u16, u8)>, AllocError>
         ensures bytes { IfOk result (λ bytes. bytes.items ≡ self.now) }
         ensures ascending { IsAscending self.now }
@@ -71,7 +71,7 @@ impl ByteMap {
             .collect(alloc)
     }
 
-    /// The least address at which two have different bytes, or one a byte and the other none.
+    /// The least address at which two maps have different bytes, or only one of them has a byte.
     pub fn first_difference(&self, other: &ByteMap) -> Option<u16>
         ensures differs { IfSome result (IsFirstDifference self.now other.now) }
         ensures same { IfNone result ((q : ℕ) → byte_at self.now q ≡ byte_at other.now q) }
@@ -83,7 +83,7 @@ impl ByteMap {
         }
     }
 
-    /// The least address of a byte that another has not.
+    /// The least address with a byte at which the other map has none.
     fn first_missing(&self, other: &ByteMap) -> Option<u16>
         ensures missing { IfSome result (IsFirstMissing self.now other.now) }
         ensures none { IfNone result ((q b : ℕ) → byte_at self.now q ≡ Some b → byte_at other.now q ≡ Some b) }
@@ -96,7 +96,7 @@ impl ByteMap {
         None
     }
 
-    /// Puts a byte to an address, in the place of one that is there.
+    /// Puts a byte at an address, replacing any that is there.
     pub fn insert(&mut self, at: u16, byte: u8) -> Result<(), AllocError>
         ensures put { OnOk result ((q : ℕ)
             → byte_at self.new q ≡ (if is_at (nat_cmp at) q then Some byte else byte_at self.old q)) }
@@ -120,7 +120,7 @@ impl ByteMap {
         }
     }
 
-    /// Writes each byte to its address of a memory, whose other bytes stay.
+    /// Writes each byte to its address in a memory; the memory's other bytes are unchanged.
     pub fn write_to<M: Mem>(&self, m: &mut M)
         ensures bytes { (at : ℕ) → at < 2 ^ 16
             → slice_index (M.bytes m.new) at ≡ unwrap_or (byte_at self.now at) (slice_index (M.bytes m.old) at) }
@@ -131,8 +131,8 @@ impl ByteMap {
         }
     }
 
-    /// Puts bytes one after another from a place, where no byte may be yet, and answers the place
-    /// behind them.
+    /// Puts bytes one after another from an address on, where there may be none yet, and returns the address after
+    /// the last.
     pub(crate) fn put_all(&mut self, place: u32, bytes: &[u8]) -> Result<u32, Refusal>
         requires place { place ≤ 2 ^ 16 }
         requires few { length bytes.now ≤ 2 ^ 16 }

@@ -1,4 +1,4 @@
-//! Items, and their assembling.
+//! Items, and their assembly.
 ghost use Rattle.std.specs.Prelude.{◌≡◌, ◌<◌, ◌≤◌, ◌+◌, ◌^◌, ℕ, List, ◌++◌, length, IfOk, IfErr, OnOk, IsSome, Ok, Err};
 ghost use Rattle.cpu12_asm.specs.Bytes.{byte_at, start_of, placed, Holds, IsAscending};
 ghost use Rattle.cpu12_asm.specs.Items.{given_by, item_bytes, place_after, CanBePlaced, FailsFirst, IsRising};
@@ -10,10 +10,10 @@ use cpu12_isa::instr::Instr;
 use std::alloc::{AllocError, Global};
 use thiserror::Error;
 
-/// What an assembly is made of.
+/// An element of an assembly.
 #[derive(Clone, Copy, Drop)]
 pub enum Item {
-    /// The next byte stands at this address.
+    /// The next byte goes to this address.
     Place(u16),
     /// A byte.
     Byte(u8),
@@ -24,7 +24,7 @@ pub enum Item {
 /// Why items or a source have no image, with the number of the item or the line, from 1.
 #[derive(Clone, Copy, Debug, PartialEq, Eq, Drop, Error)]
 pub enum AsmFault {
-    /// This line has no form of a line, or its operation does not take its operand.
+    /// This line is malformed, or its operation does not take its operand.
     #[error("line {0} is malformed")]
     BadLine(u32),
     /// A name on this line has no value, or none yet in `ORG` and `EQU`.
@@ -36,19 +36,19 @@ pub enum AsmFault {
     /// The target of this line's branch is more than 128 bytes back or 127 ahead.
     #[error("line {0} branches too far")]
     BranchFar(u32),
-    /// A value on this line is out of range, or a byte of this item or line would stand past the last address.
+    /// A value on this line is out of range, or a byte of this item or line would be past the last address.
     #[error("{0} is out of range")]
     Range(u32),
-    /// A byte of this item or line stands where an earlier one does.
+    /// A byte of this item or line would be where an earlier one is.
     #[error("{0} writes over an earlier byte")]
     Overlap(u32),
-    /// There was no memory for the image.
+    /// Out of memory for the image.
     #[error("no memory")]
     Memory,
 }
 
-/// The image of items. The first stands at address 0, and each other item behind the one before it,
-/// but for a byte or an instruction after an [`Item::Place`], which stands there.
+/// The image of items. The first item is at address 0, and each other item follows the one before it, except that
+/// a byte or an instruction after an [`Item::Place`] is at that place.
 pub fn assemble_items(alloc: Global, items: &[Item]) -> Result<Image, AsmFault>
     requires { length items.now < 2 ^ 32 }
     ensures bytes { IfOk result (λ image. Holds image.bytes (given_by items.now)) }
@@ -76,7 +76,7 @@ pub fn assemble_items(alloc: Global, items: &[Item]) -> Result<Image, AsmFault>
     Ok(Image { bytes, start })
 }
 
-/// Puts an item's bytes at a place, and answers the place behind it.
+/// Puts an item's bytes at an address, and returns the address after it.
 fn put_item(bytes: &mut ByteMap, place: u32, item: &Item) -> Result<u32, Refusal>
     requires { place ≤ 2 ^ 16 }
     ensures behind { IfOk result (λ after. (after ≡ place_after place item.now) × (after ≤ 2 ^ 16)) }

@@ -14,7 +14,7 @@ fn piece_len(text: &[u8], c: u8) -> usize
     text.iter().take_while(|b| **b != c).count()
 }
 
-/// The piece of a text before the first byte `c`, and what stands behind that byte.
+/// The part of a text before the first byte `c`, and what follows that byte.
 pub(crate) fn cut(text: &[u8], c: u8) -> (&[u8], Option<&[u8]>)
     ensures pieces { pieces c text.now ≡ result.0.now ∷ pieces_left c result.1 }
     ensures size { length result.0.now + size_left result.1 ≡ length text.now }
@@ -27,7 +27,7 @@ pub(crate) fn cut(text: &[u8], c: u8) -> (&[u8], Option<&[u8]>)
     }
 }
 
-/// The first line of a text, and what stands behind it.
+/// The first line of a text, and what follows it.
 pub(crate) fn cut_line(text: &[u8]) -> (&[u8], Option<&[u8]>)
     ensures lines { lines_of text.now ≡ result.0.now ∷ lines_left result.1 }
     ensures size { length result.0.now + size_left result.1 ≤ length text.now }
@@ -75,7 +75,7 @@ fn blank_len(text: &[u8]) -> usize
     text.iter().take_while(|b| is_blank(**b)).count()
 }
 
-/// A line up to its comment.
+/// A line without its comment.
 pub(crate) fn code(line: &[u8]) -> &[u8]
     ensures value { result.now ≡ code_of line.now }
     ensures bound { length result.now ≤ length line.now }
@@ -83,7 +83,7 @@ pub(crate) fn code(line: &[u8]) -> &[u8]
     &line[..code_len(line)]
 }
 
-/// The word at the front.
+/// The first word.
 pub(crate) fn first_word(text: &[u8]) -> &[u8]
     ensures value { result.now ≡ first_word text.now }
     ensures bound { length result.now ≤ length text.now }
@@ -91,7 +91,7 @@ pub(crate) fn first_word(text: &[u8]) -> &[u8]
     &text[..word_len(text)]
 }
 
-/// What stands behind the word at the front and the blanks after it.
+/// What follows the first word and the blanks after it.
 pub(crate) fn behind_word(text: &[u8]) -> &[u8]
     ensures value { result.now ≡ behind_word text.now }
     ensures bound { length result.now ≤ length text.now }

@@ -1,4 +1,4 @@
-//! The values of operands, and the bytes of lines.
+//! The values of operands, and the bytes of source lines.
 ghost use Rattle.std.specs.Prelude.{ℕ, ◌≡◌, ◌≢◌, ◌≤◌, ◌+◌, ◌^◌, ◌-◌, ◌%◌, length, map, drop, slice_index};
 ghost use Rattle.std.specs.Prelude.{if◌then◌else◌, Some, None, List, ◌∷◌, IfOk, IfErr, Ok, Err};
 ghost use Rattle.std.specs.List.{flat_map};
@@ -16,8 +16,8 @@ use cpu12_isa::form::{Form, Operand};
 use cpu12_isa::mem::{high_of, low_of};
 use std::alloc::{AllocError, Global};
 
-/// The greatest value of an operand's first expression and of the others, and whether a `#` stands
-/// before them.
+/// The greatest values allowed for an operand's first expression and for the others, and whether a `#` precedes
+/// them.
 #[derive(Clone, Copy)]
 pub(crate) struct Limits {
     pub first: u16,
@@ -74,7 +74,7 @@ fn any_unknown(names: &Names<'_>, text: &[u8]) -> bool
     false
 }
 
-/// The value of a sum that lies from 0 to a limit.
+/// The value of a sum, if it is from 0 to a limit.
 fn value_up_to(limit: u16, sum: Sum) -> Option<u16>
     ensures { result ≡ (if fits limit sum then Some (sum.added - sum.taken) else None) }
 {
@@ -178,7 +178,7 @@ fn offset(place: u32, target: u16) -> u8
     ((u32::from(target) + 0x2_0000 - (place + 2)) % 0x100) as u8
 }
 
-/// A shape with its values, where its instruction stands at a place.
+/// The instruction of a shape with its values, at an address.
 fn operand_with(place: u32, values: &[u16], operand: &Operand) -> Operand
     requires { place ≤ 2 ^ 16 }
     ensures { result ≡ operand_with place values.now operand.now }
@@ -238,7 +238,7 @@ fn both_bytes(alloc: Global, values: &[u16]) -> Result<Vec<u8>, AllocError>
     Ok(bytes)
 }
 
-/// The bytes of a line at a place.
+/// The bytes of a line at an address.
 pub(crate) fn bytes_with(
     alloc: Global,
     place: u32,

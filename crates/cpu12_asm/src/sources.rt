@@ -16,7 +16,7 @@ use crate::values::{define, within};
 use std::alloc::Global;
 use std::collections::BTreeMap;
 
-/// The values of a source's names, by its lines one after another.
+/// The values of a source's names, line by line.
 fn read_names<'a>(alloc: Global, text: &'a [u8]) -> Result<Names<'a>, AsmFault>
     requires { length text.now ≤ 2 ^ 20 }
     ensures names { IfOk result (λ names. names_of text.now ≡ Ok (value_in names)) }
@@ -38,7 +38,7 @@ fn read_names<'a>(alloc: Global, text: &'a [u8]) -> Result<Names<'a>, AsmFault>
     Ok(names)
 }
 
-/// Puts the bytes of a line at a place, and answers the place behind them.
+/// Puts the bytes of a line at an address, and returns the address after them.
 fn put(bytes: &mut ByteMap, place: u32, far: bool, line: &[u8]) -> Result<u32, LineFault>
     requires { place ≤ 2 ^ 16 }
     ensures ok { IfOk result (λ behind. (behind ≤ 2 ^ 16) × (behind ≡ place + length line.now)) }
@@ -65,7 +65,7 @@ fn put(bytes: &mut ByteMap, place: u32, far: bool, line: &[u8]) -> Result<u32, L
     }
 }
 
-/// Puts what a line gives, and answers the place behind it.
+/// Puts what a line gives, and returns the address after it.
 fn give(
     alloc: Global,
     names: &Names<'_>,
@@ -145,7 +145,7 @@ fn give_bytes(
     put(bytes, place, far, line.as_slice())
 }
 
-/// The bytes that a source gives, by its lines one after another.
+/// The bytes that a source gives, line by line.
 fn read_bytes(alloc: Global, names: &Names<'_>, text: &[u8]) -> Result<ByteMap, AsmFault>
     requires { length text.now ≤ 2 ^ 20 }
     ensures held { IfOk result (λ bytes. (g : Given) × (bytes_of (value_in names.now) text.now ≡ Ok g)
@@ -176,9 +176,9 @@ fn read_bytes(alloc: Global, names: &Names<'_>, text: &[u8]) -> Result<ByteMap, 
 /// `ORG e`, `FCB e{,e}`, `FDB e{,e}` and `EQU e`; an expression joins numbers (`$` and hexadecimal digits,
 /// or decimal digits) and names by `+` and `-`. The case of letters does not count.
 ///
-/// A first pass goes by lines, from place 0: `BadLine`, then `Twice`, and in `ORG` and `EQU` then
-/// `UnknownName` and `Range`. A second goes by lines again, with all names known: `UnknownName`, `Range`,
-/// `BranchFar`, `Overlap`, in this order at one line.
+/// A first pass goes through the lines, starting at address 0, and reports `BadLine`, then `Twice`, and for `ORG`
+/// and `EQU` then `UnknownName` and `Range`. A second pass, with all names known, reports `UnknownName`, `Range`,
+/// `BranchFar` and `Overlap`, in this order for each line.
 pub fn assemble(alloc: Global, source: &[u8]) -> Result<Image, AsmFault>
     requires { length source.now ≤ 2 ^ 20 }
     ensures bytes { IfOk result (λ image. Assembles source.now image.bytes) }

@@ -1,4 +1,4 @@
-//! What a line of source says.
+//! What a line of source means.
 ghost use Rattle.std.specs.Prelude.{ℕ, ◌≡◌, ◌≤◌, ◌+◌, ◌^◌, ◌==◌, length, List, Option, IfSome, Some, None};
 ghost use Rattle.std.specs.List.{list_all, find};
 ghost use Rattle.cpu12_isa.specs.Forms.{every, form_of};
@@ -18,7 +18,7 @@ use std::collections::BTreeMap;
 #[derive(Clone, Copy)]
 pub(crate) enum Action {
     Nothing,
-    /// `ORG`: sets the place.
+    /// `ORG`: sets the address.
     Origin,
     /// `EQU`: gives its name a value.
     Equate,
@@ -26,11 +26,11 @@ pub(crate) enum Action {
     Bytes,
     /// `FDB`: gives words.
     Words,
-    /// An instruction of this form, whose operand is still to be filled.
+    /// An instruction of this form, whose operand is filled in later.
     Operate(Form),
 }
 
-/// A line with its name, which is empty where it has none.
+/// A line with its name, which is empty if it has none.
 #[derive(Clone, Copy)]
 pub(crate) struct Statement<'a> {
     pub name: &'a [u8],
@@ -38,7 +38,7 @@ pub(crate) struct Statement<'a> {
     pub operand: &'a [u8],
 }
 
-/// Whether each term is a number or a name, whatever the names' values.
+/// Whether each term is a number or a name, whatever the names' values are.
 fn is_expression(alloc: Global, text: &[u8]) -> bool
     requires { length text.now ≤ 2 ^ 32 }
     ensures { result ≡ is_expression text.now }
@@ -62,7 +62,7 @@ fn are_expressions(alloc: Global, text: &[u8]) -> bool
     true
 }
 
-/// How many parts stand between commas.
+/// The number of parts separated by commas.
 pub(crate) fn part_count(text: &[u8]) -> usize
     requires { length text.now ≤ 2 ^ 32 }
     ensures value { result ≡ part_count text.now }
@@ -110,7 +110,7 @@ fn takes(alloc: Global, operand: Operand, text: &[u8]) -> bool
     }
 }
 
-/// Of these instructions the first that a word names and that takes an operand.
+/// The first of these instructions that a word names and that takes an operand.
 fn first_form(alloc: Global, word: &[u8], text: &[u8], mut rows: &[Instr]) -> Option<Action>
     requires { length text.now ≤ 2 ^ 32 }
     ensures { result ≡ operate (find (is_form word.now text.now) rows.now) }
@@ -150,7 +150,7 @@ fn action_of(alloc: Global, is_named: bool, word: &[u8], text: &[u8]) -> Option<
     }
 }
 
-/// What the words behind a name say.
+/// What the words after a name mean.
 fn statement_with<'a>(alloc: Global, name: &'a [u8], text: &'a [u8]) -> Option<Statement<'a>>
     requires { length text.now ≤ 2 ^ 32 }
     ensures value { told result ≡ statement_with name.now text.now }
@@ -172,7 +172,7 @@ fn statement_with<'a>(alloc: Global, name: &'a [u8], text: &'a [u8]) -> Option<S
     }
 }
 
-/// What a line says, or none where it has another form.
+/// What a line means, or none if it is malformed.
 pub(crate) fn read_line<'a>(alloc: Global, line: &'a [u8]) -> Option<Statement<'a>>
     requires { length line.now ≤ 2 ^ 32 }
     ensures value { told result ≡ statement_of line.now }

@@ -8,7 +8,7 @@ use crate::faults::LineFault;
 use crate::statements::{Action, Statement, part_count, read_line};
 use std::alloc::Global;
 
-/// Whether a sum's numbers are words and it lies from 0 to a limit.
+/// Whether a sum's numbers are words and the sum is from 0 to a limit.
 pub(crate) fn fits(limit: u16, sum: Sum) -> bool
     ensures { result ≡ fits limit sum }
 {
@@ -42,7 +42,7 @@ pub(crate) fn size(action: &Action, text: &[u8]) -> u64
     }
 }
 
-/// The value of a line's name, and the place behind the line.
+/// The value of a line's name, and the address after the line.
 #[derive(Clone, Copy)]
 pub(crate) struct Behind {
     pub value: u64,
@@ -85,7 +85,7 @@ fn read_behind(
     }
 }
 
-/// Gives a name a value, where there is a name, and answers whether it had none before.
+/// Gives a name a value, if there is a name, and returns whether it had none before.
 fn set_value<'a>(names: &mut Names<'a>, name: &'a [u8], value: u64) -> Result<bool, LineFault>
     ensures fresh { IfOk result (λ fresh. not fresh ≡ is_given (value_in names.old) name.now) }
     ensures ok { OnOk result (value_in names.new ≡ with_value (value_in names.old) name.now value) }
@@ -109,7 +109,7 @@ fn is_given(names: &Names<'_>, name: &[u8]) -> bool
     }
 }
 
-/// Adds what a line defines, and answers the place behind it.
+/// Adds what a line defines, and returns the address after it.
 pub(crate) fn define<'a>(
     alloc: Global,
     names: &mut Names<'a>,

@@ -1,6 +1,6 @@
 -- What a script's text spells, and its first line that is of no form.
 -- Beside the promise.
-use Rattle.std.specs.Prelude.{◌≡◌, ◌+◌, ◌==◌, ◌&&◌, nat_le, ℕ, Bool, List, [], ◌∷◌, codes}
+use Rattle.std.specs.Prelude.{◌≡◌, ◌⊎◌, ◌+◌, ◌==◌, ◌&&◌, nat_le, ℕ, Bool, List, [], ◌∷◌, codes}
 use Rattle.std.specs.Prelude.{if◌then◌else◌, Option, Some, None, option_map, option_and_then, Result, Ok, Err}
 use Rattle.std.specs.List.{after_first, before_first, slice_split}
 use Rattle.std.specs.Str.{bytes_eq}
@@ -79,3 +79,8 @@ script_of text = orders_from 1 (pieces text)
 abbrev pub IsFirstFault : List ℕ → ScriptFault → Type 0
 IsFirstFault text (fault.Line n) = script_of text ≡ Err n
 IsFirstFault text fault.Memory = ⊥
+
+-- each text spells a script or has a first fault
+abbrev pub EachTextIsJudged : Type 0
+EachTextIsJudged = (text : List ℕ)
+    → ((script : List Order) × (script_of text ≡ Ok script)) ⊎ ((f : ScriptFault) × IsFirstFault text f)

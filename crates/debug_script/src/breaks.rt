@@ -11,7 +11,7 @@ use std::marker::Model;
 /// How many addresses there are.
 const ADDRESSES: usize = 65536;
 
-/// A set of addresses, which says of one at once whether it is there.
+/// A set of addresses with a constant-time test for membership.
 #[derive(Drop)]
 pub(crate) struct Breaks {
     addresses: BTreeSet<u16>,
@@ -31,7 +31,7 @@ impl Model for Breaks {
     ghost invariant = { λ a. AreFlags a.addresses a.table.items };
 }
 
-/// A table of so many addresses, none of which is in a set.
+/// A table of this many addresses, none of which is in the set.
 fn all_off(alloc: Global, count: usize) -> Result<Vec<bool>, AllocError>
     ensures size { IfOk result (λ table. length table.items ≡ count) }
     ensures off { IfOk result (λ table. (at : ℕ) → slice_index_or table.items at false ≡ false) }

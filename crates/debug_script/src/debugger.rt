@@ -1,4 +1,4 @@
-//! A session that obeys a script.
+//! A session that executes a script.
 ghost use Rattle.std.specs.Prelude.{◌≡◌, ◌≤◌, ◌||◌, ◌++◌, length, map, IfOk, OnOk};
 ghost use Rattle.std.specs.BTreeSet.{contains_by};
 ghost use Rattle.std.specs.Ordering.{nat_cmp};
@@ -26,7 +26,7 @@ use interrupt_plan::Plan;
 use std::alloc::{AllocError, Global};
 use trace_io::Sample;
 
-/// So many positions on, or to the last.
+/// Advances `count` positions, or to the last.
 fn step<M: Mem>(session: &mut Session<'_, WatchedMem<M>>, count: u32)
     ensures place { place_of session.new ≡ on count (place_of session.old) }
     ensures leads { Leads session.old session.new }
@@ -43,7 +43,7 @@ fn step<M: Mem>(session: &mut Session<'_, WatchedMem<M>>, count: u32)
     }
 }
 
-/// Whether the run stops where it stands, coming from the position whose bytes are noted.
+/// Whether the run stops at its position, coming from the one whose bytes are noted.
 #[inline(always)]
 fn is_stopped<M: Mem>(session: &Session<'_, WatchedMem<M>>, marks: &Marks) -> bool
     ensures { result ≡ (contains_by (nat_cmp session.now.rest.here.state.regs.pc) marks.now.breaks
@@ -52,7 +52,7 @@ fn is_stopped<M: Mem>(session: &Session<'_, WatchedMem<M>>, marks: &Marks) -> bo
     marks.breaks.contains(session.regs().pc) || session.has_changed()
 }
 
-/// On to the first position that stops the run, or to the last.
+/// Advances to the first position that stops the run, or to the last.
 fn go<M: Mem>(session: &mut Session<'_, WatchedMem<M>>, marks: &Marks)
     requires { NotesBytes marks.now.watches session.old }
     ensures place { place_of session.new
@@ -70,7 +70,7 @@ fn go<M: Mem>(session: &mut Session<'_, WatchedMem<M>>, marks: &Marks)
     }
 }
 
-/// Where a session stands.
+/// The position of a session.
 fn stop<M: Mem>(session: &Session<'_, WatchedMem<M>>) -> Shown
     requires { session.now.rest.here.sample ≤ 4294967295 }
     ensures { result ≡ stop_at session.now.rest.here }
@@ -79,7 +79,7 @@ fn stop<M: Mem>(session: &Session<'_, WatchedMem<M>>) -> Shown
     Shown::Stop(sample, moment, session.regs().pc)
 }
 
-/// So many bytes from an address on.
+/// The given number of bytes from an address on.
 fn bytes_from<M: Mem>(
     alloc: Global,
     session: &Session<'_, WatchedMem<M>>,
@@ -97,7 +97,7 @@ fn bytes_from<M: Mem>(
     Ok(bytes)
 }
 
-/// Obeys an order, and puts what it shows behind what was shown.
+/// Executes an order, and appends what it shows to what was shown.
 fn obey<M: Mem>(
     alloc: Global,
     order: Order,
@@ -150,7 +150,7 @@ fn obey<M: Mem>(
     }
 }
 
-/// Obeys the orders of a script one after the other.
+/// Executes the orders of a script one after the other.
 fn obey_all<M: Mem>(
     alloc: Global,
     script: &[Order],
@@ -170,8 +170,8 @@ fn obey_all<M: Mem>(
     Ok(all)
 }
 
-/// Runs a firmware over a trace under a plan, and obeys a script on the way. Answers what the script
-/// shows, and the rows of the whole run, which are those of [`alone_runs::run`], whatever the script.
+/// Runs a firmware over a trace under a plan, and executes a script on the way. Returns what the script shows, and
+/// the rows of the whole run, which are those of [`alone_runs::run`], whatever the script.
 pub fn debug(
     alloc: Global,
     firmware: &Firmware,

@@ -1,4 +1,4 @@
-//! What stops a run that goes on.
+//! What stops a run under `go`.
 ghost use Rattle.std.specs.Prelude.{◌≡◌, true, false, IfOk, OnOk};
 ghost use Rattle.std.specs.BTreeSet.{Updates};
 ghost use Rattle.std.specs.Ordering.{nat_cmp};

@@ -16,7 +16,7 @@ const MOST_STEPS: u32 = 1_000_000;
 /// The most bytes of a `mem`.
 const MOST_BYTES: u32 = 16;
 
-/// How many bytes stand before the first of this value, or in all where there is none.
+/// How many bytes precede the first of this value, or all if there is none.
 fn len_before(text: &[u8], byte: u8) -> usize
     ensures value { result ≡ position_or_len (λ b. b == byte) text.now }
     ensures bound { result ≤ length text.now }
@@ -24,7 +24,7 @@ fn len_before(text: &[u8], byte: u8) -> usize
     text.iter().take_while(|b| **b != byte).count()
 }
 
-/// The word before the first blank, and what stands behind that blank.
+/// The word before the first blank, and what follows that blank.
 fn cut_word(line: &[u8]) -> (&[u8], &[u8])
     ensures word { result.0.now ≡ before_first (λ b. b == 0x20) line.now }
     ensures behind { result.1.now ≡ after_first (λ b. b == 0x20) line.now }
@@ -65,7 +65,7 @@ fn bytes_order(at: u16, count: u32) -> Option<Order>
     }
 }
 
-/// The order `mem` of its operands.
+/// The order `mem` from its operands.
 fn memory_order(operands: &[u8]) -> Option<Order>
     ensures { result ≡ memory_order operands.now }
 {
@@ -74,7 +74,7 @@ fn memory_order(operands: &[u8]) -> Option<Order>
     bytes_order(at, count_in(count)?)
 }
 
-/// The order of a word with operands behind it.
+/// The order of a word followed by operands.
 fn with_operands(word: &[u8], operands: &[u8]) -> Option<Order>
     ensures { result ≡ with_operands word.now operands.now }
 {
@@ -95,7 +95,7 @@ fn with_operands(word: &[u8], operands: &[u8]) -> Option<Order>
     }
 }
 
-/// The order that a line spells, without its end.
+/// The order that a line spells, without its LF.
 fn order_in(line: &[u8]) -> Option<Order>
     ensures { result ≡ order_of line.now }
 {
@@ -109,7 +109,7 @@ fn order_in(line: &[u8]) -> Option<Order>
     }
 }
 
-/// The first line of a text without its end, and what stands behind that; none where no line ends.
+/// The first line of a text without its LF, and what follows; none if no line ends.
 fn cut_line(text: &[u8]) -> Option<(&[u8], &[u8])>
     ensures line { MatchOption result (pieces text.now ≡ text.now ∷ [])
         (λ r. pieces text.now ≡ r.0.now ∷ pieces r.1.now) }
@@ -123,9 +123,9 @@ fn cut_line(text: &[u8]) -> Option<(&[u8], &[u8])>
     }
 }
 
-/// The script that a text spells, one order a line, or the number of its first line that is of no
-/// form. A line ends with LF alone; its words are in small letters with one blank between them;
-/// addresses have four hexadecimal digits of either case, numbers one to nine decimal digits.
+/// The script that a text spells, one order per line, or the number of its first line that is malformed. A line
+/// ends with LF alone; its words are in lower case with one blank between them; addresses have four hexadecimal
+/// digits of either case, numbers one to nine decimal digits.
 pub fn read_script(alloc: Global, text: &[u8]) -> Result<Script, ScriptFault>
     requires { length text.now ≤ 1048576 }
     ensures script { IfOk result (λ script. script_of text.now ≡ Ok script) }
