@@ -1,11 +1,12 @@
 -- What an allowed instruction does to SP, to PC, to the X flag and to memory.
-use Rattle.handler_check.proofs.Words.{[], ◌%◌, ◌&&◌, ◌+◌, ◌-◌, ◌<◌, ◌==◌, ◌^◌, ◌||◌, ◌∙◌, ◌∷◌, ◌≡◌, ◌≤◌, act_of}
+use Rattle.handler_check.proofs.Words.{[], ◌%◌, ◌&&◌, ◌++◌, ◌+◌, ◌-◌, ◌<◌, ◌==◌, ◌^◌, ◌||◌, ◌∙◌, ◌∷◌, ◌≡◌, ◌≤◌, act_of}
 use Rattle.handler_check.proofs.Words.{addresses, ap, arith, Bcc, Bcs, Beq, bit, bit_and_is, bit_or, bit_or_is, Bne}
-use Rattle.handler_check.proofs.Words.{Bool, Bra, Ccr, ClrExtended, DecExtended, effect, false, false≢true}
-use Rattle.handler_check.proofs.Words.{FitsHeight, get_or, GoesForward, height_after, if◌then◌else◌, IncExtended, inl}
-use Rattle.handler_check.proofs.Words.{inr, Instr, IsIn, LdaaImmediate, leads, List, nat_le, nat_lt, nat_tests, plus}
-use Rattle.handler_check.proofs.Words.{Psha, Pula, refl, Regs, Rti, size_of, StaaExtended, StabExtended, subst, sym}
-use Rattle.handler_check.proofs.Words.{target, true, written_by, ℕ}
+use Rattle.handler_check.proofs.Words.{Bool, Bra, Branches, Ccr, ClrExtended, DecExtended, effect, falls, false}
+use Rattle.handler_check.proofs.Words.{false≢true, FitsHeight, get_or, given, GoesForward, height_after, if◌then◌else◌}
+use Rattle.handler_check.proofs.Words.{IncExtended, inl, inr, Instr, IsIn, Jumps, Kind, kind_of, LdaaImmediate, leads}
+use Rattle.handler_check.proofs.Words.{List, nat_le, nat_lt, nat_tests, None, Option, plus, Psha, Pula, refl, Regs}
+use Rattle.handler_check.proofs.Words.{Returns, Rti, size_of, Some, StaaExtended, StabExtended, subst, sym, target}
+use Rattle.handler_check.proofs.Words.{targets, true, written_by, ℕ}
 use Rattle.std.proofs.Common.{◌*◌, ◌/◌, rules, bit_and}
 use Rattle.cpu12_isa.specs.declared.instr.Instr.TheVariants.{LdaaExtended, LdabImmediate, LdabExtended, LdxImmediate}
 use Rattle.cpu12_isa.specs.declared.instr.Instr.TheVariants.{LdyImmediate, Coma, CpxImmediate, Orcc, Ediv}
@@ -101,13 +102,14 @@ writes_are flags (LdaaImmediate v) r = refl
 writes_are flags i r = search rules
 
 -- PC
+abbrev straight : Kind → Bool
+straight (Branches to) = false
+straight (Jumps to) = false
+straight Returns = false
+straight kind = true
+
 abbrev is_straight : Instr → Bool
-is_straight (Beq to) = false
-is_straight (Bne to) = false
-is_straight (Bcc to) = false
-is_straight (Bcs to) = false
-is_straight (Bra to) = false
-is_straight i = is_stepping i
+is_straight i = given false straight (kind_of i)
 
 pc_passes : (flags : ℕ) (i : Instr) (r : Regs)
     → Where (is_straight i) (Always (λ e. e.regs.pc ≡ plus r.pc (size_of i)) (act_of flags i r))
@@ -147,6 +149,14 @@ passes flags i r m at a p lo =
     let k : plus r.pc (size_of i) ≡ at + size_of i = omega arith in
     e ∙ k
 
+straight_leads : (k : Option Kind) (at next : ℕ) → given false straight k ≡ true
+    → IsIn (given [] (falls next) k ++ given [] (targets at) k) next
+straight_leads None at next a = absurd (false≢true a)
+straight_leads (Some (Branches to)) at next a = absurd (false≢true a)
+straight_leads (Some (Jumps to)) at next a = absurd (false≢true a)
+straight_leads (Some Returns) at next a = absurd (false≢true a)
+straight_leads k at next a = inl refl
+
 pub pc_leads : (flags : ℕ) (i : Instr) (r : Regs) (m : List ℕ) (at : ℕ) → is_stepping i ≡ true → GoesForward i
     → r.pc ≡ at → at < 20480 → IsIn (leads at i) (effect flags i r m).regs.pc
 pc_leads flags (Beq to) r m at a f p lo = branches r at to _ p lo f
@@ -155,7 +165,8 @@ pc_leads flags (Bcc to) r m at a f p lo = branches r at to _ p lo f
 pc_leads flags (Bcs to) r m at a f p lo = branches r at to _ p lo f
 pc_leads flags (Bra to) r m at a f p lo = taken r.pc at to p lo f
 pc_leads flags Rti r m at a f p lo = absurd (false≢true a)
-pc_leads flags i r m at a f p lo = inl (passes flags i r m at a p lo)
+pc_leads flags i r m at a f p lo = subst (IsIn (leads at i)) (sym (passes flags i r m at a p lo))
+    (straight_leads (kind_of i) at (at + size_of i) a)
 
 -- what an instruction leads to lies further on
 target_on : (at to x : ℕ) → IsIn (target at to) x → at < x
@@ -165,17 +176,16 @@ target_on at to x w = cases (nat_lt to 128) w
     cases true w = elim w [ inl e ↦ omega arith | inr k ↦ absurd k ]
     cases false w = absurd w
 
-both_on : (at to x : ℕ) → IsIn ((at + 2) ∷ target at to) x → at < x
-both_on at to x w = elim w [ inl e ↦ omega arith | inr k ↦ target_on at to x k ]
+kind_on : (k : Option Kind) (at next x : ℕ) → at < next
+    → IsIn (given [] (falls next) k ++ given [] (targets at) k) x → at < x
+kind_on None at next x l w = absurd w
+kind_on (Some (Branches to)) at next x l w = elim w [ inl e ↦ omega arith | inr k ↦ target_on at to x k ]
+kind_on (Some (Jumps to)) at next x l w = target_on at to x w
+kind_on (Some Returns) at next x l w = absurd w
+kind_on k at next x l w = elim w [ inl e ↦ omega arith | inr k ↦ absurd k ]
 
 pub leads_on : (i : Instr) (at x : ℕ) → 0 < size_of i → IsIn (leads at i) x → at < x
-leads_on (Beq to) at x s w = both_on at to x w
-leads_on (Bne to) at x s w = both_on at to x w
-leads_on (Bcc to) at x s w = both_on at to x w
-leads_on (Bcs to) at x s w = both_on at to x w
-leads_on (Bra to) at x s w = target_on at to x w
-leads_on Rti at x s w = absurd w
-leads_on i at x s w = elim w [ inl e ↦ omega arith | inr k ↦ absurd k ]
+leads_on i at x s w = kind_on (kind_of i) at (at + size_of i) x (omega arith) w
 
 -- the X flag
 x_put : (c : Ccr) (k : ℕ) (b : Bool) → bit (2 ^ k) 6 ≡ false → bit (255 - 2 ^ k) 6 ≡ true

@@ -1,13 +1,17 @@
 -- What stands encoded at a place is what is decoded there, and its first byte.
-use Rattle.handler_check.proofs.Words.{◌<◌, ◌==◌, ◌≡◌, ◌≤◌, ◌⊎◌, ap, arith, Bool, false, false≢true, get_or, inl, inr}
-use Rattle.handler_check.proofs.Words.{Instr, is_allowed, LdaaImmediate, List, refl, Rti, size_of, StandsAt, true, ℕ}
+use Rattle.handler_check.proofs.Words.{◌<◌, ◌==◌, ◌≡◌, ◌≤◌, ◌⊎◌, ap, arith, Bool, false, false≢true, get_or, given}
+use Rattle.handler_check.proofs.Words.{inl, inr, Instr, is_allowed, Kind, kind_of, LdaaImmediate, List, refl, Returns}
+use Rattle.handler_check.proofs.Words.{Rti, size_of, StandsAt, true, ℕ}
 use Rattle.cpu12_isa.specs.declared.instr.Instr.TheVariants.{Rev, Revw, Wav, Wavr}
 use Rattle.cpu12_isa.specs.{Meaning.is_plain}
 
 -- whether an instruction is allowed and is not RTI
+abbrev pub steps : Kind → Bool
+steps Returns = false
+steps kind = true
+
 abbrev pub is_stepping : Instr → Bool
-is_stepping Rti = false
-is_stepping i = is_allowed i
+is_stepping i = given false steps (kind_of i)
 
 pub first_byte : (mem : List ℕ) (pc : ℕ) (i : Instr) → is_stepping i ≡ true → StandsAt mem pc i
     → (get_or mem pc 0 == 11) ≡ false

@@ -35,7 +35,7 @@ gives_right image at (x ∷ xs) ys g =
     (let e : at + 1 + length xs ≡ at + suc (length xs) = omega arith in
     subst (λ (n : ℕ). Gives image n ys) e (gives_right image (at + 1) xs ys g.1))
 
-gives_both : (image : List (ℕ × ℕ)) (at : ℕ) (xs ys : List ℕ) → Gives image at xs → Gives image (at + length xs) ys
+pub gives_both : (image : List (ℕ × ℕ)) (at : ℕ) (xs ys : List ℕ) → Gives image at xs → Gives image (at + length xs) ys
     → Gives image at (xs ++ ys)
 gives_both image at [] ys g h = (let e : at + 0 ≡ at = omega arith in subst (λ (n : ℕ). Gives image n ys) e h)
 gives_both image at (x ∷ xs) ys g h =

@@ -17,4 +17,8 @@ mod Extents
 mod Checked
 mod OneAnswer
 mod Shortness
+mod JudgedExtents
+mod JudgedCuts
+mod JudgedCode
+mod JudgedImages
 pub mod Words

@@ -1,12 +1,13 @@
 -- Judged place by place, code is accepted.
-use Rattle.handler_check.proofs.Words.{[], ◌+◌, ◌<◌, ◌∙◌, ◌∷◌, ◌≡◌, ◌≤◌, ◌⊎◌, AllFit, ap, AreJudged, arith, Bcc, Bcs}
-use Rattle.handler_check.proofs.Words.{Beq, Bne, Bool, Bra, branches_to, code_bytes, code_end, falls_to, false}
-use Rattle.handler_check.proofs.Words.{false≢true, GoesForward, Has, height_after, inl, inr, Instr, IsAccepted, IsAt}
-use Rattle.handler_check.proofs.Words.{IsFirst, IsIn, IsSummary, leads, led_all, length, List, May, None, Option}
-use Rattle.handler_check.proofs.Words.{Passes, Path, PathSummary, refl, Rti, size_of, Some, subst, suc, sym, true}
-use Rattle.handler_check.proofs.Words.{zero, ℕ}
+use Rattle.handler_check.proofs.Words.{[], ◌++◌, ◌+◌, ◌<◌, ◌∙◌, ◌∷◌, ◌≡◌, ◌≤◌, ◌⊎◌, AllFit, ap, AreJudged, arith, Bool}
+use Rattle.handler_check.proofs.Words.{branches_to, code_bytes, code_end, falls, falls_to, false, false≢true, given}
+use Rattle.handler_check.proofs.Words.{Has, height_after, inl, inr, Instr, IsAccepted, IsAt, IsFirst, IsForward, IsIn}
+use Rattle.handler_check.proofs.Words.{IsSummary, Jumps, Kind, kind_of, leads, led_all, length, List, May, None}
+use Rattle.handler_check.proofs.Words.{Option, Passes, Path, PathSummary, refl, Returns, Rti, size_of, Some, subst}
+use Rattle.handler_check.proofs.Words.{suc, sym, targets, true, zero, ℕ}
+use Rattle.std.specs.Prelude.{MatchOption}
 use Rattle.handler_check.specs.{Judging.PathBelow, Judging.Judged}
-use Rattle.handler_check.proofs.Decoding.{size_low, is_stepping, rti_or}
+use Rattle.handler_check.proofs.Decoding.{size_low, steps, rti_or}
 use Rattle.handler_check.proofs.Acts.{height_after-low, leads_on, target_is}
 use Rattle.handler_check.proofs.Places.{within, below_end, apart_places}
 use Rattle.handler_check.proofs.Leading.{one_summary, all_kept, all_has, all_new, all_is, in_either}
@@ -228,15 +229,13 @@ may_of is trapped at i summary p =
     }
 
 -- where an instruction leads to
-leads_to : (i : Instr) (at : ℕ) → is_stepping i ≡ true → GoesForward i → (to : ℕ) × IsIn (leads at i) to
-leads_to (Beq to) at a f = (at + 2, inl refl)
-leads_to (Bne to) at a f = (at + 2, inl refl)
-leads_to (Bcc to) at a f = (at + 2, inl refl)
-leads_to (Bcs to) at a f = (at + 2, inl refl)
-leads_to (Bra to) at a f =
+leads_to : (k : Option Kind) (at next : ℕ) → given false steps k ≡ true → MatchOption k ⊥ IsForward
+    → (to : ℕ) × IsIn (given [] (falls next) k ++ given [] (targets at) k) to
+leads_to None at next a f = absurd f
+leads_to (Some (Jumps to)) at next a f =
     (at + 2 + to, subst (λ (ts : List ℕ). IsIn ts (at + 2 + to)) (sym (target_is at to f)) (inl refl))
-leads_to Rti at a f = absurd (false≢true a)
-leads_to i at a f = (at + size_of i, inl refl)
+leads_to (Some Returns) at next a f = absurd (false≢true a)
+leads_to k at next a f = (next, inl refl)
 
 -- some path has an end
 ends_at : (is : List Instr) (best : ℕ) (summaries : ℕ → Option PathSummary) → AreJudged is false (code_end is) best
@@ -252,7 +251,8 @@ ends_at is best summaries m start (suc left) n at h l path =
     let k = knows is best summaries m n at h f.0 path f.1 in
     elim (rti_or f.0 (k.passes.allowed (omega arith))) [
       | inl rti ↦ (let few = k.ends rti in omega arith)
-      | inr p ↦ (let to = leads_to f.0 at p (k.passes.forward (omega arith)) in let s = size_low f.0 in
+      | inr p ↦ (let to = leads_to (kind_of f.0) at (at + size_of f.0) p (k.passes.forward (omega arith)) in
+          let s = size_low f.0 in
           let on = leads_on f.0 at to.0 s.0 to.1 in
           ends_at is best summaries m start left (suc n) to.0 (height_after f.0 h) (omega (arith, on))
           (at, h, f.0, (path, f.1, to.1, refl)))

@@ -1,16 +1,14 @@
 -- An image is a handler with one count, or has one first fault.
 use Rattle.handler_check.proofs.Words.{[], ◌+◌, ◌<◌, ◌∙◌, ◌∷◌, ◌≡◌, ◌≤◌, ◌⊎◌, AllFit, ap, Applies, arith, Backward}
-use Rattle.handler_check.proofs.Words.{Bcc, Bcs, Beq, Bne, Bool, Bra, branches_to, byte_at, cases_lt, ClrExtended}
-use Rattle.handler_check.proofs.Words.{code_bytes, code_end, Dead, DecExtended, decode_at, DecodesEncoded, Empty}
-use Rattle.handler_check.proofs.Words.{encode_of, Falls, false, FitsOperands, get_or, Gives, HandlerFault, Height}
-use Rattle.handler_check.proofs.Words.{if◌then◌else◌, IncExtended, inl, inr, Instr, is_some, is_trapped, IsAt, IsCut}
-use Rattle.handler_check.proofs.Words.{IsFault, IsFirstFault, IsHandler, IsIn, IsOutside, IsSome, IsWhole, length}
-use Rattle.handler_check.proofs.Words.{length-append, List, Memory, nat_lt, None, NotFree, Ok, Outside, Path}
-use Rattle.handler_check.proofs.Words.{place_of, rank, refl, Refused, Rti, size_of, Some, StaaExtended, StabExtended}
-use Rattle.handler_check.proofs.Words.{subst, suc, sym, Target, target, Trap, true, written_by, ℕ}
+use Rattle.handler_check.proofs.Words.{Bool, Branches, branches_to, byte_at, cases_lt, code_bytes, code_end, Dead}
+use Rattle.handler_check.proofs.Words.{decode_at, DecodesEncoded, Empty, encode_of, Falls, false, FitsOperands, get_or}
+use Rattle.handler_check.proofs.Words.{given, Gives, HandlerFault, Height, if◌then◌else◌, inl, inr, Instr, is_some}
+use Rattle.handler_check.proofs.Words.{is_trapped, IsAt, IsCut, IsFault, IsFirstFault, IsHandler, IsIn, IsOutside}
+use Rattle.handler_check.proofs.Words.{IsSome, IsWhole, Jumps, Kind, kind_of, length, length-append, List, Memory}
+use Rattle.handler_check.proofs.Words.{nat_lt, None, NotFree, Ok, Option, Outside, Path, place_of, rank, refl, Refused}
+use Rattle.handler_check.proofs.Words.{Rti, size_of, Some, subst, suc, sym, Target, target, targets, Trap, true}
+use Rattle.handler_check.proofs.Words.{Writes, writes, written_by, ℕ}
 use Rattle.std.specs.{Prelude.Result}
-use Rattle.cpu12_isa.specs.{declared.instr.Instr.TheVariants.MovbImmediate}
-use Rattle.cpu12_isa.specs.declared.instr.Instr.TheVariants.{MovbExtended}
 use Rattle.cpu12_emul.specs.Image.{byte_or_zero, image_memory, HoldsImage}
 use Rattle.handler_check.specs.Images.{HandlersHaveNoFault, FaultsAreOne, CountsAreOne}
 use Rattle.handler_check.proofs.{Decoding.size_low, Places.one_instr, Extents.none_not, FirstFaults.faultless}
@@ -164,15 +162,9 @@ handlers_have_no_fault decodes holds image other instrs f same k a = elim (sorts
 single : (x a b : ℕ) → IsIn (x ∷ []) a → IsIn (x ∷ []) b → a ≡ b
 single x a b v w = elim v [ inl e ↦ elim w [ inl f ↦ e ∙ sym f | inr k ↦ absurd k ] | inr k ↦ absurd k ]
 
-written_one : (i : Instr) (a b : ℕ) → IsIn (written_by i) a → IsIn (written_by i) b → a ≡ b
-written_one (StaaExtended at) a b v w = single at a b v w
-written_one (StabExtended at) a b v w = single at a b v w
-written_one (ClrExtended at) a b v w = single at a b v w
-written_one (IncExtended at) a b v w = single at a b v w
-written_one (DecExtended at) a b v w = single at a b v w
-written_one (MovbImmediate n at) a b v w = single at a b v w
-written_one (MovbExtended n at) a b v w = single at a b v w
-written_one i a b v w = absurd v
+written_one : (k : Option Kind) (a b : ℕ) → IsIn (given [] writes k) a → IsIn (given [] writes k) b → a ≡ b
+written_one (Some (Writes at)) a b v w = single at a b v w
+written_one k a b v w = absurd v
 
 target_one : (at to a b : ℕ) → IsIn (target at to) a → IsIn (target at to) b → a ≡ b
 target_one at to a b v w = cases (nat_lt to 128) v w
@@ -182,13 +174,11 @@ target_one at to a b v w = cases (nat_lt to 128) v w
     cases true v w = single (at + 2 + to) a b v w
     cases false v w = absurd v
 
-branch_one : (at : ℕ) (i : Instr) (a b : ℕ) → IsIn (branches_to at i) a → IsIn (branches_to at i) b → a ≡ b
-branch_one at (Beq to) a b v w = target_one at to a b v w
-branch_one at (Bne to) a b v w = target_one at to a b v w
-branch_one at (Bcc to) a b v w = target_one at to a b v w
-branch_one at (Bcs to) a b v w = target_one at to a b v w
-branch_one at (Bra to) a b v w = target_one at to a b v w
-branch_one at i a b v w = absurd v
+branch_one : (at : ℕ) (k : Option Kind) (a b : ℕ) → IsIn (given [] (targets at) k) a → IsIn (given [] (targets at) k) b
+    → a ≡ b
+branch_one at (Some (Branches to)) a b v w = target_one at to a b v w
+branch_one at (Some (Jumps to)) a b v w = target_one at to a b v w
+branch_one at k a b v w = absurd v
 
 one_kind : (is : List Instr) (t : Bool) (f g : HandlerFault) → rank f ≡ rank g → place_of f ≡ place_of g
     → Applies is t f → Applies is t g → f ≡ g
@@ -203,14 +193,14 @@ one_kind is t (Refused p) (Refused q) r s a b = ap (λ (n : ℕ). Refused n) s
 one_kind is t (Refused p) g r s a b = absurd (omega arith)
 one_kind is t (NotFree p x) (NotFree q y) r s a b =
     let j : b.0 ≡ a.0 = one_instr is p a.0 b.0 a.1.0 (subst (λ (n : ℕ). IsAt is n b.0) (sym s) b.1.0) in
-    let e : x ≡ y = written_one a.0 x y a.1.1 (subst (λ (k : Instr). IsIn (written_by k) y) j b.1.1) in
+    let e : x ≡ y = written_one (kind_of a.0) x y a.1.1 (subst (λ (k : Instr). IsIn (written_by k) y) j b.1.1) in
     cc
 one_kind is t (NotFree p x) g r s a b = absurd (omega arith)
 one_kind is t (Backward p) (Backward q) r s a b = ap (λ (n : ℕ). Backward n) s
 one_kind is t (Backward p) g r s a b = absurd (omega arith)
 one_kind is t (Target p x) (Target q y) r s a b =
     let j : b.0 ≡ a.0 = one_instr is p a.0 b.0 a.1.0 (subst (λ (n : ℕ). IsAt is n b.0) (sym s) b.1.0) in
-    let e : x ≡ y = branch_one p a.0 x y a.1.1
+    let e : x ≡ y = branch_one p (kind_of a.0) x y a.1.1
     (subst (λ (k : Instr). IsIn (branches_to p k) y) j
     (subst (λ (n : ℕ). IsIn (branches_to n b.0) y) (sym s) b.1.1)) in
     cc

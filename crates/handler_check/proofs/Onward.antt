@@ -1,10 +1,11 @@
 -- What is needed where one instruction is judged.
 use Rattle.handler_check.proofs.Words.{[], ◌+◌, ◌-◌, ◌<◌, ◌∙◌, ◌∷◌, ◌≡◌, ◌≤◌, AllFit, ap, AreFirsts, AreJudged, arith}
-use Rattle.handler_check.proofs.Words.{Bool, branches_to, code_end, Dead, falls_to, false, get_or, HandlerFault}
-use Rattle.handler_check.proofs.Words.{if◌then◌else◌, inl, inr, Instr, IsAccepted, IsAt, IsFirst, IsFirstFault, IsIn}
-use Rattle.handler_check.proofs.Words.{LdaaImmediate, leads, led_all, length, List, nat_le, nat_lt, nat_tests, None}
-use Rattle.handler_check.proofs.Words.{Option, PathSummary, refl, replicate, slice_get, Some, subst, suc, summary_at}
-use Rattle.handler_check.proofs.Words.{sym, Trap, true, unwrap_or, zero, ℕ}
+use Rattle.handler_check.proofs.Words.{Bool, branches_to, code_end, Dead, falls, falls_to, false, get_or, given}
+use Rattle.handler_check.proofs.Words.{HandlerFault, if◌then◌else◌, inl, inr, Instr, IsAccepted, IsAt, IsFirst}
+use Rattle.handler_check.proofs.Words.{IsFirstFault, IsIn, Kind, kind_of, LdaaImmediate, leads, led_all, length, List}
+use Rattle.handler_check.proofs.Words.{nat_le, nat_lt, nat_tests, None, Option, PathSummary, refl, replicate, Returns}
+use Rattle.handler_check.proofs.Words.{Rti, size_of, slice_get, Some, subst, suc, summary_at, sym, targets, Trap, true}
+use Rattle.handler_check.proofs.Words.{unwrap_or, zero, ℕ}
 use Rattle.std.specs.{Prelude.IfSome, Prelude.MatchOption}
 use Rattle.handler_check.specs.{PathSummaries.list_of}
 use Rattle.handler_check.proofs.{Places.below_end, Places.is_at-here, Marking.accepted_of}
@@ -19,6 +20,25 @@ to_within is trapped firsts None tos n t e f l = tt
 to_within is trapped firsts (Some at) tos n t e f l =
     let w = first_within is trapped firsts at t (f at (subst (λ (ts : List ℕ). IsIn ts at) e (inl refl))) in
     (w.0, omega (arith, w.1))
+
+-- where an instruction of a kind leads
+pub falls_of : (i : Instr) (kind : Kind) (at size : ℕ) (to : Option ℕ) → kind_of i ≡ Some kind → size ≡ size_of i
+    → list_of to ≡ falls (at + size) kind → list_of to ≡ falls_to at i
+falls_of i kind at size to k s e = e ∙ ap (λ (n : ℕ). falls (at + n) kind) s
+    ∙ ap (λ (o : Option Kind). given [] (falls (at + size_of i)) o) (sym k)
+
+pub branches_of : (i : Instr) (kind : Kind) (at : ℕ) (to : Option ℕ) → kind_of i ≡ Some kind
+    → list_of to ≡ targets at kind → list_of to ≡ branches_to at i
+branches_of i kind at to k e = e ∙ ap (λ (o : Option Kind). given [] (targets at) o) (sym k)
+
+-- RTI alone is of its kind
+pub rti_of : (i : Instr) → kind_of i ≡ Some Returns → i ≡ Rti
+rti_of Rti e = refl
+rti_of i e = absurd (let z : ⊥ = cc in z)
+
+pub returns_of : (i : Instr) (kind : Kind) → kind_of i ≡ Some kind → i ≡ Rti → kind ≡ Returns
+returns_of Rti kind k e = cc
+returns_of i kind k e = absurd (let z : ⊥ = cc in z)
 
 -- both summaries on
 pub on_both : (summaries mid later : ℕ → Option PathSummary) (at : ℕ) (i : Instr) (falls branch : Option ℕ)
@@ -80,7 +100,7 @@ behind_first is trapped best summaries at f e t m told = by (summaries at) refl 
         (trap_first is trapped best summaries summary (subst (λ (k : ℕ). AreJudged is trapped k best summaries) e m) t
         (ap summaries (sym e) ∙ w))
 
-some_code : (is : List Instr) → 16384 < code_end is → 0 < length is
+pub some_code : (is : List Instr) → 16384 < code_end is → 0 < length is
 some_code [] l = absurd (omega arith)
 some_code (i ∷ is) l = omega arith
 

@@ -12,7 +12,9 @@ pub use Rattle.handler_check.specs.Faults.{Applies, IsFirst, IsFirstFault, Meets
 pub use Rattle.handler_check.specs.Images.{Gives, IsCut, IsFault, IsHandler, IsOutside, IsWhole, is_trapped}
 pub use Rattle.handler_check.specs.Judging.{AreFirsts, AreJudged, Has, Passes}
 pub use Rattle.handler_check.specs.Paths.{FitsHeight, GoesForward, IsIn, Path, branches_to, falls_to, height_after}
-pub use Rattle.handler_check.specs.Paths.{is_allowed, leads, target, written_by}
+pub use Rattle.handler_check.specs.Paths.{Fits, IsForward, falls, given, height_behind, is_allowed, kind_of, leads}
+pub use Rattle.handler_check.specs.Paths.{target, targets, writes, written_by}
+pub use Rattle.handler_check.specs.declared.kinds.Kind.TheVariants.{Branches, Jumps, Pulls, Pushes, Returns, Writes}
 pub use Rattle.handler_check.specs.Running.{AcceptedIsTake, CanBegin, HandlersRunAsTakes, HasHandler, Returned}
 pub use Rattle.handler_check.specs.Running.{at_code, step_limit}
 pub use Rattle.handler_check.specs.declared.faults.HandlerFault.TheVariants.{Backward, Dead, Empty, Falls, Height}
@@ -34,6 +36,6 @@ pub use Rattle.cpu12_isa.specs.{declared.instr.Instr.Instr, declared.instr.Regs.
 pub use Rattle.cpu12_parts.specs.{Laws.IsOff, Laws.addresses, State.State, declared.temps.Temps.Temps}
 pub use Rattle.handler_check.specs.{Accepted.IsAccepted, Accepted.May, PathSummaries.IsSummary, PathSummaries.led_all}
 pub use Rattle.handler_check.specs.{PathSummaries.summary_at, declared.faults.HandlerFault.HandlerFault}
-pub use Rattle.handler_check.specs.{declared.path_summaries.PathSummary.PathSummary}
+pub use Rattle.handler_check.specs.{declared.path_summaries.PathSummary.PathSummary, declared.kinds.Kind.Kind}
 pub use Rattle.std.proofs.{Math.ListN.set, lemmas.Bool.Decides.nat_tests, lemmas.List.length-set}
 unfoldable pub use Rattle.handler_check.specs.{Running.until_rti}

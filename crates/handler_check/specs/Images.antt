@@ -70,3 +70,8 @@ FaultsAreOne = (image : List (ℕ × ℕ)) (f g : HandlerFault) → IsFault imag
 abbrev pub CountsAreOne : Type 0
 CountsAreOne = (image other : List (ℕ × ℕ)) (m n : ℕ) → ((at : ℕ) → byte_at image at ≡ byte_at other at)
     → IsHandler image m → IsHandler other n → m ≡ n
+
+-- Each image is an accepted handler or has a fault.
+abbrev pub EachImageIsJudged : Type 0
+EachImageIsJudged =
+    (image : List (ℕ × ℕ)) → ((instrs : ℕ) × IsHandler image instrs) ⊎ ((fault : HandlerFault) × IsFault image fault)

@@ -14,7 +14,7 @@ use cpu12_isa::laws::decodes_encoded;
 use cpu12_isa::mem::{FlatMem, Mem};
 use std::alloc::{AllocError, Global};
 
-/// The bytes from `$4000` on that have no gap, up to `$4FFF` at most, and the address behind them.
+/// The bytes from `$4000` on without a gap, up to `$4FFF` at most, and the address after them.
 fn run(alloc: Global, bytes: &ByteMap) -> Result<(ByteMap, u16), AllocError>
     ensures low { IfOk result (λ r. code_start ≤ r.1) }
     ensures high { IfOk result (λ r. r.1 ≤ code_limit) }
@@ -37,7 +37,7 @@ fn run(alloc: Global, bytes: &ByteMap) -> Result<(ByteMap, u16), AllocError>
     Ok((inside, at))
 }
 
-/// The address behind the bytes of an image that has bytes from `$4000` on and nowhere else.
+/// The address after the bytes of an image, if it has bytes from `$4000` on and nowhere else.
 fn end_of(alloc: Global, bytes: &ByteMap) -> Result<u16, HandlerFault>
     ensures run { IfOk result (IsRun bytes.now) }
     ensures fault { IfErr result (λ f. f ≢ HandlerFault.Memory → IsFault bytes.now f) }
@@ -55,7 +55,7 @@ fn end_of(alloc: Global, bytes: &ByteMap) -> Result<u16, HandlerFault>
     }
 }
 
-/// Checks the bytes that stand from `$4000` up to a place, once they stand in a memory.
+/// Checks the bytes from `$4000` up to a place, once they are in a memory.
 fn check_in<M: Mem>(
     alloc: Global,
     m: &mut M,
@@ -74,11 +74,11 @@ fn check_in<M: Mem>(
     }
 }
 
-/// Checks a handler: the bytes of an image, which stand from `$4000` to `$4FFF`. The answer is the greatest number of
-/// instructions on a path from `$4000` to an RTI, or the first fault. From every state whose SP leaves 24 bytes of the
-/// stack, behind WAV's sums where they run, with the image's bytes in memory and `$4000` in the interrupt's vector, an
-/// interrupt that runs these instructions comes to its RTI after at most so many steps, and leaves what an interrupt
-/// with some list of writes to free bytes leaves.
+/// Checks a handler: the bytes of an image, from `$4000` to at most `$4FFF`. Returns the greatest number of
+/// instructions on a path from `$4000` to an RTI, or the first fault. From every state whose SP leaves 24 bytes of
+/// the stack, after WAV's sums if they are running, with the image's bytes in memory and `$4000` in the
+/// interrupt's vector, an interrupt that runs these instructions reaches its RTI after at most that number of
+/// steps, and leaves what an interrupt with some list of writes to free bytes leaves.
 pub fn check_handler(alloc: Global, image: &Image) -> Result<Handler, HandlerFault>
     ensures accepted { IfOk result (λ h. IsHandler image.now.bytes h.instrs) }
     ensures fault { IfErr result (λ f. f ≢ HandlerFault.Memory → IsFault image.now.bytes f) }

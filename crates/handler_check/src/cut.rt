@@ -11,18 +11,19 @@ use cpu12_isa::instr::Instr;
 use cpu12_isa::mem::Mem;
 use std::alloc::{AllocError, Global};
 
-/// A handler's bytes, cut into instructions from `$4000` on.
+/// A handler's bytes, split into instructions from `$4000` on.
 #[derive(Drop)]
 pub(crate) struct Cut {
     pub(crate) code: Vec<Instr>,
-    /// For each byte whether an instruction begins with it. The byte at which the cut ends counts as a first one too.
+    /// For each byte whether an instruction begins with it. The byte at which the split ends counts as a first one
+    /// too.
     pub(crate) firsts: Vec<bool>,
-    /// Whether bytes stand behind the last instruction, with which none begins.
+    /// Whether there are bytes after the last instruction that begin none.
     pub(crate) trapped: bool,
 }
 
 impl Cut {
-    /// What the table has for a place.
+    /// The table's entry for a place.
     fn entry(&self, to: u16) -> bool
         requires { code_start ≤ to }
         ensures { result ≡ unwrap_or (slice_get self.now.firsts.items (to - code_start)) false }
@@ -59,7 +60,7 @@ impl Cut {
     }
 }
 
-/// The instruction that stands whole at a place, before another, and its size.
+/// The instruction that is complete at a place, before another place, and its size.
 fn whole_at<M: Mem>(m: &M, at: u16, end: u16) -> Option<(Instr, u16)>
     requires { at ≤ end }
     ensures stands { IfSome result (λ x. StandsAt (M.bytes m.now) at x.0) }
@@ -81,7 +82,7 @@ fn whole_at<M: Mem>(m: &M, at: u16, end: u16) -> Option<(Instr, u16)>
     }
 }
 
-/// The instructions from `$4000` up to a place, one behind the other, as long as they stand whole.
+/// The instructions from `$4000` up to a place, one after the other, as long as they are complete.
 pub(crate) fn cut_of<M: Mem>(alloc: Global, m: &M, end: u16) -> Result<Cut, AllocError>
     requires low { code_start ≤ end }
     requires high { end ≤ code_limit }

@@ -1,68 +1,66 @@
-//! The instructions of a handler, judged one after the other.
+//! The instructions of a handler, checked one after the other.
 ghost use Rattle.std.specs.Prelude.{◌≡◌, ◌≢◌, ◌⊎◌, ◌≤◌, ◌<◌, ◌+◌, ℕ, Some, false, IfOk, IfErr, IfSome, IfNone};
 ghost use Rattle.std.specs.Prelude.{MatchOption, length};
-ghost use Rattle.cpu12_isa.specs.declared.instr.Instr.TheVariants.{Rti};
 ghost use Rattle.handler_check.specs.Cut.{code_start, code_limit, size_of, AllFit, IsAt};
-ghost use Rattle.handler_check.specs.{Accepted.IsAccepted, Faults.IsFirstFault};
+ghost use Rattle.handler_check.specs.{Accepted.IsAccepted, Faults.IsFirstFault, Paths.kind_of};
 ghost use Rattle.handler_check.specs.Judging.{AreFirsts, AreJudged, Fails, Passes};
 ghost use Rattle.handler_check.specs.PathSummaries.{summary_at, IsSummary};
 
 use crate::cut::Cut;
 use crate::faults::{CODE_START, Handler, HandlerFault};
-use crate::kinds::{
-    branches_to, falls_to, fits_height, goes_back, height_after, is_return, may_stand, not_free,
-    size,
-};
+use crate::kinds::{Kind, kind_of, size};
 use crate::path_summaries::{PathSummaries, PathSummary};
 use cpu12_isa::instr::Instr;
 use std::alloc::Global;
 
-/// The first fault that applies to the instruction at a place whose paths have this summary.
-fn fault_at(cut: &Cut, at: u16, instr: Instr, summary: PathSummary) -> Option<HandlerFault>
+/// The kind of the instruction at a place whose paths have this summary, or the first fault that applies to it.
+fn kind_at(cut: &Cut, at: u16, instr: Instr, summary: PathSummary) -> Result<Kind, HandlerFault>
     requires table { AreFirsts cut.now.code.items cut.now.trapped cut.now.firsts.items }
     requires low { code_start ≤ at }
     requires high { at < code_limit }
     requires here { IsAt cut.now.code.items at instr }
     requires summary { IsSummary cut.now.code.items at summary }
-    ensures some { IfSome result (λ f. Fails cut.now.code.items cut.now.trapped at instr summary f) }
-    ensures none { IfNone result (Passes cut.now.code.items cut.now.trapped at instr summary 9) }
+    ensures kind { IfOk result (λ kind. kind_of instr ≡ Some kind) }
+    ensures passes { IfOk result (λ kind. Passes cut.now.code.items cut.now.trapped at instr summary 9) }
+    ensures fault { IfErr result (λ f. Fails cut.now.code.items cut.now.trapped at instr summary f) }
 {
-    if !may_stand(instr) {
-        return Some(HandlerFault::Refused(at));
+    let Some(kind) = kind_of(instr) else {
+        return Err(HandlerFault::Refused(at));
+    };
+    if let Some(to) = kind.not_free() {
+        return Err(HandlerFault::NotFree(at, to));
     }
-    if let Some(to) = not_free(instr) {
-        return Some(HandlerFault::NotFree(at, to));
+    if kind.goes_back() {
+        return Err(HandlerFault::Backward(at));
     }
-    if goes_back(instr) {
-        return Some(HandlerFault::Backward(at));
+    if let Some(to) = cut.missing(kind.branches_to(at)) {
+        return Err(HandlerFault::Target(at, to));
     }
-    if let Some(to) = cut.missing(branches_to(at, instr)) {
-        return Some(HandlerFault::Target(at, to));
+    if summary.meets || !kind.fits_height(summary.height) {
+        return Err(HandlerFault::Height(at));
     }
-    if summary.meets || !fits_height(instr, summary.height) {
-        return Some(HandlerFault::Height(at));
-    }
-    match cut.missing(falls_to(at, instr)) {
-        Some(_) => Some(HandlerFault::Falls(at)),
-        None => None,
+    match cut.missing(kind.falls_to(at + size(&instr))) {
+        Some(_) => Err(HandlerFault::Falls(at)),
+        None => Ok(kind),
     }
 }
 
-/// The greatest number of instructions on a path to an RTI, where one of so many ends if the instruction is one.
-fn longest(instr: Instr, best: u32, most: u32) -> u32
+/// The greatest number of instructions on a path to an RTI: `best` so far, and `most` on a path that ends here if the
+/// instruction is one.
+fn longest(kind: Kind, best: u32, most: u32) -> u32
     ensures over { best ≤ result }
-    ensures few { instr ≡ Rti → most ≤ result }
-    ensures one { (result ≡ best) ⊎ ((instr ≡ Rti) × (most ≡ result)) }
+    ensures few { kind ≡ Kind.Returns → most ≤ result }
+    ensures one { (result ≡ best) ⊎ ((kind ≡ Kind.Returns) × (most ≡ result)) }
 {
-    if is_return(instr) && best < most {
+    if matches!(kind, Kind::Returns) && best < most {
         most
     } else {
         best
     }
 }
 
-/// Judges the instruction at a place: where no fault applies, the paths to it lead on, and the answer is the greatest
-/// number of instructions on a path to an RTI so far.
+/// Checks the instruction at a place: if no fault applies, the paths to it continue, and the result is the
+/// greatest number of instructions on a path to an RTI so far.
 fn judge_one(
     cut: &Cut,
     summaries: &mut PathSummaries,
@@ -85,21 +83,18 @@ fn judge_one(
         Some(summary) => summary,
         None => return Err(HandlerFault::Dead(at)),
     };
-    match fault_at(cut, at, instr, summary) {
-        Some(fault) => return Err(fault),
-        None => {}
-    }
+    let kind = kind_at(cut, at, instr, summary)?;
     let next = PathSummary {
-        height: height_after(instr, summary.height),
+        height: kind.height_after(summary.height),
         most: summary.most + 1,
         meets: false,
     };
-    summaries.lead(falls_to(at, instr), next);
-    summaries.lead(branches_to(at, instr), next);
-    Ok(longest(instr, best, next.most))
+    summaries.lead(kind.falls_to(at + size(&instr)), next);
+    summaries.lead(kind.branches_to(at), next);
+    Ok(longest(kind, best, next.most))
 }
 
-/// The summaries before any instruction is judged: a path of no instruction leads to `$4000`.
+/// The summaries before any instruction is checked: a path of no instruction leads to `$4000`.
 fn first_summaries(alloc: Global, cut: &Cut) -> Result<PathSummaries, HandlerFault>
     requires { 0 < length cut.now.firsts.items }
     ensures judged { IfOk result (λ summaries. AreJudged cut.now.code.items cut.now.trapped code_start 0
@@ -120,7 +115,7 @@ fn first_summaries(alloc: Global, cut: &Cut) -> Result<PathSummaries, HandlerFau
     Ok(summaries)
 }
 
-/// The first fault at the place behind the last instruction, where bytes stand.
+/// The first fault at the place after the last instruction, if there are bytes.
 fn fault_behind(summaries: &PathSummaries, at: u16) -> HandlerFault
     requires { code_start ≤ at }
     ensures { MatchOption (summary_at summaries.now.places.items at) (result ≡ HandlerFault.Dead at)
@@ -132,7 +127,7 @@ fn fault_behind(summaries: &PathSummaries, at: u16) -> HandlerFault
     }
 }
 
-/// Judges a cut of one byte at least.
+/// Checks a split of at least one byte.
 pub(crate) fn judge(alloc: Global, cut: &Cut) -> Result<Handler, HandlerFault>
     requires table { AreFirsts cut.now.code.items cut.now.trapped cut.now.firsts.items }
     requires fits { AllFit cut.now.code.items }

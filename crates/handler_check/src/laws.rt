@@ -1,12 +1,12 @@
 //! Laws of handlers.
-ghost use Rattle.handler_check.specs.Images.{HandlersHaveNoFault, FaultsAreOne, CountsAreOne};
+ghost use Rattle.handler_check.specs.Images.{HandlersHaveNoFault, FaultsAreOne, CountsAreOne, EachImageIsJudged};
 ghost use Rattle.handler_check.specs.Running.{AcceptedIsTake, HandlersRunAsTakes, HandlersAreQuiet, HandlersAreShort};
 
 use cpu12_emul::laws::{holds_image, plain_is_step, takes_quietly};
 use cpu12_isa::laws::{decodes_encoded, writes_agree};
 use cpu12_parts::laws::wav_suspends;
 
-/// Accepted code, entered where no sums run, leaves what some writes to free bytes leave.
+/// Accepted code, entered while no sums are running, leaves what some writes to free bytes leave.
 pub fn accepted_is_take()
     ensures { AcceptedIsTake }
 {
@@ -24,7 +24,7 @@ pub fn handlers_run_as_takes()
     wav_suspends();
 }
 
-/// An accepted handler is quiet beside the run without interrupts, whatever is open there.
+/// An accepted handler is quiet relative to the run without interrupts, whatever is open there.
 pub fn handlers_are_quiet()
     ensures { HandlersAreQuiet }
 {
@@ -32,12 +32,12 @@ pub fn handlers_are_quiet()
     takes_quietly();
 }
 
-/// A path of a handler has at most 4096 instructions, the limit of the steps that are done up to an RTI.
+/// A path of a handler has at most 4096 instructions, the limit on the steps to an RTI.
 pub fn handlers_are_short()
     ensures { HandlersAreShort }
 {}
 
-/// Where an image is an accepted handler, no image with the same bytes has a fault.
+/// If an image is an accepted handler, no image with the same bytes has a fault.
 pub fn handlers_have_no_fault()
     ensures { HandlersHaveNoFault }
 {
@@ -45,11 +45,19 @@ pub fn handlers_have_no_fault()
     holds_image();
 }
 
-/// An image has one first fault, and handlers with the same bytes have one greatest number of instructions.
+/// An image has only one first fault, and handlers with the same bytes have the same greatest number of
+/// instructions.
 pub fn answers_are_one()
     ensures faults { FaultsAreOne }
     ensures counts { CountsAreOne }
 {
     decodes_encoded();
     holds_image();
+}
+
+/// Each image is an accepted handler or has a fault.
+pub fn each_image_is_judged()
+    ensures { EachImageIsJudged }
+{
+    decodes_encoded();
 }

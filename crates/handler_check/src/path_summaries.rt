@@ -6,8 +6,8 @@ ghost use Rattle.handler_check.specs.PathSummaries.{summary_at, join, led_all, l
 use crate::faults::CODE_START;
 use std::alloc::{AllocError, Global};
 
-/// What is known of the paths to a place: the bytes that they leave pushed, the greatest number of instructions on
-/// one, and whether two of them leave different numbers of bytes; then the first two numbers tell nothing.
+/// What is known of the paths to a place: how many bytes they leave pushed, the greatest number of instructions on
+/// one, and whether two of them leave different numbers of bytes; if so, the first two numbers mean nothing.
 #[derive(Clone, Copy, Drop)]
 pub(crate) struct PathSummary {
     pub(crate) height: u8,
@@ -15,13 +15,13 @@ pub(crate) struct PathSummary {
     pub(crate) meets: bool,
 }
 
-/// The summary of the paths to each place from `$4000` on that some path leads to.
+/// The summary of the paths to each place from `$4000` on that some path reaches.
 #[derive(Drop)]
 pub(crate) struct PathSummaries {
     pub(crate) places: Vec<Option<PathSummary>>,
 }
 
-/// The summary of the old paths, if there are any, and of one more path.
+/// The summary of the previous paths, if there are any, and of one more path.
 fn joined(old: Option<PathSummary>, summary: PathSummary) -> PathSummary
     ensures { result ≡ join old summary }
 {
@@ -40,7 +40,7 @@ fn joined(old: Option<PathSummary>, summary: PathSummary) -> PathSummary
 }
 
 impl PathSummaries {
-    /// No path to any of so many places.
+    /// No path to any of this many places.
     pub(crate) fn new(alloc: Global, places: usize) -> Result<PathSummaries, AllocError>
         ensures { IfOk result (λ summaries. summaries.places.items ≡ replicate places None) }
     {
@@ -60,7 +60,7 @@ impl PathSummaries {
         }
     }
 
-    /// One more path, with this summary, leads to a place, if there is one.
+    /// Adds a path with this summary to a place, if there is one.
     pub(crate) fn lead(&mut self, to: Option<u16>, summary: PathSummary)
         requires { IfSome to (λ at. (code_start ≤ at) × (at < code_start + length self.old.places.items)) }
         ensures summaries { (q : ℕ) → summary_at self.new.places.items q
