@@ -1,4 +1,4 @@
-//! Parts of REV and REVW that are done at once, where nothing comes at the boundaries between them.
+//! Parts of REV and REVW that are done at once, where no interrupt comes at the boundaries between them.
 ghost use Rattle.std.specs.Prelude.{◌≡◌, ◌≤◌, ◌<◌, ◌+◌, ◌^◌, List, drop};
 ghost use Rattle.cpu12_parts.specs.State.{State};
 ghost use Rattle.run_forms.specs.Forms.{moment_in};
@@ -9,7 +9,7 @@ use crate::form::SampleForm;
 use cpu12_emul::machine::Machine;
 use cpu12_isa::mem::Mem;
 
-/// How many steps may be done before the next request is due: as many as are left, where none is.
+/// How many steps may be done before the next request is due: as many as are left, if there is none.
 #[inline(always)]
 fn steps_alone<A, U, R, F: SampleForm<A, U, R>>(
     form: &F,
@@ -33,7 +33,7 @@ fn steps_alone<A, U, R, F: SampleForm<A, U, R>>(
     st.left
 }
 
-/// Counts parts at whose ends nothing is taken.
+/// Counts parts after which no request is taken.
 #[inline(always)]
 fn count_parts<U>(st: &mut SampleState<U>, done: u32)
     requires left { done ≤ st.old.left }
@@ -44,7 +44,7 @@ fn count_parts<U>(st: &mut SampleState<U>, done: u32)
     st.left -= done;
 }
 
-/// Inside REV or REVW, does the parts that the machine does at once from here, if nothing comes at their ends.
+/// Inside REV or REVW, does the parts that the machine can do at once from here, if no request is due after them.
 #[inline(always)]
 pub(crate) fn pass_parts<M: Mem, A, U, R, F: SampleForm<A, U, R>>(
     m: &mut Machine<M>,

@@ -1,5 +1,5 @@
-//! A boundary of a sample: what is taken there, and the step after it. What is done at each is inlined into the loop
-//! over all of them, what is seldom done is not.
+//! A boundary of a sample: what is taken there, and the step after it. What is done at each boundary is inlined
+//! into the loop over all of them; what is seldom done is not.
 ghost use Rattle.std.specs.Prelude.{ℕ, ◌≡◌, ◌≤◌, ◌<◌, ◌+◌, ◌-◌, ◌&&◌, nat_lt};
 ghost use Rattle.std.specs.Prelude.{◌^◌, All, true, false, Ok, Err, length};
 ghost use Rattle.cpu12_emul.specs.{declared.ends.Stepped.Stepped as Kind, Step.next_of, Step.is_part};
@@ -12,7 +12,7 @@ use crate::sample::{Counts, take_due};
 use cpu12_emul::machine::Machine;
 use cpu12_isa::mem::Mem;
 
-/// Where a sample's run stands, with what was counted of it.
+/// Where a sample's run is, with what was counted of it.
 #[derive(Drop)]
 pub struct SampleState<U> {
     /// What was counted.
@@ -31,7 +31,8 @@ fn one_if(b: bool) -> u32
     if b { 1 } else { 0 }
 }
 
-/// 1 at a boundary inside an instruction where requests are taken, which leads from request `before` to `next`, else 0.
+/// 1 if requests are taken at this boundary, from request `before` up to `next`, and it is inside an instruction,
+/// else 0.
 #[inline(always)]
 fn resumed_here(inside: bool, before: usize, next: usize) -> u32
     ensures one { result ≡ one_if (inside && nat_lt before next) }
@@ -40,8 +41,8 @@ fn resumed_here(inside: bool, before: usize, next: usize) -> u32
     if inside && before < next { 1 } else { 0 }
 }
 
-/// Comes to a boundary: the sample is over where the firmware waits or no step is left, else what is
-/// due is taken.
+/// Arrives at a boundary: the sample is over if the firmware waits or no step is left, else the requests that are
+/// due are taken.
 #[inline(always)]
 pub(crate) fn come<M: Mem, A, U, R, F: SampleForm<A, U, R>>(
     m: &mut Machine<M>,
@@ -84,7 +85,7 @@ pub(crate) fn come<M: Mem, A, U, R, F: SampleForm<A, U, R>>(
     st.left -= 1;
 }
 
-/// Does a step from a boundary. Answers whether one was defined.
+/// Does a step from a boundary. Returns whether the step was defined.
 #[inline(always)]
 pub(crate) fn step_on<M: Mem, U>(m: &mut Machine<M>, st: &mut SampleState<U>) -> bool
     requires on { st.old.over ≡ false }
@@ -118,7 +119,7 @@ pub(crate) fn step_on<M: Mem, U>(m: &mut Machine<M>, st: &mut SampleState<U>) ->
     }
 }
 
-/// Goes on to the next boundary of the sample. Answers whether there is one.
+/// Advances to the next boundary of the sample. Returns whether there is one.
 #[inline(always)]
 pub(crate) fn pass<M: Mem, A, U, R, F: SampleForm<A, U, R>>(
     m: &mut Machine<M>,

@@ -11,14 +11,14 @@ use cpu12_isa::mem::Mem;
 use fz_list::Memory;
 use std::alloc::Global;
 
-/// What the run of a sample needs of a form, with the handler of its requests: requests are of type `A`, notes of them
-/// of type `U`, and runs of samples have rows of type `R`. No call changes the byte from which open flags are taken,
-/// nor what the memory notes.
+/// What the run of a sample needs of a form, with the handler of its requests: requests are of type `A`, notes of
+/// them of type `U`, and runs of samples have rows of type `R`. No call changes the byte from which open flags are
+/// taken, nor what the memory notes.
 pub trait SampleForm<A, U, R> {
     /// What the firmware is given.
     ghost Given: { Type 0 };
 
-    /// What is seen of what a handler tells.
+    /// What is seen of a handler's report.
     ghost Told: { Type 0 };
 
     /// What a row shows.
@@ -27,13 +27,13 @@ pub trait SampleForm<A, U, R> {
     /// The samples, the parts of the form, and what rows show.
     ghost harness: { Self → Harness A U R Given Told Shown };
 
-    /// That there is room for notes of so many requests more.
+    /// There is room for the notes of this many more requests.
     ghost fits: { U → ℕ → Type 0 };
 
     /// Which requests its handler can serve.
     ghost serves: { Self → A → Type 0 };
 
-    /// Whether a sample is over where so many of its steps were done.
+    /// Whether a sample is over once this many of its steps were done.
     fn ends<M: Mem>(&self, m: &Machine<M>, moment: u32) -> bool
         ensures { result ≡ (harness self.now).parts.ends moment m.now.state };
 
@@ -42,12 +42,12 @@ pub trait SampleForm<A, U, R> {
         ensures { result ≡ true → (k : ℕ) (s : State) → s.regs.pc ≡ m.now.state.regs.pc
             → s.regs.sp ≡ m.now.state.regs.sp → (harness self.now).parts.ends k s ≡ false };
 
-    /// The sample of a request, counted from 1, and the moment in it from which on it is due.
+    /// The sample of a request, counted from 1, and the moment in it from which the request is due.
     fn place(&self, request: &A) -> (u32, u32)
         ensures { result ≡ (harness self.now).parts.place request.now };
 
-    /// Takes the interrupt of a request, from the push of the frame to the return, after so many steps, and notes what
-    /// it pushed and what its handler tells.
+    /// Takes the interrupt of a request, from the push of the frame to the return, `moment` steps into the sample,
+    /// and notes what it pushed and what its handler reports.
     fn take<M: Mem>(&self, m: &mut Machine<M>, request: &A, moment: u32, notes: &mut U)
         requires open { IsTrue (may_interrupt m.old.state) }
         requires served { serves self.now request.now }
@@ -79,7 +79,7 @@ pub trait RunForm<A, U, R>: SampleForm<A, U, R> {
         ensures noted { m.new.noted ≡ m.old.noted }
         ensures flags { m.new.flags ≡ m.old.flags };
 
-    /// Takes sample `k` away, which ends here.
+    /// Takes sample `k` away, whose run ends here.
     fn leave<M: Mem>(&self, m: &mut Machine<M>, k: usize)
         requires { k < length (Self.harness self.now).samples }
         ensures state { (x : Self.Given) → slice_get (Self.harness self.now).samples k ≡ Some x
@@ -87,13 +87,13 @@ pub trait RunForm<A, U, R>: SampleForm<A, U, R> {
         ensures noted { m.new.noted ≡ m.old.noted }
         ensures flags { m.new.flags ≡ m.old.flags };
 
-    /// Room for notes of so many requests.
+    /// Room for notes of this many requests.
     fn room(&self, alloc: Global, count: usize) -> Result<U, Memory>
         ensures frames { IfOk result (λ room. (Self.harness self.now).notes.frames room ≡ []) }
         ensures told { IfOk result (λ room. (Self.harness self.now).notes.told room ≡ []) }
         ensures fits { IfOk result (λ room. count ≤ 10000 → Self.fits room count) };
 
-    /// The row of sample `k`, which ends here, and of which this was counted.
+    /// The row of sample `k`, whose run ends here with these counts.
     fn row<M: Mem>(&self, m: &Machine<M>, k: usize, counts: Counts<U>) -> R
         requires sample { k < length (Self.harness self.now).samples }
         requires few { (n : ℕ) × Self.fits counts.notes n }

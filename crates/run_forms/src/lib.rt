@@ -1,17 +1,16 @@
 //! The run of any form of firmware over its samples, under a plan of interrupts.
 //!
-//! A [`RunForm`] says of which samples a run is, how they are given and taken away, what serves a
-//! request, and what a row shows. [`run_form`] resets the machine, brings the code to where it waits and
-//! gives it one sample after the other; a request is taken at the first boundary between two steps, at
-//! or after its moment, where interrupts are allowed. It answers a row for each sample and the memory of
-//! the last state.
+//! A [`RunForm`] states which samples a run has, how they are given and taken away, what serves a request, and
+//! what a row shows. [`run_form`] resets the machine, runs the code to where it waits and gives it one sample
+//! after the other; a request is taken at the first boundary between two steps, at or after its moment, where
+//! interrupts are allowed. It returns a row for each sample and the memory of the last state.
 //!
-//! The rows and the memory are exactly those of the run's definition over the machine's steps and
-//! interrupts, for every form and all requests in order: a run that meets a byte that is no instruction,
-//! or that spends its bound on steps, ends where it stands. All memory is taken before the first step.
+//! The rows and the memory are exactly those of the run's definition over the machine's steps and interrupts, for
+//! every form and all requests in order: a run that reaches a byte that is no instruction, or that uses up its
+//! bound on steps, ends there. All memory is allocated before the first step.
 //!
-//! [`begun`], [`advance`], [`drive`] and [`into_rows`] are the same run by hand: it stands at each
-//! boundary in turn.
+//! [`begun`], [`advance`], [`drive`] and [`into_rows`] are the same run by hand: it stops at each boundary in
+//! turn.
 #![tactic(auto)]
 
 mod at_once;

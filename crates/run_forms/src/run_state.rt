@@ -1,4 +1,4 @@
-//! A run under way, sample after sample.
+//! A run in progress, sample by sample.
 ghost use Rattle.std.specs.Prelude.{ℕ, ◌≡◌, ◌≤◌, ◌<◌, ◌+◌, ◌-◌, ◌^◌, List};
 ghost use Rattle.std.specs.Prelude.{[], All, true, false, length, map, drop, vec_len, vec_capacity};
 ghost use Rattle.cpu12_parts.specs.State.{State};
@@ -17,10 +17,10 @@ use cpu12_isa::mem::Mem;
 use std::collections::VecDeque;
 use std::mem;
 
-/// Where a run under way stands, with the rows of the samples before and the room that is left.
+/// Where a run in progress is, with the rows of the samples before and the room that is left.
 #[derive(Drop)]
 pub struct RunState<U, R> {
-    /// Where the run of the last sample that was given stands.
+    /// Where the run of the sample given last is.
     pub sample: SampleState<U>,
     /// How many steps a sample may take at most.
     pub most: u32,
@@ -30,7 +30,7 @@ pub struct RunState<U, R> {
     pub first: usize,
     /// Where those of the next begin.
     pub behind: usize,
-    /// Room for what the requests of each sample that is left push and tell.
+    /// Room for what the requests of each remaining sample push and report.
     pub rooms: VecDeque<U>,
     /// The rows of the samples before.
     pub rows: Vec<R>,
@@ -67,8 +67,7 @@ pub fn fresh_sample<U>(budget: u32, notes: U) -> SampleState<U>
     }
 }
 
-/// Takes sample `number` away, which ends here, and puts its row behind those before. There is none of
-/// number 0.
+/// Takes sample `number` away, whose run ends here, and appends its row to those before. There is no sample 0.
 fn end_sample<M: Mem, A, U: Drop, R, F: RunForm<A, U, R>>(
     m: &mut Machine<M>,
     form: &F,
@@ -100,7 +99,7 @@ fn end_sample<M: Mem, A, U: Drop, R, F: RunForm<A, U, R>>(
     form.leave(m, number - 1);
 }
 
-/// Gives the next sample, and comes to its first boundary.
+/// Gives the next sample, and arrives at its first boundary.
 #[inline(never)]
 fn give_next<M: Mem, A, U: Drop, R, F: RunForm<A, U, R>>(
     m: &mut Machine<M>,
@@ -131,7 +130,7 @@ fn give_next<M: Mem, A, U: Drop, R, F: RunForm<A, U, R>>(
     come(m, form, &plan[p.first..p.behind], &mut p.sample);
 }
 
-/// Goes on to the next position of the run. Answers whether there is one.
+/// Advances to the next position of the run. Returns whether there is one.
 #[inline(always)]
 pub fn advance<M: Mem, A, U: Drop, R, F: RunForm<A, U, R>>(
     m: &mut Machine<M>,
@@ -200,7 +199,7 @@ pub(crate) fn before_samples<A, U, R, F: RunForm<A, U, R>>(
     }
 }
 
-/// Comes to the first position of a run, from before the first sample.
+/// Arrives at the first position of a run, from before the first sample.
 pub(crate) fn begin<M: Mem, A, U: Drop, R, F: RunForm<A, U, R>>(
     m: &mut Machine<M>,
     form: &F,
@@ -223,7 +222,7 @@ pub(crate) fn begin<M: Mem, A, U: Drop, R, F: RunForm<A, U, R>>(
     advance(m, form, plan, p);
 }
 
-/// Goes on to the last position.
+/// Advances to the last position.
 pub fn drive<M: Mem, A, U: Drop, R, F: RunForm<A, U, R>>(
     m: &mut Machine<M>,
     form: &F,

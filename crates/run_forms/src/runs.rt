@@ -1,5 +1,5 @@
 //! The run of any form over its samples under a plan.
-ghost use Rattle.std.specs.Prelude.{ℕ, ◌≡◌, ◌≤◌, ◌+◌, [], All, length, map, IfOk};
+ghost use Rattle.std.specs.Prelude.{ℕ, ◌≡◌, ◌≤◌, ◌+◌, [], All, length, map, IfOk, vec_capacity};
 ghost use Rattle.cpu12_isa.specs.Watching.{nothing_noted};
 ghost use Rattle.run_forms.specs.Rows.{arrival, arrived_at, frames_seen, harness_rows, shown};
 ghost use Rattle.run_forms.specs.{Rooms.Fits, Slices.HaveRoom, Slices.IsInOrder, Slices.requests_first};
@@ -18,17 +18,17 @@ use std::collections::VecDeque;
 /// Where a run begins, and how long its samples may take.
 #[derive(Drop)]
 pub struct Start<'a> {
-    /// What stands in memory at reset.
+    /// The contents of memory at reset.
     pub image: &'a Image,
     /// The address at which its code waits for a sample.
     pub wait: u16,
-    /// How many steps may lead there, and how many a sample may take at most.
+    /// How many steps it may take to get there, and how many a sample may take at most.
     pub most: u32,
 }
 
-/// Runs a form over its samples under requests in order, and answers a row for each sample and the memory of the
-/// last state. Bits of `flags` give the flags that the CPU12 Reference Manual leaves undefined. All
-/// memory is taken before the first step, and want of it is the one error.
+/// Runs a form over its samples under requests in order, and returns a row for each sample and the memory of the
+/// last state. Bits of `flags` supply the flags that the CPU12 Reference Manual leaves undefined. All memory is
+/// allocated before the first step, and lack of memory is the only error.
 pub fn run_form<M: Mem, A, U: Drop, R: Drop, F: RunForm<A, U, R>>(
     alloc: Global,
     form: &F,
@@ -51,7 +51,7 @@ pub fn run_form<M: Mem, A, U: Drop, R: Drop, F: RunForm<A, U, R>>(
     Ok((rows, machine.into_mem()))
 }
 
-/// A machine and a run at its first position. All memory is taken here.
+/// A machine and a run at its first position. All memory is allocated here.
 pub fn begun<M: Mem, A, U: Drop, R: Drop, F: RunForm<A, U, R>>(
     alloc: Global,
     form: &F,
@@ -83,7 +83,7 @@ pub fn begun<M: Mem, A, U: Drop, R: Drop, F: RunForm<A, U, R>>(
     Ok((machine, run_state))
 }
 
-/// Does steps until PC is at LOOP, at most `budget` and as long as one is defined.
+/// Does steps until PC is at LOOP, at most `budget` of them, and while steps are defined.
 fn arrive<M: Mem>(m: &mut Machine<M>, loop_at: u16, budget: u32)
     ensures state { m.new.state ≡ arrival m.old.flags loop_at budget m.old.state }
     ensures noted { m.new.noted ≡ m.old.noted }
@@ -101,7 +101,7 @@ fn arrive<M: Mem>(m: &mut Machine<M>, loop_at: u16, budget: u32)
     }
 }
 
-/// How many of these requests, from the first on, are of sample `k`.
+/// How many of these requests, from the first on, belong to sample `k`.
 pub(crate) fn count_of<A, U, R, F: RunForm<A, U, R>>(form: &F, requests: &[A], k: usize) -> usize
     ensures { result ≡ length (requests_first (F.harness form.now).parts.place k requests.now) }
 {
@@ -115,10 +115,12 @@ pub(crate) fn count_of<A, U, R, F: RunForm<A, U, R>>(form: &F, requests: &[A], k
     count
 }
 
-/// Room for what so many requests push and tell.
+/// Room for what this many requests push and report.
 pub fn room_for<U: Drop>(alloc: Global, count: usize) -> Result<Notes<U>, Memory>
     ensures frames { IfOk result (λ room. frames_seen room.frames.items ≡ []) }
     ensures told { IfOk result (λ room. room.told.items ≡ []) }
+    ensures capacity { IfOk result (λ room.
+        (count ≤ vec_capacity room.frames) × (count ≤ vec_capacity room.told)) }
     ensures fits { IfOk result (λ room. count ≤ 10000 → Fits room count) }
 {
     let Ok(frames) = Vec::with_capacity(alloc, count) else {

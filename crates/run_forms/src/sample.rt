@@ -10,12 +10,12 @@ use cpu12_emul::ends::Frame;
 use cpu12_emul::machine::Machine;
 use cpu12_isa::mem::Mem;
 
-/// What the requests of a sample push and tell, in room that is taken before its first step.
+/// What the requests of a sample push and report, in room that is allocated before its first step.
 #[derive(Drop)]
 pub struct Notes<U> {
     /// What each interrupt pushes, with its boundary.
     pub frames: Vec<(u32, Frame)>,
-    /// What each handler tells.
+    /// What each handler reports.
     pub told: Vec<U>,
 }
 
@@ -26,11 +26,11 @@ pub struct Counts<U> {
     pub arrived: bool,
     /// How many steps were done.
     pub moment: u32,
-    /// Whether the last of them was a part of an instruction that goes on.
+    /// Whether the last of them was a part of an instruction that is not complete.
     pub inside: bool,
     /// How many requests were taken.
     pub next: usize,
-    /// How many steps were plain or last parts.
+    /// How many steps were plain instructions or last parts.
     pub instrs: u32,
     /// At how many boundaries inside an instruction an interrupt was taken.
     pub resumed: u32,
@@ -39,7 +39,7 @@ pub struct Counts<U> {
 }
 
 impl<U> Notes<U> {
-    /// Notes what an interrupt pushed after so many steps, and what its handler tells.
+    /// Notes what an interrupt pushed at boundary `moment`, and what its handler reports.
     pub fn put(&mut self, moment: u32, frame: Frame, told: U)
         requires room { (n : ℕ) × Fits self.old (n + 1) }
         ensures frames { frames_seen self.new.frames.items

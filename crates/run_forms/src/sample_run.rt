@@ -9,9 +9,9 @@ use crate::form::SampleForm;
 use cpu12_emul::machine::Machine;
 use cpu12_isa::mem::Mem;
 
-/// Goes on from a boundary of a sample to its end, under requests in order. The machine may be in any state there, and
-/// so much may have been counted before, in room that is the caller's. What is counted then, and which requests are
-/// left, is exactly what the run's definition says.
+/// Continues from a boundary of a sample to its end, under requests in order. The machine may be in any state
+/// there; counts of what was done before, and room for the rest, are the caller's. What is counted then, and which
+/// requests are left, is exactly what the run's definition states.
 pub fn run_sample<M: Mem, A, U, R, F: SampleForm<A, U, R>>(
     m: &mut Machine<M>,
     form: &F,
