@@ -4,7 +4,7 @@ use Rattle.two_level_runs.proofs.Words.{Block, Byte, bytes_at, bytes_of, counted
 use Rattle.two_level_runs.proofs.Words.{FollowsInside, frames_of, from, HasAnswers, image_memory, is_open_to_fast}
 use Rattle.two_level_runs.proofs.Words.{IsFastRun, IsReadOff, length, Level, List, max, plus, Ran, refl, resumed_of}
 use Rattle.two_level_runs.proofs.Words.{seen_of, slice_index, State, subst, suc, sym, taken_at, Two, [], ap₂, map}
-use Rattle.two_level_runs.proofs.Words.{zero, ℕ, ◌∷◌}
+use Rattle.two_level_runs.proofs.Words.{true, zero, ℕ, ◌∷◌}
 use Rattle.eval_code.specs.{Widths.answer}
 use Rattle.two_level_code.specs.{Running.IsEntered}
 use Rattle.two_level_runs.specs.{Answering.run_of_level}
@@ -73,8 +73,8 @@ read_off b two flags fast l before slow v t from to room begins enters r inside 
           ∙ ap (λ (moment : ℕ → ℕ). frames_of flags moment s l.inner.items (suc r.further)) moments
           ∙ ap (λ (n : ℕ). frames_of flags (λ m. max 1 m) s l.inner.items n) (sym follows.steps);
       stack = inside.stack;
-      below = λ first. subst (λ (sp : ℕ). AreBelow sp (run_of_level b two flags fast l v).frames)
-          (sym (frame_at first slow v.regs room begins.regs)) inside.below;
+      below = subst (λ (sp : ℕ). AreBelow sp (run_of_level b two flags fast l v).frames)
+          (sym (frame_at true slow v.regs room begins.regs)) inside.below;
       follows = subst
           (λ (n : ℕ). FollowsInside flags (length b.outputs) (fast_most two.fast.step_bound) l.inner.items n s)
           (sym follows.steps) inside;

@@ -1,6 +1,6 @@
 -- What runs at two levels answer.
 -- Beside the promise.
-use Rattle.std.specs.Prelude.{◌≡◌, ℕ, suc, ◌^◌, ◌<◌, ◌≤◌, max, Bool, true, Option, None, Some, List, [], ◌∷◌, length}
+use Rattle.std.specs.Prelude.{◌≡◌, ℕ, suc, ◌^◌, ◌<◌, ◌≤◌, max, true, Option, None, Some, List, [], ◌∷◌, length}
 use Rattle.std.specs.Prelude.{map, All, filter_map, flat_map}
 use Rattle.fuzzy_meaning.specs.{declared.block.Block.Block, Blocks.IsValid}
 use Rattle.rule_layout.specs.Layouts.{IsWithinLimits}
@@ -87,7 +87,7 @@ pub record IsReadOff (b : Block) (two : Two) (flags : ℕ) (fast : List (List �
   pub frames : f.frames
       ≡ frames_of flags (λ m. max 1 m) (entered (bytes_of fast l.fast) interrupted) l.inner.items f.steps
   pub stack : AreOnStack f.frames
-  pub below : (first : Bool) → AreBelow (expected_frame first slow).sp f.frames
+  pub below : AreBelow (expected_frame true slow).sp f.frames
   pub follows : FollowsInside flags (length b.outputs) (fast_most two.fast.step_bound) l.inner.items f.steps
       (entered (bytes_of fast l.fast) interrupted)
 

@@ -39,8 +39,8 @@ pub(crate) fn enter<M: Mem>(m: &mut Machine<M>, bytes: &[u8]) -> Frame
     m.enter(&writes[..bytes.len()])
 }
 
-/// Runs the fast code, which was just entered, up to its return: at most so many steps, and as long as one
-/// is defined. From each of these moments on, which are at most eight, an inner interrupt is due.
+/// Runs the fast code, which was just entered, up to its return: at most `most` steps, and while steps are
+/// defined. An inner interrupt is due from each of these moments on, of which there are at most eight.
 pub(crate) fn run_inside<M: Mem>(
     m: &mut Machine<M>,
     outputs: u8,

@@ -21,7 +21,7 @@ pub struct InnerFrame {
     pub frame: Frame,
 }
 
-/// What an `ArrayVec` holds where no frame is.
+/// What an `ArrayVec` holds where there is no frame.
 impl Default for InnerFrame {
     fn default() -> InnerFrame {
         InnerFrame {
@@ -35,8 +35,8 @@ impl Default for InnerFrame {
     }
 }
 
-/// The fast code from where it was entered with this SP up to its return. A request is a moment, whose handler returns
-/// at once; nothing is open to it.
+/// The fast code from where it was entered with this SP up to its return. A request is a moment, whose handler
+/// returns at once; nothing is open to it.
 #[derive(Drop)]
 pub(crate) struct FastForm {
     pub(crate) entered: u16,

@@ -1,4 +1,4 @@
-//! A slow firmware with a fast block beside it, as a form of runs.
+//! A slow firmware with a fast block, as a form of runs.
 ghost use Rattle.std.specs.Prelude.{ℕ, ◌≡◌, ◌≤◌, ◌<◌, List, Option, Some, length, slice_get};
 ghost use Rattle.run_forms.specs.{Rest.counted_at, Rest.shown_by, Rooms.Fits};
 ghost use Rattle.two_level_runs.specs.{Runs.FastSeen, Rows.TwoSeen, Rows.level_form, Harness.level_harness};

@@ -18,9 +18,9 @@ use firmware_runs::laws::instruction_stays_within;
 use run_law::laws::{run_follows, runs_follow, sums_fit_below, taken_at_once, writes_are_quiet};
 use two_level_code::laws::{alone_has_byte_bounds, fast_answers_entered, two_stand_beside};
 
-/// The whole instructions with which the fast code answers, and its return, are steps from the state
-/// in which it was entered to that behind the interrupt, within its bounds; before each step the
-/// state keeps what the law on runs asks for, and it touches what is the fast block's own alone.
+/// The whole instructions with which the fast code answers, and its return, are steps from the state in which it
+/// was entered to that after the interrupt, within its bounds; before each step the state keeps what the law on
+/// runs requires, and it accesses only what is the fast block's own.
 pub fn fast_steps_return()
     ensures { FastStepsReturn }
 {
@@ -28,7 +28,7 @@ pub fn fast_steps_return()
     instruction_stays_within();
 }
 
-/// From wherever the fast code of two blocks is entered it has such a run.
+/// Wherever the fast code of two blocks is entered, it has such a run.
 pub fn fast_runs_exist()
     ensures { FastRunsExist }
 {
@@ -37,10 +37,10 @@ pub fn fast_runs_exist()
     fast_steps_return();
 }
 
-/// Under inner requests, whose moments do not fall, a run of the fast code follows the run without: the
-/// same steps and instructions, the frames and the resumed count that are read off it, and the same last
-/// state but for the stack below SP. Its frames stand below the SP with which it was entered. A request of
-/// moment 0 is taken at boundary 1.
+/// Under inner requests with nondecreasing moments, a run of the fast code follows the run without: the same steps
+/// and instructions, the frames and the resumed count that are read off it, and the same last state except for the
+/// stack below SP. Its frames are below the SP with which it was entered. A request of moment 0 is taken at
+/// boundary 1.
 pub fn fast_runs_follow()
     ensures { FastRunsFollow }
 {
@@ -60,7 +60,8 @@ pub fn outer_enters()
     bytes_stay();
 }
 
-/// There is a state over memory as the image of two blocks makes it from which an interrupt enters the fast code.
+/// There is a state, over memory as the image of two blocks makes it, from which an interrupt enters the fast
+/// code.
 pub fn fast_is_entered()
     ensures { FastIsEntered }
 {
@@ -78,8 +79,8 @@ pub fn outer_is_servable()
     alone_has_byte_bounds();
 }
 
-/// An outer interrupt leaves the registers, no sums that run, and memory but for the fast block's RAM, where
-/// its answers stand, and the stack below SP.
+/// An outer interrupt leaves the registers unchanged, leaves no sums running, and leaves memory unchanged except
+/// for the fast block's RAM, which holds its answers, and the stack below SP.
 pub fn outer_is_quiet()
     ensures { OuterIsQuiet }
 {
@@ -89,7 +90,8 @@ pub fn outer_is_quiet()
     fast_runs_follow();
 }
 
-/// An outer request, with a fast run or without, is quiet beside the slow firmware, as the law on runs asks.
+/// An outer request, with or without a fast run, is quiet relative to the slow firmware, as the law on runs
+/// requires.
 pub fn outer_serves()
     ensures { OuterServes }
 {
@@ -97,11 +99,11 @@ pub fn outer_serves()
     outer_is_quiet();
 }
 
-/// Under all good levels a run at two levels comes to the end of each slow sample, with the rows of the slow
-/// firmware alone under a plan at the same places that writes nothing. Each fast run begins where the slow
-/// run without interrupts is at its level's moment, comes to its return, and answers its sample as the fast
-/// block, after the fast run before it, within the fast block's bounds; what is told of it is read off its
-/// run without inner requests.
+/// Under all good levels a run at two levels reaches the end of each slow sample, with the rows of the slow
+/// firmware alone under a plan at the same places that writes nothing. Each fast run begins where the slow run
+/// without interrupts is at its level's moment, reaches its return, and answers its sample as the fast block does,
+/// after the fast run before it, within the fast block's bounds; what is reported of it is read off its run
+/// without inner requests.
 pub fn answers_under_levels()
     ensures { AnswersUnderLevels }
 {

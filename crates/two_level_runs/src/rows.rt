@@ -16,20 +16,20 @@ use std::alloc::Global;
 use trace_io::Sample;
 use two_level_code::Two;
 
-/// What the run of a slow sample gave, and the fast runs in its interrupts.
+/// The results of the run of a slow sample, and the fast runs in its interrupts.
 #[derive(Drop)]
 pub struct TwoRow {
     /// The slow firmware's row.
     pub row: Row,
-    /// Of each interrupt in turn its fast run, if it had one.
+    /// The fast run of each interrupt in turn, if it had one.
     pub fast: Vec<Option<FastRow>>,
 }
 
-/// Runs two levels: the slow firmware over a trace, where interrupts run the fast block over samples of its
-/// own, which inner interrupts interrupt in turn. Answers a row for each slow sample. Bits of `flags` give
-/// the flags that the CPU12 Reference Manual leaves undefined. All memory is taken before the first step,
-/// and want of it is the one error. Where both are those of two blocks, the rows are as
-/// [`answers_under_levels`](crate::laws::answers_under_levels) says.
+/// Runs two levels: the slow firmware over a trace, where interrupts run the fast block over the fast trace, which
+/// inner interrupts interrupt in turn. Returns a row for each slow sample. Bits of `flags` supply the flags that
+/// the CPU12 Reference Manual leaves undefined. All memory is allocated before the first step, and lack of memory
+/// is the only error. If the firmware is that of two blocks, the rows are as
+/// [`answers_under_levels`](crate::laws::answers_under_levels) states.
 pub fn run_two(
     alloc: Global,
     two: &Two,

@@ -1,4 +1,4 @@
-//! What serves an outer request.
+//! How an outer request is served.
 ghost use Rattle.std.specs.Prelude.{ℕ, ◌≡◌, ◌≤◌, None, Some, map, length, MatchOption, IsTrue};
 ghost use Rattle.cpu12_parts.specs.Parts.{suspended, wav};
 ghost use Rattle.cpu12_emul.specs.Take.{may_interrupt, frame_seen, frame_of};
@@ -17,19 +17,19 @@ use interrupt_plan::Level;
 use trace_io::Sample;
 use two_level_code::Two;
 
-/// What a fast run gave.
+/// The results of a fast run.
 #[derive(Drop)]
 pub struct FastRow {
     /// The number of its sample, counted from 1.
     pub number: u32,
     /// The answers at its return, in the order of the outputs.
     pub answers: ArrayVec<u16, 4>,
-    /// How many instructions were done, the return counted: steps that were plain, or the last part of REV,
-    /// REVW or WAV.
+    /// How many instructions were done, including the return: steps that were plain instructions, or the last part
+    /// of REV, REVW or WAV.
     pub instrs: u32,
-    /// How many steps were done, parts counted each.
+    /// How many steps were done, each part counted.
     pub steps: u32,
-    /// At how many boundaries an inner interrupt was taken while REV, REVW or WAV had done a part and not ended.
+    /// At how many boundaries an inner interrupt was taken after a part of REV, REVW or WAV that was not its last.
     pub resumed: u32,
     /// What each inner interrupt pushed.
     pub frames: ArrayVec<InnerFrame, 8>,
@@ -80,8 +80,8 @@ fn run_fast<M: Mem>(
     (frame, row)
 }
 
-/// Takes the outer interrupt of a level, and answers what it pushed and what its fast run gave, if the level has a
-/// fast sample.
+/// Takes the outer interrupt of a level, and returns what it pushed and the results of its fast run, if the level
+/// has a fast sample.
 pub(crate) fn serve<M: Mem>(
     m: &mut Machine<M>,
     two: &Two,
