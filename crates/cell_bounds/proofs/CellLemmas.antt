@@ -1,10 +1,10 @@
 -- On a cell: what masses lie between, the one answer over bytes, the one error, and the Bound.
 use Rattle.std.proofs.Common.{◌≡◌, ℕ, zero, suc, ◌*◌, ◌/◌, List, [], ◌∷◌, length, map, Some, None, refl, sym, subst}
-use Rattle.std.proofs.Common.{ap, ◌∙◌, cond, true, arith, ⊎_elim, ◌+◌, ◌-◌, ◌<◌, ◌≤◌, take, drop, get_or, Option, ap₂}
+use Rattle.std.proofs.Common.{ap, ◌∙◌, cond, true, arith, ⊎_elim, ◌+◌, ◌-◌, ◌<◌, ◌≤◌, Option, ap₂}
 use Rattle.std.proofs.Common.{mul-le-mul_right, max, ◌⊎◌}
 use Rattle.std.proofs.{lemmas.Option.slice_get_within, lemmas.Option.slice_get-get_or, lemmas.List.Sums.sum_by-cons}
-use Rattle.std.proofs.{lemmas.Bool.eq-eqb, lemmas.Bool.cases_lt, Math.Seq.drop-cons, lemmas.Int.ints}
-use Rattle.std.specs.Prelude.{slice_get, ◌==◌, All, IfSome, IfNone, slice_set, ◌<ℤ◌, if◌then◌else◌, slice_index}
+use Rattle.std.proofs.{lemmas.Bool.eq-eqb, lemmas.Bool.cases_lt, lemmas.Int.ints}
+use Rattle.std.specs.Prelude.{slice_get, ◌==◌, All, IfSome, IfNone, ◌<ℤ◌, if◌then◌else◌, slice_index}
 use Rattle.std.specs.Option.{option_map_or}
 use Rattle.fuzzy_meaning.specs.Blocks.{output_at, IsWithin as IsInRange, input_at, IsValid}
 use Rattle.fuzzy_meaning.specs.{Conditions.Condition, Conditions.level, Conditions.levels, declared.block.Block.Block}
@@ -288,14 +288,14 @@ each_output {Q} b o from to f =
 module _ (b : Block) (cell : List Interval) (o : ℕ) (x : Output) (h : ℕ) (valid : IsValid b) (is : IsBoxOf b cell)
     (ex : output_at b o ≡ Some x) (ones : TightBoundsAreOne) where
   -- what is found on either side, or is not there
-  record IsTightSide (l : Option ℕ) : Type 0 where
-    bound : IfSome l (λ n. IsTightBound b cell o x h n)
-    loud : IfNone l (Holds b cell o silent_leaf → ⊥)
-    unsure : IfNone l (IsSure b cell o x → ⊥)
+  pub record IsTightSide (l : Option ℕ) : Type 0 where
+    pub bound : IfSome l (λ n. IsTightBound b cell o x h n)
+    pub loud : IfNone l (Holds b cell o silent_leaf → ⊥)
+    pub unsure : IfNone l (IsSure b cell o x → ⊥)
 
-  record IsErrorSide (r : Option ℕ) : Type 0 where
-    error : IfSome r (λ n. IsErrorOnCell b cell o x h n)
-    unsure : IfNone r (IsUnsure b cell o x)
+  pub record IsErrorSide (r : Option ℕ) : Type 0 where
+    pub error : IfSome r (λ n. IsErrorOnCell b cell o x h n)
+    pub unsure : IfNone r (IsUnsure b cell o x)
 
   tight_side : (l : Option ℕ) → IfSome l (λ n. IfSome (output_at b o) (λ x. IsTightBound b cell o x h n))
       → IfNone l (Holds b cell o silent_leaf → ⊥) → IfNone l (IfSome (output_at b o) (λ x. IsSure b cell o x → ⊥))
@@ -338,7 +338,7 @@ module _ (b : Block) (cell : List Interval) (o : ℕ) (x : Output) (h : ℕ) (va
       (λ (e : l ≡ Some n). of_tight (subst (λ k. IfSome k (λ n. IsTightBound b cell o x h n)) e s.bound))
       (λ (e : r ≡ Some n). of_error (subst (λ k. IfSome k (λ n. IsErrorOnCell b cell o x h n)) e t.error)) one
 
-  less_is : (l r : Option ℕ) (n : ℕ) → IsTightSide l → IsErrorSide r → (l ≡ Some n) ⊎ (r ≡ Some n)
+  pub less_is : (l r : Option ℕ) (n : ℕ) → IsTightSide l → IsErrorSide r → (l ≡ Some n) ⊎ (r ≡ Some n)
       → IfSome l (λ t. n ≤ t) → IfSome r (λ t. n ≤ t) → IsCellBound b cell o x h n
   less_is l r n s t one le le' = record { bound = one_of l r n s t one; least = least }
     where
@@ -346,7 +346,7 @@ module _ (b : Block) (cell : List Interval) (o : ℕ) (x : Output) (h : ℕ) (va
       least m (of_tight q) = tight_least l n m s le q
       least m (of_error q) = error_least r n m t le' q
 
-  neither : (l r : Option ℕ) → IsTightSide l → IsErrorSide r → l ≡ None → r ≡ None → (m : ℕ)
+  pub neither : (l r : Option ℕ) → IsTightSide l → IsErrorSide r → l ≡ None → r ≡ None → (m : ℕ)
       → HasCellBound b cell o x h m → ⊥
   neither l r s t el er m (of_tight q) = no_tight m (subst IsTightSide el s) q
   neither l r s t el er m (of_error q) =

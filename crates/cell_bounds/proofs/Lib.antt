@@ -2,3 +2,4 @@ pub mod CellLemmas
 pub mod WalkLemmas
 pub mod NarrowLemmas
 pub mod ClaimLemmas
+pub mod JudgedLemmas

@@ -1,9 +1,10 @@
 -- Cells that differ in inputs that don't matter alone have one Bound, so those of the narrowed box stand for all.
-use Rattle.std.proofs.Common.{◌≡◌, ⊎_elim, inl, inr, ℕ, zero, suc, ◌+◌, ◌-◌, ◌*◌, ◌<◌, ◌≤◌, Bool, true, false, List, []}
-use Rattle.std.proofs.Common.{◌∷◌, length, Option, Some, None, refl, sym, ap, ◌∙◌, subst, arith, cond, ◌⊎◌}
-use Rattle.std.proofs.{lemmas.Option.slice_get_within, lemmas.Nat.mul-le}
+use Rattle.std.proofs.Common.{◌≡◌, inl, inr, ℕ, zero, suc, ◌+◌, ◌-◌, ◌<◌, ◌≤◌, Bool, true, false, List}
+use Rattle.std.proofs.Common.{[]}
+use Rattle.std.proofs.Common.{◌∷◌, length, Option, Some, None, refl, sym, ap, ◌∙◌, subst, arith, ◌⊎◌}
+use Rattle.std.proofs.{lemmas.Nat.mul-le}
 use Rattle.std.specs.{Prelude.slice_get, Prelude.IfSome, Prelude.if◌then◌else◌, Option.option_map}
-use Rattle.fz_list.proofs.Algebra.{some_at, All-slice_get}
+use Rattle.fz_list.proofs.Algebra.{All-slice_get}
 use Rattle.fuzzy_meaning.specs.{declared.block.Output.Output, declared.block.Block.Block}
 use Rattle.fuzzy_meaning.specs.Blocks.{IsValid, IsValidOutput, output_at}
 use Rattle.cell_error.specs.Errors.{IsCellError, sure_mass}
@@ -12,7 +13,7 @@ use Rattle.error_bound.specs.{declared.boxes.Interval.Interval, Boxes.IsBox, Box
 use Rattle.error_bound.specs.{MassRanges.ranges, MassRanges.answer_at, MassRanges.rest_of}
 use Rattle.error_bound.specs.Matters.{matters, narrowed, narrowed_from, AreAlike, AlikeBoxesHaveOneBound}
 use Rattle.error_bound.specs.{Matters.AlikeBoxesHaveOneRange, Matters.AlikeBoxesHaveOneGrade, Tight.byte_high_of}
-use Rattle.cell_bounds.specs.{Cells.IsCell, Cells.cell_of, Cells.IsErrorOnCell, Cells.answer_by}
+use Rattle.cell_bounds.specs.{Cells.IsCell, Cells.cell_of, Cells.answer_by}
 use Rattle.cell_bounds.specs.CellBounds.{HasCellBound, of_tight, of_error, IsCellWithin, CellsAreWithin, IsBefore}
 use Rattle.cell_bounds.specs.CellBounds.{AreSameWhereItMatters, AlikeCellsHaveOneBound, StandForAll, cell_count}
 use Rattle.cell_bounds.specs.CellBounds.{NarrowedBoxesStandForAll, NarrowedBoxesHaveFewerCells}
@@ -82,13 +83,13 @@ one_bound bounds ranges_one grades b box ms ns o x h n valid ex is lm ln same = 
 
 -- ---- bytes in a box, interval by interval
 
-abbrev Lie : List Interval → List ℕ → Type 0
+abbrev pub Lie : List Interval → List ℕ → Type 0
 Lie [] [] = Unit {0}
 Lie [] (n ∷ ns) = ⊥
 Lie (v ∷ vs) [] = ⊥
 Lie (v ∷ vs) (n ∷ ns) = (v.from ≤ n) × (n ≤ v.to) × Lie vs ns
 
-to_lie : (vs : List Interval) (ns : List ℕ) → LieIn vs ns → Lie vs ns
+pub to_lie : (vs : List Interval) (ns : List ℕ) → LieIn vs ns → Lie vs ns
 to_lie [] [] l = tt
 to_lie [] (n ∷ ns) l = absurd (let c = l.count in omega arith)
 to_lie (v ∷ vs) [] l = absurd (let c = l.count in omega arith)
@@ -123,7 +124,7 @@ lie_within (u ∷ vs) (m ∷ ns) l zero v n e f =
     (omega arith, omega arith)
 lie_within (u ∷ vs) (m ∷ ns) l (suc k) v n e f = lie_within vs ns l.2 k v n e f
 
-from_lie : (vs : List Interval) (ns : List ℕ) → Lie vs ns → LieIn vs ns
+pub from_lie : (vs : List Interval) (ns : List ℕ) → Lie vs ns → LieIn vs ns
 from_lie vs ns l = record { count = lie_count vs ns l; within = lie_within vs ns l }
 
 -- ---- the narrowed box

@@ -1,7 +1,7 @@
 -- The Bound of a cell, and of a leaf of cells.
 -- Beside the promise.
-use Rattle.std.specs.Prelude.{◌≡◌, ℕ, ◌+◌, ◌-◌, ◌*◌, ◌<◌, ◌≤◌, ◌⊎◌, List, [], ◌∷◌, length, IfSome, Some, true}
-use Rattle.std.specs.Prelude.{slice_get, slice_index}
+use Rattle.std.specs.Prelude.{◌≡◌, ◌≢◌, ℕ, ◌+◌, ◌-◌, ◌*◌, ◌<◌, ◌≤◌, ◌⊎◌, List, [], ◌∷◌, length, IfSome, Some, None}
+use Rattle.std.specs.Prelude.{true, slice_get, slice_index}
 use Rattle.fz_num.specs.{declared.dec.Dec.Dec, Fractions.Quotient}
 use Rattle.fuzzy_meaning.specs.declared.{block.Block.Block, block.Output.Output}
 use Rattle.fuzzy_meaning.specs.{Blocks.output_at, Blocks.IsValid, Meaning.answer_after}
@@ -105,8 +105,8 @@ AlikeCellsHaveOneBound =
     → output_at b o ≡ Some x → IsBoxOf b box → LieIn box ms → LieIn box ns → AreSameWhereItMatters b box ms ns
     → HasCellBound b (cell_of ms) o x h n → HasCellBound b (cell_of ns) o x h n
 
--- so those of the narrowed box stand for all: their greatest Bound is the box's, the first above its limit is, and so is
--- the first output that is unsure
+-- so those of the narrowed box stand for all: their greatest Bound is the box's, the first above its limit is, and so
+-- is the first output that is unsure
 pub record StandForAll (b : Block) (h : ℕ) (box : List Interval) : Type 0 where
   pub bound : (o : ℕ) (x : Output) (n : ℕ) → output_at b o ≡ Some x → IsCellsBound b (narrowed b box) o x h n
       → IsCellsBound b box o x h n
@@ -120,6 +120,38 @@ NarrowedBoxesStandForAll = (b : Block) (h : ℕ) (box : List Interval) → IsVal
 -- they are no more than all
 abbrev pub NarrowedBoxesHaveFewerCells : Type 0
 NarrowedBoxesHaveFewerCells = (b : Block) (box : List Interval) → cell_count (narrowed b box) ≤ cell_count box
+
+-- each cell has a count
+abbrev pub EachCellHasACount : Type 0
+EachCellHasACount =
+    (b : Block) (bytes : List ℕ) (o : ℕ) (x : Output) (h : ℕ) → IsValid b → IsBoxOf b (cell_of bytes)
+    → output_at b o ≡ Some x → 1 ≤ h → (n : ℕ) × IsCellCount b (cell_of bytes) o x h n
+
+-- and a Bound, where the output has a number as DEFAULT
+abbrev pub DefaultsHaveCellBounds : Type 0
+DefaultsHaveCellBounds =
+    (b : Block) (bytes : List ℕ) (o : ℕ) (x : Output) (h : ℕ) → IsValid b → IsBoxOf b (cell_of bytes)
+    → output_at b o ≡ Some x → 1 ≤ h → x.default ≢ None → (n : ℕ) × IsCellBound b (cell_of bytes) o x h n
+
+-- so each box has a greatest Bound of its cells, or is unsure
+abbrev pub EachBoxHasACellsBound : Type 0
+EachBoxHasACellsBound =
+    (b : Block) (h : ℕ) (box : List Interval) (o : ℕ) (x : Output) → IsValid b → IsBoxOf b box → 1 ≤ h
+    → output_at b o ≡ Some x → ((n : ℕ) × IsCellsBound b box o x h n) ⊎ IsUnsureOn b h box o
+
+-- the greatest Bounds of the outputs from number p to q are within their limits
+abbrev pub AreCellsBoundsWithin : Block → ℕ → List ℕ → ℕ → ℕ → List Interval → Type 0
+AreCellsBoundsWithin b h limits p q box =
+    (j : ℕ) (x : Output) → p ≤ j → j ≤ q → output_at b j ≡ Some x
+    → (n : ℕ) × IsCellsBound b box j x h n × (n ≤ number_of limits j)
+
+-- or some cell is the first that is above one
+abbrev pub EachBoxIsWithinOrAbove : Type 0
+EachBoxIsWithinOrAbove =
+    (b : Block) (h : ℕ) (limits : List ℕ) (p q : ℕ) (box : List Interval) → IsValid b → IsBoxOf b box → 1 ≤ h
+    → ((k : ℕ) → slice_index limits k ≤ 1000000)
+    → AreCellsBoundsWithin b h limits p q box
+    ⊎ ((bytes : List ℕ) × (o : ℕ) × (n : ℕ) × IsFirstCellAbove b h limits p q box bytes o n)
 
 -- a cell has one count, and a box one greatest Bound
 abbrev pub CellCountsAreOne : Type 0

@@ -88,6 +88,12 @@ CountsAreLeast =
     (n m : ℕ) → IsValid b → output_at b o ≡ Some x → 1 ≤ h → length box ≡ length b.inputs → IsBox box → LieIn box bytes
     → IsCompared k claim → IsCountAt k b bytes o x h n → HasClaimBound b box o x h claim m → n ≤ m
 
+-- each box has a count
+abbrev pub EachBoxHasACount : Type 0
+EachBoxHasACount =
+    (k : CertKind) (b : Block) (box : List Interval) (o : ℕ) (x : Output) (h : ℕ) → IsValid b → IsBox box
+    → output_at b o ≡ Some x → 1 ≤ h → (n : ℕ) × IsBoxCount k b box o x h n
+
 -- a box has one count, and a cell
 abbrev pub BoxCountsAreOne : Type 0
 BoxCountsAreOne =

@@ -1,7 +1,7 @@
 //! The error and the Bound of a cell.
 ghost use Rattle.std.specs.Prelude.{◌≡◌, ◌<◌, ◌≤◌, ◌⊎◌, ℕ, length, slice_index, IfSome, IfNone, Some, None};
 ghost use Rattle.fuzzy_meaning.specs.Blocks.{IsValid, output_at};
-ghost use Rattle.error_bound.specs.{Reaches.IsTable, Masses.AreMasses};
+ghost use Rattle.error_bound.specs.{Reaches.IsTable, Masses.AreMasses, Leaves.Holds, Tight.IsTightBound, Tight.IsSure};
 ghost use Rattle.cell_bounds.specs.Cells.{IsCell, IsErrorOnCell, IsUnsure};
 ghost use Rattle.cell_bounds.specs.CellBounds.{HasCellBound, IsCellBound, IsCellCount};
 
@@ -11,9 +11,9 @@ use error_bound::laws::{tight_bounds_are_one, tight_bounds_are_small};
 use error_bound::{BoxTable, Masses};
 use fuzzy_meaning::Block;
 
-/// The error of a cell for an output, for answers in so many parts to a byte: how far its answer may be
-/// from the exact ones, in millionths of the output's range. With NC there is none where no mass is sure,
-/// or there is none over bytes.
+/// The error of a cell for an output, for answers with `parts` parts to a byte: how far its answer may be
+/// from the exact ones, in millionths of the output's range. With NC it is `None` if no mass is sure to be
+/// above 0, or all masses over bytes are 0.
 pub fn cell_error(block: &Block, table: &BoxTable, out: u8, parts: u16) -> Option<u32>
     requires block { IsValid block.now }
     requires table { IsTable block.now table.now }
@@ -31,7 +31,7 @@ pub fn cell_error(block: &Block, table: &BoxTable, out: u8, parts: u16) -> Optio
     error_by(block, table, out, parts, &table.masses(block, out))
 }
 
-/// The same where the masses are known.
+/// The same, from masses that are known already.
 fn error_by(block: &Block, table: &BoxTable, out: u8, parts: u16, masses: &Masses) -> Option<u32>
     requires block { IsValid block.now }
     requires table { IsTable block.now table.now }
@@ -54,8 +54,8 @@ fn error_by(block: &Block, table: &BoxTable, out: u8, parts: u16, masses: &Masse
     }
 }
 
-/// The Bound of a cell for an output, for answers in so many parts to a byte: the less of its tight Bound and
-/// its error, or `None` exactly where it has neither.
+/// The Bound of a cell for an output, for answers with `parts` parts to a byte: the lesser of its tight Bound
+/// and its error, or `None` if it has neither.
 pub fn cell_bound(block: &Block, table: &BoxTable, out: u8, parts: u16) -> Option<u32>
     requires block { IsValid block.now }
     requires table { IsTable block.now table.now }
@@ -70,11 +70,20 @@ pub fn cell_bound(block: &Block, table: &BoxTable, out: u8, parts: u16) -> Optio
     ensures none { IfNone result (IfSome (output_at block.now out)
         (λ x. (n : ℕ) → HasCellBound block.now table.now.bytes.0.items out x parts n → ⊥)) }
 {
-    bound_by(block, table, out, parts, &table.masses(block, out))
+    let masses = table.masses(block, out);
+    let tight = table.tight_bound_by(block, out, parts, &masses);
+    bound_by(block, table, out, parts, &masses, tight)
 }
 
-/// The same where the masses are known.
-fn bound_by(block: &Block, table: &BoxTable, out: u8, parts: u16, masses: &Masses) -> Option<u32>
+/// The same, from masses and a tight Bound that are known already.
+fn bound_by(
+    block: &Block,
+    table: &BoxTable,
+    out: u8,
+    parts: u16,
+    masses: &Masses,
+    tight: Option<u32>,
+) -> Option<u32>
     requires block { IsValid block.now }
     requires table { IsTable block.now table.now }
     requires cell { IsCell table.now.bytes.0.items }
@@ -84,6 +93,11 @@ fn bound_by(block: &Block, table: &BoxTable, out: u8, parts: u16, masses: &Masse
     requires parts_to { parts ≤ 256 }
     requires masses { AreMasses block.now table.now.bytes.0.items out masses.now }
     requires ordered { (t : ℕ) → t < 15 → slice_index masses.now.lows t ≤ slice_index masses.now.highs t }
+    requires bound { IfSome tight (λ n. IfSome (output_at block.now out)
+        (λ x. IsTightBound block.now table.now.bytes.0.items out x parts n)) }
+    requires loud { IfNone tight (Holds block.now table.now.bytes.0.items out (record { rule = 0; k = 0 }) → ⊥) }
+    requires unsure { IfNone tight (IfSome (output_at block.now out)
+        (λ x. IsSure block.now table.now.bytes.0.items out x → ⊥)) }
     ensures bound { IfSome result (λ n. IfSome (output_at block.now out)
         (λ x. IsCellBound block.now table.now.bytes.0.items out x parts n)) }
     ensures small { IfSome result (λ n. n ≤ 1000000) }
@@ -92,13 +106,12 @@ fn bound_by(block: &Block, table: &BoxTable, out: u8, parts: u16, masses: &Masse
 {
     tight_bounds_are_one();
     tight_bounds_are_small();
-    let tight = table.tight_bound_by(block, out, parts, masses);
     let error = error_by(block, table, out, parts, masses);
     less(tight, error)
 }
 
-/// How the Bound of a cell for an output counts, or `None` where it is at most a number of millionths. That is
-/// asked first, without a division.
+/// The count of a cell for an output: its Bound, or 1000001 if it has none. `None` if the Bound is at most
+/// `so_far`, which is tested first, without a division.
 pub(crate) fn count_above(
     block: &Block,
     table: &BoxTable,
@@ -126,18 +139,19 @@ pub(crate) fn count_above(
             return None;
         }
     }
-    if let Some(bound) = table.tight_bound_by(block, out, parts, &masses) {
+    let tight = table.tight_bound_by(block, out, parts, &masses);
+    if let Some(bound) = tight {
         if bound <= so_far {
             return None;
         }
     }
-    match bound_by(block, table, out, parts, &masses) {
+    match bound_by(block, table, out, parts, &masses, tight) {
         Some(bound) => Some(bound),
         None => Some(1_000_001),
     }
 }
 
-/// The less of two numbers of which each may be missing.
+/// The lesser of two numbers, either of which may be missing.
 fn less(left: Option<u32>, right: Option<u32>) -> Option<u32>
     ensures one { IfSome result (λ n. (left ≡ Some n) ⊎ (right ≡ Some n)) }
     ensures left { IfSome result (λ n. IfSome left (λ x. n ≤ x)) }

@@ -1,4 +1,4 @@
-//! What leaves of each sort say, the best of a box, and the laws that certificates and halving stand on.
+//! What leaves of each sort state, and the best claim of a box.
 ghost use Rattle.std.specs.Prelude.{◌≤◌, length, IfSome};
 ghost use Rattle.std.specs.Option.{option_map_or};
 ghost use Rattle.fuzzy_meaning.specs.Blocks.{IsValid, output_at};
@@ -10,19 +10,19 @@ use error_bound::laws::{best_leaves_hold, faulty_leaves_fail};
 use error_bound::{BoxTable, Leaf};
 use fuzzy_meaning::Block;
 
-/// What a leaf says of an output.
+/// What a leaf states about an output.
 #[derive(Clone, Copy)]
 pub enum Claim {
     /// That a rule is strong, or that none fires.
     Pair(Leaf),
     /// Nothing: its Bound is the tight one.
     Tight,
-    /// Nothing: its Bound is the greatest of its cells'.
+    /// Nothing: its Bound is the greatest of those of its cells.
     Cells,
 }
 
-/// The best claim of a kind, but one of cells, on a table's box for an output, with its Bound for answers in so
-/// many parts to a byte, or `None` where no such claim holds.
+/// The best claim of a kind, other than one of cells, on a table's box for an output, with its Bound for answers
+/// with `parts` parts to a byte, or `None` if no such claim holds.
 pub fn best_claim(
     block: &Block,
     table: &BoxTable,

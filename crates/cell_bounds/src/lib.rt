@@ -1,4 +1,4 @@
-//! How far an answer over a cell may be from the exact ones, by the masses that its terms may have, and the
+//! How far the answer of a cell may be from the exact ones, given the masses that its terms may have, and the
 //! Bounds of cells and of boxes of cells.
 #![tactic(auto)]
 

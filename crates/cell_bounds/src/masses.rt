@@ -14,12 +14,12 @@ use cell_error::{Answer, MassRange, least_error, serves};
 use error_bound::{BoxTable, Masses, output_of, ranges_of};
 use fuzzy_meaning::{Block, Output};
 
-/// What the masses of an output's terms lie between on a cell, how far above the low end what stands in for an
-/// answer is where there is no mass, and the answer over bytes.
+/// The ranges of the masses of an output's terms on a cell, how far above the low end of the output's range the
+/// answer is if there is no mass, and the answer over bytes.
 #[derive(Clone, Copy)]
 pub(crate) struct CellMasses {
     pub(crate) ranges: [MassRange; 15],
-    /// How many terms the output has.
+    /// The number of the output's terms.
     pub(crate) count: usize,
     pub(crate) rest: u64,
     pub(crate) answer: Answer,
@@ -35,7 +35,7 @@ impl CellMasses {
         least_error(&self.ranges[..self.count], self.rest, self.answer)
     }
 
-    /// Whether an error serves for all masses.
+    /// Whether an error covers all masses.
     pub(crate) fn are_served(&self, error: u32) -> bool
         requires fit { AreFit self.now }
         requires error { error ≤ 1000000 }
@@ -45,8 +45,8 @@ impl CellMasses {
     }
 }
 
-/// Those of an output on a table's cell. With NC there are none where no mass is sure, or there is none over
-/// bytes.
+/// The masses of an output on a table's cell. With NC there are none if no mass is sure to be above 0, or all masses
+/// over bytes are 0.
 pub(crate) fn cell_masses(
     block: &Block,
     table: &BoxTable,
@@ -77,7 +77,7 @@ pub(crate) fn cell_masses(
     }
 }
 
-/// The answer by the masses over bytes. With NC there is none where they all are 0.
+/// The answer from the masses over bytes. With NC there is none if they are all 0.
 fn answer(output: &Output, masses: &[u64; 15], parts: u16) -> Option<u64>
     requires output { IsValidOutput output.now }
     requires masses { (k : ℕ) → k < 15 → slice_index masses.now k ≤ 255 }
@@ -99,7 +99,7 @@ fn answer(output: &Output, masses: &[u64; 15], parts: u16) -> Option<u64>
     }
 }
 
-/// The sum of the masses, and of the singletons' bytes by them.
+/// The sum of the masses, and that of the singletons' bytes weighted by them.
 fn byte_sums(output: &Output, masses: &[u64; 15]) -> (u64, u64)
     requires output { IsValidOutput output.now }
     requires masses { (k : ℕ) → k < 15 → slice_index masses.now k ≤ 255 }
@@ -118,7 +118,7 @@ fn byte_sums(output: &Output, masses: &[u64; 15]) -> (u64, u64)
     (mass, dot)
 }
 
-/// The masses with what stands in for an answer: the DEFAULT, and with NC nothing, where some mass is sure.
+/// The masses with DEFAULT as the answer if there is no mass; with NC `None`, unless some mass is sure to be above 0.
 fn with_rest(output: &Output, ranges: [MassRange; 15], parts: u16, value: u64) -> Option<CellMasses>
     requires output { IsValidOutput output.now }
     requires terms { All (IsRange (distance output.now.lo output.now.hi)) (take (length output.now.singletons) ranges) }
@@ -162,7 +162,7 @@ fn with_rest(output: &Output, ranges: [MassRange; 15], parts: u16, value: u64) -
     }
 }
 
-/// The sum of the lows.
+/// The sum of the least masses.
 fn sure_mass(terms: &[MassRange], output: &Output) -> u64
     requires terms { All (IsRange (distance output.now.lo output.now.hi)) terms.now }
     requires count { length terms.now ≤ 15 }

@@ -1,4 +1,4 @@
-//! The cells of a box, gone through one after the other.
+//! Walks over the cells of a box.
 ghost use Rattle.std.specs.Prelude.{◌≡◌, ◌≢◌, ◌≤◌, ◌<◌, ◌+◌, ℕ, IfSome, IfNone, IfOk, IfErr, IsTrue, ◌↔◌, Some};
 ghost use Rattle.std.specs.Prelude.{length, map, set, slice_get, slice_index};
 ghost use Rattle.fuzzy_meaning.specs.Blocks.{IsValid, output_at};
@@ -14,10 +14,10 @@ use arrayvec::ArrayVec;
 use error_bound::{BlockTable, BoxTable, ByteBox, Interval};
 use fuzzy_meaning::Block;
 
-/// The most cells that the box of a leaf of cells has.
+/// The greatest number of cells in the box of a leaf of cells.
 pub const MOST_CELLS: u32 = 64;
 
-/// A cell, by its bytes, on which an output, from 1, counts more than its limit.
+/// A cell, by its bytes, on which the Bound of an output, counted from 1, is above its limit or missing.
 #[derive(Clone, Drop)]
 pub struct CellAbove {
     pub bytes: ArrayVec<u8, 8>,
@@ -25,8 +25,8 @@ pub struct CellAbove {
     pub bound: u32,
 }
 
-/// What is looked for on each cell: Bounds above their limits, of the outputs at the places from `first` to below
-/// `end`, for answers in so many parts to a byte. Each limit stands at its output's place.
+/// What is looked for on each cell: Bounds above their limits, of the outputs at the indices from `first` to below
+/// `end`, for answers with `parts` parts to a byte. Each limit is at the index of its output.
 #[derive(Clone, Copy)]
 pub(crate) struct Walk<'a> {
     block: &'a Block,
@@ -36,8 +36,8 @@ pub(crate) struct Walk<'a> {
     end: u8,
 }
 
-/// The greatest Bound of a box's cells for each output at its place, for answers in so many parts to a byte; or
-/// the first cell with one above its limit, the first input's byte rising slowest, and its first such output.
+/// The greatest Bound of a box's cells for each output at its index, for answers with `parts` parts to a byte; or
+/// the first cell with one above its limit, with the first input's byte rising slowest, and its first such output.
 pub fn cells_bounds(
     block: &Block,
     table: &BlockTable,
@@ -70,7 +70,7 @@ pub fn cells_bounds(
     walk.over(bytes.copied(), &mut cell, [0; 4])
 }
 
-/// The same, or the first output that has no Bound on some cell.
+/// The same without limits, or the first output that has no Bound on some cell.
 pub fn sure_cells_bounds(
     block: &Block,
     table: &BlockTable,
@@ -95,7 +95,7 @@ pub fn sure_cells_bounds(
     }
 }
 
-/// The first output that has no Bound on some cell of a box, where one is known.
+/// The first output that has no Bound on some cell of a box, given one that has none.
 fn first_unsure(block: &Block, table: &BlockTable, bytes: &ByteBox, parts: u16, known: u8) -> u8
     requires block { IsValid block.now }
     requires table { IsBlockTable block.now table.now }
@@ -126,8 +126,8 @@ fn first_unsure(block: &Block, table: &BlockTable, bytes: &ByteBox, parts: u16, 
 }
 
 impl Walk<'_> {
-    /// The numbers raised to the Bounds of a box's cells, or the first cell above its limit. The table is moved
-    /// from cell to cell.
+    /// The numbers raised to at least the Bounds of a box's cells, or the first cell above a limit. The table is
+    /// moved from cell to cell.
     fn over(
         &self,
         bytes: ByteBox,
@@ -153,7 +153,7 @@ impl Walk<'_> {
         self.over(right, cell, raised)
     }
 
-    /// The same for a box that is a cell.
+    /// The same for a box of one cell.
     fn at_cell(
         &self,
         bytes: &ByteBox,
@@ -190,8 +190,8 @@ impl Walk<'_> {
         Ok(raised)
     }
 
-    /// A number raised to the Bound of a table's cell for the output at a place, or how that counts where it is
-    /// above the output's limit.
+    /// A number raised to at least the Bound of the table's cell for the output at an index, or the cell's count if
+    /// that is above the output's limit.
     fn raised(&self, table: &BoxTable, place: u8, so_far: u32) -> Result<u32, u32>
         requires walk { IsWalk self.now }
         requires table { IsTable self.now.block.now table.now }
@@ -218,7 +218,7 @@ impl Walk<'_> {
     }
 }
 
-/// The place of the first interval of more than one byte.
+/// The index of the first interval with more than one byte.
 fn first_wide(bytes: &ByteBox) -> Option<usize>
     requires { IsBox bytes.now.0.items }
     ensures wide { IfSome result (λ k. (v : TheInterval) → slice_get bytes.now.0.items k ≡ Some v → v.from < v.to) }
@@ -236,7 +236,7 @@ fn first_wide(bytes: &ByteBox) -> Option<usize>
     None
 }
 
-/// A box without the later bytes of the interval at a place, and without its first one.
+/// The two parts of a box: with only the first byte of the interval at an index, and without that byte.
 fn parted(bytes: ByteBox, place: usize) -> (ByteBox, ByteBox)
     requires bytes { IsBox bytes.0.items }
     requires there { place < length bytes.0.items }
@@ -265,7 +265,7 @@ pub fn low_bytes(bytes: &ByteBox) -> ArrayVec<u8, 8>
     low
 }
 
-/// Whether a box has as few cells as a leaf of cells may have.
+/// Whether a box has no more cells than a leaf of cells may have.
 pub fn has_few_cells(bytes: &ByteBox) -> bool
     requires { IsBox bytes.now.0.items }
     ensures { IsTrue result ↔ (cell_count bytes.now.0.items ≤ 64) }

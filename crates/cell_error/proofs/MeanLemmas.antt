@@ -1,6 +1,7 @@
 -- What the cuts' pulls say of all lists of masses.
 use Rattle.std.proofs.Common.{◌≡◌, inl, inr, ⊎_elim, ℕ, zero, suc, ◌+◌, ◌-◌, ◌*◌, ◌<◌, ◌≤◌, max, min, Bool, List}
-use Rattle.std.proofs.Common.{[], ◌∷◌, true, false, refl, sym, subst, ap, ◌∙◌, length, take, drop, get_or, arith, mul-pos}
+use Rattle.std.proofs.Common.{[], ◌∷◌, true, false, refl, sym, subst, ap, ◌∙◌, length, take, drop, get_or, arith}
+use Rattle.std.proofs.Common.{mul-pos}
 use Rattle.std.proofs.Common.{mul-le-mul_right, le_of_mul-le-mul_right}
 use Rattle.std.specs.Prelude.{All, nat_le, if◌then◌else◌}
 use Rattle.std.proofs.lemmas.{Bool.cases_lt, Bool.leb-true, Bool.leb-false, Nat.mul-le}
@@ -10,7 +11,8 @@ use Rattle.fz_num.proofs.Algebra.{le-up_div, up_div-le}
 use Rattle.cell_error.specs.declared.{ranges.MassRange.MassRange, ranges.Deviation.Deviation, means.Scale.Scale}
 use Rattle.cell_error.specs.declared.{means.Pull.Pull, cuts.Cut.Cut}
 use Rattle.cell_error.specs.declared.cuts.Cut.TheVariants.{Nowhere, From, UpTo}
-use Rattle.cell_error.specs.{Errors.AreBetween, Errors.IsRange, Errors.sure_mass, Errors.total, Errors.weighted, Cuts.masses, Cuts.is_high, Cuts.chosen}
+use Rattle.cell_error.specs.{Errors.AreBetween, Errors.IsRange, Errors.sure_mass, Errors.total, Errors.weighted}
+use Rattle.cell_error.specs.{Cuts.masses, Cuts.is_high, Cuts.chosen}
 use Rattle.cell_error.specs.Means.{pull, up, down, pulled_num, pulled_den, IsPulledWithin}
 use Rattle.cell_error.specs.Means.{IsMeanError, IsSome, IsOrdered, IsByteRange, IsGreaterPull, MeansHaveErrors}
 use Rattle.cell_error.proofs.Tilts.{tilt_up, tilt_down}

@@ -87,4 +87,5 @@ pub record IsGreaterPull (p q r : Pull) : Type 0 where
 -- where some mass is sure there is an error
 abbrev pub MeansHaveErrors : Type 0
 MeansHaveErrors =
-    (s : Scale) (ts : List MassRange) (ds : List Deviation) → IsSome s → All IsOrdered ts → 1 ≤ sure_mass ts → (e : ℕ) × IsMeanError s ts ds e
+    (s : Scale) (ts : List MassRange) (ds : List Deviation) → IsSome s → All IsOrdered ts → 1 ≤ sure_mass ts
+    → (e : ℕ) × IsMeanError s ts ds e

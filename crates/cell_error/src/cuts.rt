@@ -16,7 +16,7 @@ pub(crate) enum Cut {
     AtMost(u128, u128),
 }
 
-/// The singletons by the masses of a cut, and the sum of the masses.
+/// The sum of the singletons weighted by the masses of a cut, and the sum of the masses.
 pub(crate) fn sums(terms: &[MassRange], cut: Cut, width: u64) -> (u128, u128)
     requires cut { IsSmall cut }
     requires width { width ≤ 2000010000 }

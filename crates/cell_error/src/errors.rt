@@ -1,4 +1,4 @@
-//! The least error that serves for all masses.
+//! The least error that holds for all masses.
 ghost use Rattle.std.specs.Prelude.{◌≡◌, ◌≤◌, ◌<◌, ◌*◌, ◌↔◌, ℕ, All, length, IsTrue};
 ghost use Rattle.fz_num.specs.Fractions.{over};
 ghost use Rattle.cell_error.specs.Errors.{IsAnswer, IsRange, weighted, total, answer_of, IsWithin, Covers};
@@ -9,8 +9,8 @@ ghost use Rattle.cell_error.specs.declared.cuts.Cut.TheVariants.{Nowhere, AtLeas
 use crate::cuts::{Cut, sums};
 use crate::ranges::{Answer, MassRange};
 
-/// The least number of millionths of the range that the answer is within of the answer to any
-/// masses between those given. Where there is no mass, `rest` is the answer to them.
+/// The least number of millionths of the range that bounds the distance from the answer to the answer for any
+/// masses within the given bounds. If there is no mass, `rest` is the answer for them.
 pub fn least_error(terms: &[MassRange], rest: u64, answer: Answer) -> u32
     requires answer { IsAnswer answer }
     requires terms { All (IsRange answer.width) terms.now }
@@ -28,7 +28,7 @@ pub fn least_error(terms: &[MassRange], rest: u64, answer: Answer) -> u32
     error
 }
 
-/// Whether an error serves for all masses, which takes three passes and no division.
+/// Whether an error holds for all masses, which takes three passes and no division.
 pub fn serves(terms: &[MassRange], rest: u64, answer: Answer, error: u32) -> bool
     requires answer { IsAnswer answer }
     requires terms { All (IsRange answer.width) terms.now }
@@ -84,7 +84,7 @@ fn is_down(terms: &[MassRange], step: u128, bottom: u128, width: u64) -> bool
     bottom * mass <= step * sum
 }
 
-/// Whether, where there may be no mass, what stands in for it is between.
+/// Whether, if there may be no mass, the answer in its place is within the bounds.
 fn rest_serves(
     terms: &[MassRange],
     rest: u64,
@@ -108,7 +108,7 @@ fn rest_serves(
     there <= top && bottom <= there
 }
 
-/// How far the answer is from that to the masses of a cut, rounded up.
+/// How far the answer is from that for the masses of a cut, rounded up.
 fn error_at(terms: &[MassRange], rest: u64, answer: Answer, cut: Cut) -> u32
     requires cut { IsSmall cut }
     requires answer { IsAnswer answer }

@@ -1,6 +1,6 @@
-//! The error of one cell: how far one answer may be from the answers of all masses that lie between
-//! given numbers. And the error of means: how far those by any masses of bytes between given numbers may be from the
-//! exact ones, where each mass may be too low or too high by so much.
+//! The error of one cell: how far one answer may be from the answers for all masses within given bounds. And the
+//! error of means: how far those by any masses of bytes within given bounds may be from the exact ones, where each
+//! mass may be too low or too high by a given amount.
 #![tactic(auto)]
 
 mod cuts;

@@ -9,12 +9,12 @@ ghost use Rattle.cell_error.specs.Means.{IsMeanError, IsSmallPull, IsGreaterPull
 use crate::cuts::{Cut, sums};
 use crate::ranges::{Deviation, MassRange};
 
-/// What the error of a mean is counted by.
+/// The quantities by which the error of a mean is computed.
 #[derive(Clone, Copy)]
 pub struct Scale {
     /// The width of the range, in 1/10000.
     pub width: u64,
-    /// What the exact masses sum up to at least, in parts of 255 * 10^9.
+    /// A lower bound on the sum of the exact masses, in parts of 255 * 10^9.
     pub sum: u64,
     /// How far a singleton's byte may be from it, over 255 times the width.
     pub offset: u64,
@@ -22,7 +22,7 @@ pub struct Scale {
     pub parts: u64,
 }
 
-/// How far a mean may be pulled, over a sum of masses.
+/// How far a mean may be shifted, over a sum of masses.
 #[derive(Clone, Copy)]
 struct Pull {
     pull: u128,
@@ -36,9 +36,9 @@ struct Pulls {
     down: Pull,
 }
 
-/// The least number of millionths of the range that an answer, the mean by masses over bytes rounded down to a
-/// part, is within of the exact mean, whatever the masses over bytes are between their ends: each exact mass is
-/// above its own by at most its rise, and below by at most its fall.
+/// The least number of millionths of the range that bounds the distance from an answer, which is the mean by
+/// masses over bytes rounded down to a part, to the exact mean, whatever the masses over bytes are within their
+/// bounds: each exact mass is above its own by at most its rise, and below by at most its fall.
 pub fn mean_error(terms: &[MassRange], deviations: &[Deviation], scale: Scale) -> u32
     requires scale { IsScale scale }
     requires terms { All (IsByteRange scale.width) terms.now }
@@ -59,7 +59,7 @@ pub fn mean_error(terms: &[MassRange], deviations: &[Deviation], scale: Scale) -
     up.max(down)
 }
 
-/// How far the mean by the masses of a cut may be pulled.
+/// How far the mean by the masses of a cut may be shifted.
 fn pulls_of(terms: &[MassRange], deviations: &[Deviation], cut: Cut, width: u64) -> Pulls
     requires cut { IsSmall cut }
     requires width { width ≤ 2000010000 }
@@ -90,7 +90,7 @@ fn pulls_of(terms: &[MassRange], deviations: &[Deviation], cut: Cut, width: u64)
     }
 }
 
-/// What a term pulls by `over` where it is above the mean, and by `under` where it is below.
+/// The shift by a term: `over` counts if it is above the mean, and `under` if it is below.
 fn pull_of(over: u64, under: u64, here: u128, mean: u128) -> u128
     requires over { over ≤ 3000000000 }
     requires under { under ≤ 3000000000 }
@@ -136,7 +136,7 @@ impl Pull {
 }
 
 impl Scale {
-    /// What a pull comes to in millionths of the range, rounded up, and 1000000 at most.
+    /// A shift in millionths of the range, rounded up, and at most 1000000.
     fn millionths(self, pull: Pull, floors: u64) -> u32
         requires scale { IsScale self }
         requires pull { IsSmallPull pull }

@@ -1,7 +1,7 @@
-//! What masses lie between, and an answer.
+//! Bounds on masses, and an answer.
 
-/// A term of an output: how far its singleton is above the low end of the range, in 1/10000, and
-/// what its mass lies between.
+/// A term of an output: how far its singleton is above the low end of the range, in 1/10000, and the bounds on its
+/// mass.
 #[derive(Clone, Copy)]
 pub struct MassRange {
     pub at: u64,
@@ -9,7 +9,7 @@ pub struct MassRange {
     pub high: u64,
 }
 
-/// An answer: so many parts of a range of this width in 1/10000, which has `parts` of them.
+/// An answer: `value` parts of a range of this width in 1/10000, which has `parts` of them.
 #[derive(Clone, Copy)]
 pub struct Answer {
     pub value: u64,

@@ -1,8 +1,9 @@
 -- On boxes that differ in inputs that don't matter alone each rule reaches as far, with the same errors.
 use Rattle.std.proofs.Common.{◌≡◌, ⊎_elim, ◌⊎◌, inl, inr, ℕ, ◌+◌, ◌-◌, ◌*◌, ◌/◌, ◌<◌, ◌≤◌, max, Bool, true, false, not}
-use Rattle.std.proofs.Common.{zero, suc, List, [], ◌∷◌, length, get_or, Option, Some, None, refl, sym, ap, ap₂, ◌∙◌, subst, arith}
-use Rattle.std.proofs.{lemmas.Option.slice_get_within, lemmas.Option.slice_get-get_or, lemmas.Bool.Decides.nat_tests}
-use Rattle.std.specs.Prelude.{◌==◌, ◌&&◌, ◌||◌, nat_lt, slice_get, All, IsTrue, if◌then◌else◌}
+use Rattle.std.proofs.Common.{zero, suc, List, [], ◌∷◌, length, get_or, Some, refl, sym, ap, ap₂, ◌∙◌}
+use Rattle.std.proofs.Common.{subst, arith}
+use Rattle.std.proofs.{lemmas.Option.slice_get-get_or, lemmas.Bool.Decides.nat_tests}
+use Rattle.std.specs.Prelude.{◌==◌, ◌&&◌, ◌||◌, nat_lt, slice_get, All, if◌then◌else◌}
 use Rattle.std.specs.{Option.option_map_or, List.list_any}
 use Rattle.fz_list.proofs.Algebra.{All-slice_get, some_at, IsSomeAnd-some, IsSomeAnd-within}
 use Rattle.fz_num.specs.Fractions.{Fraction, IsProper, AtMost, IsNear, up_div, one_minus, none}
@@ -10,20 +11,21 @@ use Rattle.fz_num.specs.{declared.dec.Dec.Dec, Decimals.distance}
 use Rattle.fz_num.proofs.Algebra.{AtMost-trans, IsNear-between, up_div-le}
 use Rattle.fuzzy_meaning.specs.Blocks.{IsValid, IsValidInput, IsValidTerm, IsValidRule, HasTerm, input_at}
 use Rattle.fuzzy_meaning.specs.Conditions.{Condition, is, negation, all, any, Conditions, end, also, HasLiterals}
-use Rattle.fuzzy_meaning.specs.Conditions.{SomeHaveLiterals, AllHaveLiterals, evaluate, evaluate_parts}
+use Rattle.fuzzy_meaning.specs.Conditions.{SomeHaveLiterals, AllHaveLiterals, evaluate_parts}
 use Rattle.fuzzy_meaning.specs.{declared.block.Block.Block, declared.block.Input.Input, declared.block.Rule.Rule}
 use Rattle.fuzzy_meaning.specs.{declared.block.Trapezoid.Trapezoid, declared.block.Output.Output}
 use Rattle.fuzzy_meaning.specs.{Meaning.concludes, Meaning.weight_of, Places.points_of, Places.degree_at}
 use Rattle.fuzzy_meaning.proofs.Algebra.{evaluate-related, AreJoinsRelated}
 use Rattle.fuzzy_meaning.specs.{Conditions.levels, Meaning.truths}
-use Rattle.byte_scaling.specs.{Cells.IsInCell, Cells.cell_start, Weights.weight_byte_of}
+use Rattle.byte_scaling.specs.{Cells.cell_start, Weights.weight_byte_of}
 use Rattle.point_slope.specs.Tables.{row_of, grade_of}
 use Rattle.error_bound.specs.{declared.boxes.Interval.Interval, Boxes.IsBox, Laws.IsInside, Spans.Span, Spans.only}
 use Rattle.error_bound.specs.Boxes.{literal_span, literal_byte_span, degrees_over, grades_over, rule_span}
 use Rattle.error_bound.specs.Boxes.{rule_byte_span}
-use Rattle.error_bound.specs.{Spans.reversed, Spans.spans, Spans.greatest, Spans.sides, Flattening.IsSame}
-use Rattle.error_bound.specs.Errors.{billion, Covers, AreTermSides, AreTermErrors, rule_rise, rule_fall, weight_error}
-use Rattle.error_bound.specs.{Errors.floor_error, CellErrors.term_sides, CellErrors.term_errors, Leaves.IsStill}
+use Rattle.error_bound.specs.{Spans.reversed, Spans.spans, Spans.greatest, Spans.deviation, Flattening.IsSame}
+use Rattle.error_bound.specs.Errors.{billion, Covers, IsTermDeviation, AreTermErrors, rule_rise, rule_fall}
+use Rattle.error_bound.specs.Errors.{weight_error}
+use Rattle.error_bound.specs.{Errors.floor_error, CellErrors.term_deviation, CellErrors.term_errors, Leaves.IsStill}
 use Rattle.error_bound.specs.Flattening.{AreSame}
 use Rattle.error_bound.specs.Matters.{some_literal, is_spread, asks_for, matters, AreAlike}
 use Rattle.error_bound.specs.Matters.{AlikeBoxesHaveOneBound, AlikeBoxesHaveOneRange, AlikeBoxesHaveOneGrade}
@@ -35,12 +37,13 @@ use Rattle.error_bound.specs.{MassRanges.ranges, Bounds.offset, Leaves.Holds, Le
 use Rattle.error_bound.specs.Best.{silent_leaf}
 use Rattle.cell_error.specs.declared.{ranges.MassRange.MassRange, ranges.Deviation.Deviation, means.Scale.Scale}
 use Rattle.cell_error.specs.Means.{IsMeanError}
-use Rattle.error_bound.proofs.SpanLemmas.{IsBetween, AreOrdered, same, minus_ordered, nothing_degree, truths_same}
+use Rattle.error_bound.proofs.SpanLemmas.{AreOrdered, same, minus_ordered, nothing_degree, truths_same}
 use Rattle.error_bound.proofs.Nested.{IsNarrow, rule_narrow, by_input as literal_narrow}
 use Rattle.error_bound.proofs.TightLemmas.{IsSomewhere, start_in, by_input as somewhere, rule_parts_ordered}
 use Rattle.error_bound.proofs.TightLawLemmas.{both_tests, low_part-same, up-mono, back_same, test-same}
-use Rattle.error_bound.proofs.RuleLemmas.{least_to_greatest, times_same, none_same, bytes_ordered, IsStill-test, none_below}
-use Rattle.error_bound.proofs.Literals.{at_place, width_pos, term_sides-are, term_errors-are}
+use Rattle.error_bound.proofs.RuleLemmas.{least_to_greatest, times_same, none_same, bytes_ordered, IsStill-test}
+use Rattle.error_bound.proofs.RuleLemmas.{none_below}
+use Rattle.error_bound.proofs.Literals.{at_place, width_pos, term_deviation-are, term_errors-are}
 use Rattle.error_bound.proofs.FlatteningLemmas.{at_literal-holds}
 
 both_false : (c d : Bool) → (c || d) ≡ false → (c ≡ false) × (d ≡ false)
@@ -201,12 +204,12 @@ module _ (x : Input) (term : Trapezoid) (w u v : Interval) (vx : IsValidInput x)
       let g = grade_of (row_of x term) in
       let d = distance x.lo x.hi in
       let hw = width_pos x vx in
-      let er = term_sides-are x term w vx vt ordered in
+      let er = term_deviation-are x term w vx vt ordered in
       let start = cell_start d u.from in
       let there = start_in d u.from hw in
       let near = c u.from (omega arith) some start there in
-      let a = at_place x term w u.from (term_sides x term w) start er hw uf (omega arith) there in
-      let b = at_place x term w n (term_sides x term w) y er hw (omega arith) (omega arith) in_cell in
+      let a = at_place x term w u.from (term_deviation x term w) start er hw uf (omega arith) there in
+      let b = at_place x term w n (term_deviation x term w) y er hw (omega arith) (omega arith) in_cell in
       let a0 = a.ordered.low in
       let a1 = a.ordered.high in
       let b0 = b.ordered.low in
@@ -216,10 +219,10 @@ module _ (x : Input) (term : Trapezoid) (w u v : Interval) (vx : IsValidInput x)
       near_same e.high e.low (g u.from) (g n) (degree_at (points_of x term) start) (degree_at (points_of x term) y)
       (omega arith) (same_trans low_a (back_same _ _ low_b)) near
 
-sides_same : (x : Input) (term : Trapezoid) (u v : Interval) (e f : Span ℕ)
+deviation_same : (x : Input) (term : Trapezoid) (u v : Interval) (e f : Span ℕ)
     → ((g : Span ℕ) → Covers x term u g → Covers x term v g) → ((g : Span ℕ) → Covers x term v g → Covers x term u g)
-    → AreTermSides x term u e → AreTermSides x term v f → e ≡ f
-sides_same x term u v e f there back p q =
+    → IsTermDeviation x term u e → IsTermDeviation x term v f → e ≡ f
+deviation_same x term u v e f there back p q =
     let l = p.least f (back f q.covers) in
     let m = q.least e (there e p.covers) in
     span_is (both_ways l.0 m.0) (both_ways l.1 m.1)
@@ -326,8 +329,8 @@ module _ (b : Block) (box small other : List Interval) (valid : IsValid b) (coun
 
   -- and one fall and rise
   module _ (e f : ℕ → ℕ → Span ℕ) (es : AreTermErrors b small e) (fs : AreTermErrors b other f) where
-    literal_sides : (i t : ℕ) → HasTerm b i t × IsChosen b box small other i t → e i t ≡ f i t
-    literal_sides i t (has, chosen) =
+    literal_deviation : (i t : ℕ) → HasTerm b i t × IsChosen b box small other i t → e i t ≡ f i t
+    literal_deviation i t (has, chosen) =
         let in_block : i - 1 < length b.inputs =
         IsSomeAnd-within (λ x. t ≤ length x.terms) b.inputs (i - 1) has.term_to in
         let x = some_at b.inputs (i - 1) in_block in
@@ -345,15 +348,15 @@ module _ (b : Block) (box small other : List Interval) (valid : IsValid b) (coun
         ⊎_elim
         (λ (s : slice_get small (i - 1) ≡ slice_get other (i - 1)). (
         let one : u.0 ≡ v.0 = (let a = u.1 in let d = v.1 in cc) in
-        let moved = subst (λ y. AreTermSides x.0 term.0 y (e i t)) one p in
-        sides_same x.0 term.0 v.0 v.0 (e i t) (f i t) (λ g c. c) (λ g c. c) moved q))
+        let moved = subst (λ y. IsTermDeviation x.0 term.0 y (e i t)) one p in
+        deviation_same x.0 term.0 v.0 v.0 (e i t) (f i t) (λ g c. c) (λ g c. c) moved q))
         (λ (flat : is_spread b box i t ≡ false). by_cover i t x.0 term.0 u.0 v.0 w.0 x.1 term.1 u.1 v.1 w.1 flat p q)
         chosen
       where
         by_cover : (i t : ℕ) (x : Input) (term : Trapezoid) (u v w : Interval) → input_at b i ≡ Some x
             → slice_get x.terms (t - 1) ≡ Some term → slice_get small (i - 1) ≡ Some u
             → slice_get other (i - 1) ≡ Some v → slice_get box (i - 1) ≡ Some w → is_spread b box i t ≡ false
-            → AreTermSides x term u (e i t) → AreTermSides x term v (f i t) → e i t ≡ f i t
+            → IsTermDeviation x term u (e i t) → IsTermDeviation x term v (f i t) → e i t ≡ f i t
         by_cover i t x term u v w ex et eu ev ew flat p q =
             let vx : IsValidInput x = All-slice_get IsValidInput b.inputs (i - 1) x valid.inputs ex in
             let vt : IsValidTerm x.lo x.hi term =
@@ -368,7 +371,7 @@ module _ (b : Block) (box small other : List Interval) (valid : IsValid b) (coun
             let n = (alike.other_is.some (i - 1) v ev).0 in
             let a0 = a.0 in
             let a1 = a.1 in
-            sides_same x term u v (e i t) (f i t)
+            deviation_same x term u v (e i t) (f i t)
             (covers_moved x term w u v vx vt m (omega arith) a.0 a.1 c.0 c.1 degrees grades)
             (covers_moved x term w v u vx vt n (omega arith) c.0 c.1 a.0 a.1 degrees grades) p q
 
@@ -408,15 +411,15 @@ module _ (b : Block) (box small other : List Interval) (valid : IsValid b) (coun
         literals in
         ap (λ (s : Span ℕ). let r : Span ℕ = record { low = s.low * v / 256; high = s.high * v / 256 } in r) same_bytes
 
-    one_rule_sides : (e f : ℕ → ℕ → Span ℕ) → AreTermErrors b small e → AreTermErrors b other f
-        → sides e r.cond ≡ sides f r.cond
-    one_rule_sides e f es fs = evaluate-related (λ (s r : Span ℕ). s ≡ r)
+    one_rule_deviation : (e f : ℕ → ℕ → Span ℕ) → AreTermErrors b small e → AreTermErrors b other f
+        → deviation e r.cond ≡ deviation f r.cond
+    one_rule_deviation e f es fs = evaluate-related (λ (s r : Span ℕ). s ≡ r)
         (record {
           none = λ or. refl;
           join = λ or a c b d h k. ap₂ (λ (s r : Span ℕ). (spans greatest).join or s r) h k;
         })
         (λ s r h. ap (reversed (λ n. n)) h)
-        {P = λ i t. HasTerm b i t × IsChosen b box small other i t} (literal_sides e f es fs) r.cond literals
+        {P = λ i t. HasTerm b i t × IsChosen b box small other i t} (literal_deviation e f es fs) r.cond literals
 
   -- it reaches as far on both
   record IsOneRule (r : Rule) : Type 0 where
@@ -451,9 +454,9 @@ module _ (b : Block) (box small other : List Interval) (valid : IsValid b) (coun
             byte_high = sym high_bytes ∙ h.byte_high;
           };
           rise = λ e f es fs. ap₂ (λ c (s : Span ℕ). if c then 0 else s.high + weight_error r + floor_error r) tests
-              (one_rule_sides r k at moves e f es fs);
+              (one_rule_deviation r k at moves e f es fs);
           fall = λ e f es fs. ap₂ (λ c (s : Span ℕ). if c then 0 else s.low + weight_error r) tests
-              (one_rule_sides r k at moves e f es fs);
+              (one_rule_deviation r k at moves e f es fs);
         }
 
     still_part : (part : List Interval) → IsInside part box → IsBox part → is_still b box r ≡ true

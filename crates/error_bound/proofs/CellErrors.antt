@@ -1,24 +1,24 @@
 -- The greatest rise and fall at the bounds of the cells are those over all their places, and what a term's cells have.
 use Rattle.std.proofs.Common.{◌≡◌, ⊎_elim, ℕ, zero, suc, ◌+◌, ◌-◌, ◌*◌, ◌<◌, ◌≤◌, max, Bool, ap, ◌∙◌, subst, arith}
-use Rattle.std.proofs.Common.{mul-le-mul_right, le_of_mul-le-mul_right, mul-pos, min, List, length, get_or-set_other}
+use Rattle.std.proofs.Common.{mul-pos, min, List, length, get_or-set_other}
 use Rattle.std.proofs.{Common.replicate, Common.refl, Common.sym, Common.ap₂, lemmas.Grind.get_or-set_at}
 use Rattle.std.proofs.{lemmas.List.length-set, lemmas.Bool.cases_lt}
 use native.Mathlib.Nat.{mul-sub}
 use Rattle.std.specs.Prelude.{◌==◌, slice_index, slice_set}
 use Rattle.fz_num.specs.Fractions.{Fraction, over, IsProper, AtMost, IsNear, rise, fall}
 use Rattle.fz_num.specs.Decimals.{distance}
-use Rattle.fz_num.proofs.Algebra.{AtMost-refl, IsProper-lesser, sides-near, rise-least, fall-least}
+use Rattle.fz_num.proofs.Algebra.{IsProper-lesser, sides-near, rise-least, fall-least}
 use Rattle.fz_num.proofs.Algebra.{IsNear-more, IsNear-between}
-use Rattle.byte_scaling.specs.Cells.{IsFromTo, inside, IsInCell}
+use Rattle.byte_scaling.specs.Cells.{IsFromTo, IsInCell}
 use Rattle.fuzzy_meaning.specs.Places.{Points, rise_at, fall_at, degree_at, points_of}
 use Rattle.fuzzy_meaning.specs.{declared.block.Trapezoid.Trapezoid, declared.block.Input.Input}
 use Rattle.cell_error.specs.declared.ranges.Deviation.{Deviation}
-use Rattle.error_bound.specs.CellErrors.{cell_rise, cell_fall, term_sides}
+use Rattle.error_bound.specs.CellErrors.{cell_rise, cell_fall, term_deviation}
 use Rattle.error_bound.specs.{declared.cells.TermCells.TermCells, declared.boxes.Interval.Interval, Errors.billion}
 use Rattle.error_bound.specs.{Boxes.least_from, Boxes.greatest_from, Places.rise_end, Places.low, Places.high}
 use Rattle.error_bound.specs.{Reaches.AreTermCells, Spans.Span}
 use Rattle.error_bound.proofs.Sides.{IsPeaked, low_bounds, high_bounds, side_rise_proper, side_fall_proper}
-use Rattle.error_bound.proofs.Sides.{side_end_proper, low_greatest, high_least, degree_proper}
+use Rattle.error_bound.proofs.Sides.{side_end_proper, low_greatest, high_least}
 use Rattle.point_slope.specs.Tables.{row_of, grade_of}
 
 -- in parts of t, over the bytes from p to q and every place of their cells
@@ -187,7 +187,7 @@ AreCellsBefore-none x term row from b start = record {
 }
 
 -- what a cell has
-pub record AreSidesOfCell (x : Input) (term : Trapezoid) (row : List ℕ) (b : ℕ) (d : Deviation) : Type 0 where
+pub record IsDeviationOfCell (x : Input) (term : Trapezoid) (row : List ℕ) (b : ℕ) (d : Deviation) : Type 0 where
   pub rise : d.rise ≡ cell_rise billion (points_of x term) (distance x.lo x.hi) (grade_of row) b
   pub fall : d.fall ≡ cell_fall billion (points_of x term) (distance x.lo x.hi) (grade_of row) b
   pub rise_small : d.rise ≤ billion
@@ -196,7 +196,7 @@ pub record AreSidesOfCell (x : Input) (term : Trapezoid) (row : List ℕ) (b : �
 -- of one byte more
 pub AreCellsBefore-more : (x : Input) (term : Trapezoid) (row : List ℕ) (from b : ℕ) (c : TermCells) (grade : ℕ)
     (d : Deviation) → AreCellsBefore x term row from b c → b < 256 → grade ≡ grade_of row b
-    → AreSidesOfCell x term row b d → AreCellsBefore x term row from (b + 1) (record {
+    → IsDeviationOfCell x term row b d → AreCellsBefore x term row from (b + 1) (record {
       grades = slice_set c.grades b grade;
       rises = slice_set c.rises b d.rise;
       falls = slice_set c.falls b d.fall;
@@ -260,12 +260,12 @@ module _ (x : Input) (term : Trapezoid) (v u : Interval) (c : TermCells) (cells 
   greatest_is = greatest_same (λ n. slice_index c.grades n) (grade_of (row_of x term)) u.from (u.to - u.from)
       (λ k l h. cells.grades k (omega arith) (omega arith))
 
-  pub rise_is : greatest_from (λ n. slice_index c.rises n) u.from (u.to - u.from) ≡ (term_sides x term u).high
+  pub rise_is : greatest_from (λ n. slice_index c.rises n) u.from (u.to - u.from) ≡ (term_deviation x term u).high
   rise_is = greatest_same (λ n. slice_index c.rises n)
       (cell_rise billion (points_of x term) (distance x.lo x.hi) (grade_of (row_of x term))) u.from (u.to - u.from)
       (λ k l h. cells.rises k (omega arith) (omega arith))
 
-  pub fall_is : greatest_from (λ n. slice_index c.falls n) u.from (u.to - u.from) ≡ (term_sides x term u).low
+  pub fall_is : greatest_from (λ n. slice_index c.falls n) u.from (u.to - u.from) ≡ (term_deviation x term u).low
   fall_is = greatest_same (λ n. slice_index c.falls n)
       (cell_fall billion (points_of x term) (distance x.lo x.hi) (grade_of (row_of x term))) u.from (u.to - u.from)
       (λ k l h. cells.falls k (omega arith) (omega arith))

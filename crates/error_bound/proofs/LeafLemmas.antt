@@ -215,7 +215,7 @@ IsStill-end b box r high end none byte_none = record {
 
 module _ (b : Block) (box : List Interval) (o n : ℕ) (r : Rule) (found : slice_get b.rules n ≡ Some r)
     (before : AreStillBefore b box o n) where
-  IsFirstFiring-next : concludes_some r o ≡ true → IsFirstFiring b box o (n + 1) r
+  pub IsFirstFiring-next : concludes_some r o ≡ true → IsFirstFiring b box o (n + 1) r
   IsFirstFiring-next one =
       let back : n ≡ n + 1 - 1 = omega arith in
       record {
@@ -265,7 +265,7 @@ HasLeafFault-silent b box o leaf f none (of_silent n r _ first fault) = of_silen
 
 -- ---- strong leaves
 
-some_part : (k : ℕ) → (k ≡ 0 → ⊥) → 1 ≤ k
+pub some_part : (k : ℕ) → (k ≡ 0 → ⊥) → 1 ≤ k
 some_part zero h = absurd (h refl)
 some_part (suc k) h = omega arith
 
@@ -278,7 +278,7 @@ module _ (b : Block) (o : ℕ) (leaf : Leaf) (pair : IsPairFor b o leaf) (some :
   rule-within = IsSomeAnd-within (λ r. IsTrue (concludes_some r o)) b.rules (leaf.rule - 1) (pair.concludes_one k_some)
 
   -- which concludes a term of the output
-  named_rule : (r : Rule) × (rule_at b leaf.rule ≡ Some r) × (concludes_some r o ≡ true)
+  pub named_rule : (r : Rule) × (rule_at b leaf.rule ≡ Some r) × (concludes_some r o ≡ true)
   named_rule =
       let at = some_at b.rules (leaf.rule - 1) rule-within in (
         at.0,

@@ -12,8 +12,10 @@ pub mod TableLemmas
 pub mod FlatteningLemmas
 pub mod ConditionErrors
 pub mod RangeLemmas
+pub mod LimitLemmas
 pub mod LeafLemmas
 pub mod TightLawLemmas
 pub mod Alike
 pub mod MattersLemmas
 pub mod ListLemmas
+pub mod JudgedLemmas

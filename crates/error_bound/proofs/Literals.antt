@@ -1,9 +1,9 @@
 -- Conditions and literals on a box: errors, and the spans that truths and levels lie in.
-use Rattle.std.proofs.Common.{ℕ, ◌-◌, ◌≤◌, min, max, Bool, true, false, arith, ◌≡◌, ⊎_elim, zero, suc, ◌+◌, ◌*◌, ◌<◌}
+use Rattle.std.proofs.Common.{ℕ, ◌-◌, ◌≤◌, min, Bool, true, false, arith, ◌≡◌, ⊎_elim, zero, suc, ◌+◌, ◌*◌, ◌<◌}
 use Rattle.std.proofs.Common.{List, length, Option, Some, None, refl, subst, mul-le-mul_right, mul-pos}
 use Rattle.std.proofs.{lemmas.Option.slice_get_within, lemmas.Option.slice_get-get_or, lemmas.Bool.Decides.nat_tests}
 use Rattle.std.proofs.{lemmas.Bool.cases_lt, lemmas.Int.ints}
-use Rattle.fz_num.specs.Fractions.{Fraction, IsProper, AtMost, lesser, greater, one_minus, one, none, IsNear, over}
+use Rattle.fz_num.specs.Fractions.{Fraction, IsProper, AtMost, lesser, one_minus, one, none, IsNear, over}
 use Rattle.fz_num.specs.{declared.dec.Dec.Dec, Decimals.distance}
 use Rattle.fz_num.proofs.Algebra.{AtMost-refl, AtMost-trans, IsProper-lesser, IsProper-greater, AtMost-lesser_left}
 use Rattle.fz_num.proofs.Algebra.{AtMost-greater, IsNear-lesser, IsNear-greater, IsNear-one_minus}
@@ -14,11 +14,11 @@ use Rattle.fuzzy_meaning.specs.Blocks.{IsValid, IsValidInput, IsValidTerm, input
 use Rattle.fuzzy_meaning.specs.{Meaning.truths, Meaning.truth, Meaning.literal_degree, declared.block.Block.Block}
 use Rattle.fuzzy_meaning.specs.{declared.block.Trapezoid.Trapezoid, declared.block.Input.Input, Degrees.degree}
 use Rattle.fuzzy_meaning.specs.Conditions.{evaluate_parts}
-use Rattle.error_bound.specs.Boxes.{LieIn, LieInCells, degrees_over, grades_over, least_from, greatest_from}
-use Rattle.error_bound.specs.Spans.{Span, only, span, byte_span, sides, spans, reversed, greatest}
-use Rattle.error_bound.specs.Errors.{billion, eps, AreTermSides, IsTermError, AreTermErrors}
+use Rattle.error_bound.specs.Boxes.{LieIn, LieInCells, degrees_over, grades_over, least_from}
+use Rattle.error_bound.specs.Spans.{Span, only, span, byte_span, deviation, spans, reversed, greatest}
+use Rattle.error_bound.specs.Errors.{billion, eps, IsTermDeviation, IsTermError, AreTermErrors}
 use Rattle.error_bound.specs.{Boxes.literal_span, Boxes.literal_byte_span, Laws.CellsHaveBounds, Laws.TermErrorsAre}
-use Rattle.error_bound.specs.{CellErrors.term_sides, CellErrors.term_errors, declared.boxes.Interval.Interval}
+use Rattle.error_bound.specs.{CellErrors.term_deviation, CellErrors.term_errors, declared.boxes.Interval.Interval}
 use Rattle.error_bound.proofs.Sides.{none_least, low_bounds, high_bounds, side_rise_proper, degree_proper, rise_all}
 use Rattle.error_bound.proofs.SpanLemmas.{IsBetween, between, AreOrdered, ordered-refl, truths_monotone}
 use Rattle.error_bound.proofs.CellErrors.{low_proper, high_proper, cells_bounds, cells_least, le_greatest}
@@ -104,7 +104,7 @@ within_none t e =
 module _ (t : ℕ) (d : ℕ → ℕ → Fraction) (g : ℕ → ℕ → ℕ) (e : ℕ → ℕ → Span ℕ)
     (l : (i k : ℕ) → IsHeld t (g i k) (d i k) (e i k)) where
   mutual
-    held : (c : Condition) → IsHeld t (level 255 g c) (truth d c) (sides e c)
+    held : (c : Condition) → IsHeld t (level 255 g c) (truth d c) (deviation e c)
     held (is i k) = l i k
     held (negation c) = held_minus t _ _ _ (held c)
     held (all cs) = parts_held false cs
@@ -118,7 +118,7 @@ module _ (t : ℕ) (d : ℕ → ℕ → Fraction) (g : ℕ → ℕ → ℕ) (e :
 
 pub within_spans : (t : ℕ) (d : ℕ → ℕ → Fraction) (g : ℕ → ℕ → ℕ) (e : ℕ → ℕ → Span ℕ) (s : ℕ → ℕ → Span Fraction)
     (r : ℕ → ℕ → Span ℕ) → ((i k : ℕ) → IsWithinSpans t (d i k) (g i k) (e i k) (s i k) (r i k)) → (c : Condition)
-    → IsWithinSpans t (truth d c) (level 255 g c) (sides e c) (span s c) (byte_span r c)
+    → IsWithinSpans t (truth d c) (level 255 g c) (deviation e c) (span s c) (byte_span r c)
 within_spans t d g e s r l c = record {
   held = held t d g e (λ i k. (l i k).held) c;
   between = between truths_monotone (λ i k. (l i k).between) c;
@@ -177,7 +177,7 @@ pub grade-le : (row : List ℕ) (v : ℕ) → grade_of row v ≤ 255
 grade-le row v = either_small _ _ (capped _)
 
 -- a term at a byte of the interval and a place of its cell
-pub at_place : (i : Input) (t : Trapezoid) (v : Interval) (n : ℕ) (e : Span ℕ) (x : Fraction) → AreTermSides i t v e
+pub at_place : (i : Input) (t : Trapezoid) (v : Interval) (n : ℕ) (e : Span ℕ) (x : Fraction) → IsTermDeviation i t v e
     → 0 < distance i.lo i.hi → v.from ≤ n → n ≤ v.to → IsInCell (distance i.lo i.hi) n x
     → IsWithinSpans billion (degree_at (points_of i t) x) (grade_of (row_of i t) n) e (degrees_over i t v)
     (grades_over i t v)
@@ -292,9 +292,9 @@ cells_bounded i t v vi vt h =
           (IsPeaked-points i t vt) g;
     }
 
-pub term_sides-are : (i : Input) (t : Trapezoid) (v : Interval) → IsValidInput i → IsValidTerm i.lo i.hi t
-    → v.from ≤ v.to → AreTermSides i t v (term_sides i t v)
-term_sides-are i t v vi vt h =
+pub term_deviation-are : (i : Input) (t : Trapezoid) (v : Interval) → IsValidInput i → IsValidTerm i.lo i.hi t
+    → v.from ≤ v.to → IsTermDeviation i t v (term_deviation i t v)
+term_deviation-are i t v vi vt h =
     let w = distance i.lo i.hi in
     let k = points_of i t in
     let g = grade_of (row_of i t) in
@@ -306,7 +306,7 @@ term_sides-are i t v vi vt h =
     }
 
 -- on both sides the greater of the two
-pub term_error-is : (i : Input) (t : Trapezoid) (v : Interval) (e : Span ℕ) → AreTermSides i t v e
+pub term_error-is : (i : Input) (t : Trapezoid) (v : Interval) (e : Span ℕ) → IsTermDeviation i t v e
     → IsTermError i t v (eps e)
 term_error-is i t v e s = record {
   covers = λ n h1 h2 x c. IsNear-more billion (grade_of (row_of i t) n) e.high (eps e) e.low (eps e)
@@ -321,7 +321,7 @@ term_errors-from b box valid some = record {
   error = λ i t x term v ex et ev.
       let vx : IsValidInput x = All-slice_get IsValidInput b.inputs (i - 1) x valid.inputs ex in
       let vt : IsValidTerm x.lo x.hi term = All-slice_get (IsValidTerm x.lo x.hi) x.terms (t - 1) term vx.terms et in
-      rw (ex, et, ev) (term_sides-are x term v vx vt (some (i - 1) v ev));
+      rw (ex, et, ev) (term_deviation-are x term v vx vt (some (i - 1) v ev));
 }
 
 pub term_errors-are : TermErrorsAre

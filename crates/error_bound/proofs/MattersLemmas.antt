@@ -1,12 +1,13 @@
 -- Whether inputs matter, rule by rule, and the narrowed box, interval by interval.
-use Rattle.std.proofs.Common.{◌≡◌, ℕ, zero, suc, ◌+◌, ◌<◌, ◌≤◌, Bool, true, false, not, List, [], ◌∷◌, ◌++◌, length}
+use Rattle.std.proofs.Common.{◌≡◌, ℕ, zero, suc, ◌+◌, ◌≤◌, Bool, true, false, not, List, [], ◌∷◌, ◌++◌, length}
 use Rattle.std.proofs.Common.{get_or, take, Option, Some, refl, sym, ap, ◌∙◌, subst, arith}
 use Rattle.std.proofs.{lemmas.Option.slice_get_within, lemmas.Option.get_or_from_slice_get, lemmas.List.take_more}
 use Rattle.std.proofs.lemmas.List.Folds.{list_any_at, list_any_more}
 use Rattle.std.specs.{Prelude.slice_get, Prelude.◌&&◌, Prelude.◌||◌, Prelude.if◌then◌else◌, List.list_any}
 use Rattle.fuzzy_meaning.specs.declared.{block.Block.Block, block.Rule.Rule}
 use Rattle.error_bound.specs.{declared.boxes.Interval.Interval, Boxes.IsBox, Boxes.IsBoxOf}
-use Rattle.error_bound.specs.{Tight.is_still, Matters.asks_for, Matters.matters, Matters.narrowed, Matters.narrowed_from}
+use Rattle.error_bound.specs.{Tight.is_still, Matters.asks_for, Matters.matters, Matters.narrowed}
+use Rattle.error_bound.specs.{Matters.narrowed_from}
 
 -- ---- rules
 

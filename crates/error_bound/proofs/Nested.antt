@@ -19,7 +19,7 @@ use Rattle.error_bound.specs.Errors.{billion, eps, AreTermErrors, rule_error, ru
 use Rattle.error_bound.specs.Errors.{floor_error, output_error_among}
 use Rattle.error_bound.specs.Boxes.{literal_byte_span, rule_span, rule_byte_span, IsBox}
 use Rattle.error_bound.specs.{Bounds.bound, Bounds.errors_from, Bounds.IsBound, declared.boxes.Interval.Interval}
-use Rattle.error_bound.specs.{Spans.Span, Spans.only, Spans.sides, Laws.BoundsAreDetermined}
+use Rattle.error_bound.specs.{Spans.Span, Spans.only, Spans.deviation, Laws.BoundsAreDetermined}
 use Rattle.error_bound.specs.{Leaves.Holds, Leaves.strong, Leaves.silent, declared.boxes.Leaf.Leaf}
 use Rattle.fz_list.proofs.Algebra.{All-slice_get, some_at, IsSomeAnd-some, IsSomeAnd-within}
 use Rattle.byte_scaling.specs.{Cells.cell_start, Cells.cell_end, Weights.weight_byte_of}
@@ -307,8 +307,8 @@ module _ (b : Block) (small box : List Interval) (e f : ℕ → ℕ → Span ℕ
       let q = fs.error i t x.0 term.0 v.0 x.1 term.1 v.1 in
       p.least (f i t) (λ m l h y inn. q.covers m (omega arith) (omega arith) y inn)
 
-  less_sides : (c : Condition) → IsValidCondition b c → IsLess (sides e c) (sides f c)
-  less_sides = evaluate-related IsLess
+  less_deviation : (c : Condition) → IsValidCondition b c → IsLess (deviation e c) (deviation f c)
+  less_deviation = evaluate-related IsLess
       (record {
         none = λ or. (omega arith, omega arith);
         join = λ or k m l n h i. (
@@ -319,13 +319,13 @@ module _ (b : Block) (small box : List Interval) (e f : ℕ → ℕ → Span ℕ
       (λ m n h. (h.1, h.0)) less_literal
 
   pub less_rise : (r : Rule) → IsValidRule b r → rule_rise e r ≤ rule_rise f r
-  less_rise r h = let s = less_sides r.cond h.condition in let l = s.1 in omega arith
+  less_rise r h = let s = less_deviation r.cond h.condition in let l = s.1 in omega arith
 
   pub less_fall : (r : Rule) → IsValidRule b r → rule_fall e r ≤ rule_fall f r
-  less_fall r h = let s = less_sides r.cond h.condition in let l = s.0 in omega arith
+  less_fall r h = let s = less_deviation r.cond h.condition in let l = s.0 in omega arith
 
   pub less_rule : (r : Rule) → IsValidRule b r → rule_error e r ≤ rule_error f r
-  less_rule r h = more (weight_error r) (floor_error r) (less_sides r.cond h.condition)
+  less_rule r h = more (weight_error r) (floor_error r) (less_deviation r.cond h.condition)
     where
       more : {p q : Span ℕ} (w z : ℕ) → IsLess p q → eps p + w + z ≤ eps q + w + z
       more w z h = let l = h.0 in let r = h.1 in omega arith

@@ -1,11 +1,11 @@
 -- A box's Bound, over the rows of an output's terms.
 use Rattle.std.proofs.Common.{◌≡◌, ⊎_elim, ℕ, ◌+◌, ◌-◌, ◌*◌, ◌<◌, ◌≤◌, sym, subst, arith, mul-le-mul_right}
 use Rattle.std.proofs.Common.{le_of_mul-le-mul_right, zero, suc, List, [], ◌∷◌, mul-pos, ap}
-use Rattle.std.proofs.{lemmas.Bool.cases_lt, lemmas.Nat.mul-le, lemmas.Int.ints}
+use Rattle.std.proofs.{lemmas.Bool.cases_lt, lemmas.Int.ints}
 use Rattle.fz_num.specs.Fractions.{Fraction, IsProper, AtMost, IsNear, over, up_div, IsClose}
 use Rattle.fz_num.specs.{declared.dec.Dec.Dec, Decimals.distance}
 use Rattle.fz_num.proofs.Algebra.{le-up_div}
-use Rattle.error_bound.specs.{Bounds.ratio_bound, Bounds.in_millionths, Bounds.offset, Errors.apart}
+use Rattle.error_bound.specs.{Bounds.in_millionths, Bounds.offset, Errors.apart}
 use Rattle.std.specs.Prelude.{ℤ, pos, ◌+ℤ◌, ◌-ℤ◌, ◌*ℤ◌, ◌<ℤ◌, unsigned_abs}
 use borrow.Author.Differences.{up, down}
 use Rattle.fuzzy_meaning.specs.{declared.block.Output.Output, Meaning.quotient_of, Blocks.IsWithin}

@@ -19,7 +19,7 @@ use Rattle.point_slope.specs.{Bytes.byte_shares_from, Bytes.total_mass as byte_t
 use Rattle.error_bound.specs.Boxes.{literal_span, literal_byte_span, rule_span, rule_byte_span, least_from}
 use Rattle.error_bound.specs.Faults.{parts_down, parts_up, IsStrongFault, weak, still, IsSilentFault, silent, loud}
 use Rattle.error_bound.specs.declared.boxes.LeafFault.TheVariants.{Weak, Silent, Loud}
-use Rattle.error_bound.specs.Spans.{span, byte_span, sides, only, Span}
+use Rattle.error_bound.specs.Spans.{span, byte_span, deviation, only, Span}
 use Rattle.error_bound.specs.{Tight.greatest_of, Tight.low_part, Tight.is_still, Tight.if_moving}
 use Rattle.error_bound.specs.Errors.{billion, apart, weight_error, rule_rise, rule_fall}
 use Rattle.error_bound.specs.Leaves.{IsStill}
@@ -55,7 +55,7 @@ weighted_near t g rise fall v w ew er q f hv hw h1 n w1 w2 q1 q2 =
     mul-le-mul_right (t * 10000 * f.den) q2 in
     record { up = omega (arith, a1, a1', a2, a2', a3); down = omega (arith, a1', b1, b2, b2', b3) }
 
-times_one : (f : Fraction) (w : ℕ) → w ≤ 10000 → AtMost f one → AtMost (times f w) one
+pub times_one : (f : Fraction) (w : ℕ) → w ≤ 10000 → AtMost f one → AtMost (times f w) one
 times_one f w hw h = let p : f.num * w ≤ f.den * w = mul-le-mul_right w (let c = h.cross in omega arith) in
     let q : w * f.den ≤ 10000 * f.den = mul-le-mul_right f.den hw in record { cross = omega arith }
 
@@ -119,7 +119,7 @@ weight_parts t x y =
     let w2 : y * t ≤ (x + (x - y + (y - x))) * t = mul-le-mul_right t (omega arith) in
     (omega arith, omega arith)
 
-weight_in : (w : Option Dec) → IfSome w IsWeight → weight_of w ≤ 10000
+pub weight_in : (w : Option Dec) → IfSome w IsWeight → weight_of w ≤ 10000
 weight_in None h = omega arith
 weight_in (Some w) h = omega (arith, ints, h.low, h.high)
 
@@ -128,15 +128,15 @@ byte_in None h = omega arith
 byte_in (Some w) h = let l = weight_in (Some w) h in omega arith
 
 -- from a rule's fall to its rise
-abbrev pub rule_sides : (ℕ → ℕ → Span ℕ) → Rule → Span ℕ
-rule_sides e r = record { low = rule_fall e r; high = rule_rise e r }
+abbrev pub rule_deviation : (ℕ → ℕ → Span ℕ) → Rule → Span ℕ
+rule_deviation e r = record { low = rule_fall e r; high = rule_rise e r }
 
 module _ (b : Block) (box : List Interval) (bytes : List ℕ) (xs : List Dec) (e : ℕ → ℕ → Span ℕ)
     (l : (i t : ℕ) → IsWithinSpans billion (literal_degree b xs i t) (literal_grade b bytes i t) (e i t)
     (literal_span b box i t) (literal_byte_span b box i t)) where
   -- a strength is at most that over bytes with the rule's rise, and at least that without its fall
   pub rule_within : (r : Rule) → IfSome r.weight IsWeight
-      → IsWithinSpans billion (strength b xs r) (byte_strength b bytes r) (rule_sides e r) (rule_span b box r)
+      → IsWithinSpans billion (strength b xs r) (byte_strength b bytes r) (rule_deviation e r) (rule_span b box r)
       (rule_byte_span b box r)
   rule_within r hw =
       let c = r.cond in
@@ -148,7 +148,7 @@ module _ (b : Block) (box : List Interval) (bytes : List ℕ) (xs : List Dec) (e
       let m = byte_span (literal_byte_span b box) c in
       let p = weight_parts billion ((v + 1) * 10000) (w * 256) in
       record {
-        held = scaled_held billion (byte_truth b bytes c) (sides e c) v w (weight_error r)
+        held = scaled_held billion (byte_truth b bytes c) (deviation e c) v w (weight_error r)
             (truth (literal_degree b xs) c) (byte_in r.weight hw) (weight_in r.weight hw) p.0 p.1 h.held;
         between = record {
           low = times_ordered s.low (truth (literal_degree b xs) c) w h.between.low;
@@ -287,13 +287,13 @@ joined_least n a c f g pf pg h k = ⊎_elim
     (cases_lt a c)
 
 -- from its fall to its rise, 0 where it is still
-abbrev pub moving_sides : Block → List Interval → (ℕ → ℕ → Span ℕ) → Rule → Span ℕ
-moving_sides b box e r =
+abbrev pub moving_deviation : Block → List Interval → (ℕ → ℕ → Span ℕ) → Rule → Span ℕ
+moving_deviation b box e r =
     record { low = if_moving b box r (rule_fall e r); high = if_moving b box r (rule_rise e r) }
 
 -- the greatest of the rules that conclude term t of output o
-abbrev pub sides_among : Block → List Interval → (ℕ → ℕ → Span ℕ) → ℕ → ℕ → List Rule → Span ℕ
-sides_among b box e o t rs = record {
+abbrev pub deviation_among : Block → List Interval → (ℕ → ℕ → Span ℕ) → ℕ → ℕ → List Rule → Span ℕ
+deviation_among b box e o t rs = record {
   low = greatest_of (λ r. if_moving b box r (rule_fall e r)) o t rs;
   high = greatest_of (λ r. if_moving b box r (rule_rise e r)) o t rs;
 }
@@ -309,10 +309,10 @@ module _ (b : Block) (box : List Interval) (bytes : List ℕ) (xs : List Dec) (e
       record { up = omega arith; down = omega arith }
 
   moving_held : (r : Rule) → IfSome r.weight IsWeight
-      → IsHeld billion (byte_strength b bytes r) (strength b xs r) (moving_sides b box e r)
+      → IsHeld billion (byte_strength b bytes r) (strength b xs r) (moving_deviation b box e r)
   moving_held r hw = by_bool (is_still b box r) refl
     where
-      k : IsHeld billion (byte_strength b bytes r) (strength b xs r) (rule_sides e r)
+      k : IsHeld billion (byte_strength b bytes r) (strength b xs r) (rule_deviation e r)
       k = (rule_within b box bytes xs e l r hw).held
 
       by_bool : (c : Bool) → is_still b box r ≡ c
@@ -330,23 +330,23 @@ module _ (b : Block) (box : List Interval) (bytes : List ℕ) (xs : List Dec) (e
 
   -- its bytes' mass is so near to it
   pub term_held : (t : ℕ) (rs : List Rule) → All (λ r. IfSome r.weight IsWeight) rs
-      → IsHeld billion (byte_mass_among b bytes o t rs) (mass_among b xs o t rs) (sides_among b box e o t rs)
+      → IsHeld billion (byte_mass_among b bytes o t rs) (mass_among b xs o t rs) (deviation_among b box e o t rs)
   term_held t [] hw = (within_none billion (only 0)).held
   term_held t (r ∷ rs) hw = by_bool (term_held t rs (λ k d i. hw (suc k) d (omega arith))) (concludes r o t)
     where
-      by_bool : IsHeld billion (byte_mass_among b bytes o t rs) (mass_among b xs o t rs) (sides_among b box e o t rs)
+      by_bool : IsHeld billion (byte_mass_among b bytes o t rs) (mass_among b xs o t rs) (deviation_among b box e o t rs)
           → (c : Bool)
           → IsHeld billion
           (if c then max (byte_strength b bytes r) (byte_mass_among b bytes o t rs) else byte_mass_among b bytes o t rs)
           (if c then greater (strength b xs r) (mass_among b xs o t rs) else mass_among b xs o t rs)
           (record {
-            low = if c then max (moving_sides b box e r).low (sides_among b box e o t rs).low else
-                (sides_among b box e o t rs).low;
-            high = if c then max (moving_sides b box e r).high (sides_among b box e o t rs).high else
-                (sides_among b box e o t rs).high;
+            low = if c then max (moving_deviation b box e r).low (deviation_among b box e o t rs).low else
+                (deviation_among b box e o t rs).low;
+            high = if c then max (moving_deviation b box e r).high (deviation_among b box e o t rs).high else
+                (deviation_among b box e o t rs).high;
           })
       by_bool rest true = held_joined billion true (byte_strength b bytes r) (byte_mass_among b bytes o t rs)
-          (moving_sides b box e r) (sides_among b box e o t rs) (strength b xs r) (mass_among b xs o t rs)
+          (moving_deviation b box e r) (deviation_among b box e o t rs) (strength b xs r) (mass_among b xs o t rs)
           (moving_held r (hw 0 r (omega arith))) rest
       by_bool rest false = rest
 
@@ -356,7 +356,7 @@ module _ (b : Block) (box : List Interval) (bytes : List ℕ) (xs : List Dec) (e
   term_low t [] hw = record { cross = omega arith }
   term_low t (r ∷ rs) hw = by_bool (term_low t rs (λ k d i. hw (suc k) d (omega arith))) (concludes r o t)
     where
-      w : IsWithinSpans billion (strength b xs r) (byte_strength b bytes r) (rule_sides e r) (rule_span b box r)
+      w : IsWithinSpans billion (strength b xs r) (byte_strength b bytes r) (rule_deviation e r) (rule_span b box r)
           (rule_byte_span b box r)
       w = rule_within b box bytes xs e l r (hw 0 r (omega arith))
 
@@ -383,7 +383,7 @@ module _ (b : Block) (box : List Interval) (bytes : List ℕ) (xs : List Dec) (e
   term_bytes t [] hw = (omega arith, omega arith)
   term_bytes t (r ∷ rs) hw = by_bool (term_bytes t rs (λ k d i. hw (suc k) d (omega arith))) (concludes r o t)
     where
-      w : IsWithinSpans billion (strength b xs r) (byte_strength b bytes r) (rule_sides e r) (rule_span b box r)
+      w : IsWithinSpans billion (strength b xs r) (byte_strength b bytes r) (rule_deviation e r) (rule_span b box r)
           (rule_byte_span b box r)
       w = rule_within b box bytes xs e l r (hw 0 r (omega arith))
 

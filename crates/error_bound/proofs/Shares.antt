@@ -1,7 +1,7 @@
 -- The rows of an output's terms, the sums over its shares and byte shares, and its answers where a box is sure.
-use Rattle.std.proofs.Common.{◌≡◌, ⊎_elim, ℕ, suc, ◌+◌, ◌*◌, ◌<◌, ◌≤◌, max, Bool, true, false, List, [], ◌∷◌, refl, ap}
-use Rattle.std.proofs.Common.{ap₂, ◌∙◌, subst, arith, mul-le-mul_right, cond, Some, sym, ◌-◌}
-use Rattle.std.proofs.{lemmas.Bool.Decides.nat_tests, lemmas.List.Sums.sum_by-cons, lemmas.Bool.cases_lt}
+use Rattle.std.proofs.Common.{◌≡◌, ℕ, suc, ◌+◌, ◌*◌, ◌<◌, ◌≤◌, max, Bool, true, false, List, [], ◌∷◌, refl, ap}
+use Rattle.std.proofs.Common.{ap₂, ◌∙◌, subst, arith, cond, Some, sym, ◌-◌}
+use Rattle.std.proofs.{lemmas.Bool.Decides.nat_tests, lemmas.List.Sums.sum_by-cons}
 use Rattle.std.proofs.lemmas.Int.{ints}
 use Rattle.std.specs.Prelude.{All, sum_by, IfSome, ◌==◌, ◌&&◌, ◌||◌, ℤ, pos, ◌+ℤ◌, ◌*ℤ◌, ◌≤ℤ◌, ◌<ℤ◌, if◌then◌else◌}
 use Rattle.std.specs.List.{list_any}
@@ -20,7 +20,8 @@ use Rattle.cell_error.specs.Means.{pull, up as up_of, down as down_of}
 use Rattle.error_bound.specs.Tight.{sum_over, greatest_over, low_of, byte_low_of, byte_high_of, rise_of, fall_of}
 use Rattle.error_bound.specs.Tight.{if_live, live_offset, IsSure, IsSureBound, sure_sum, ranges_at, deviations_at}
 use Rattle.error_bound.specs.Tight.{byte_ranges, deviations}
-use Rattle.error_bound.specs.{Boxes.literal_span, Boxes.literal_byte_span, declared.boxes.Interval.Interval, Spans.Span}
+use Rattle.error_bound.specs.{Boxes.literal_span, Boxes.literal_byte_span, declared.boxes.Interval.Interval}
+use Rattle.error_bound.specs.{Spans.Span}
 use Rattle.error_bound.specs.{Bounds.offset, Errors.billion}
 use Rattle.error_bound.proofs.Rows.{Row, dens, mass_sum, weighted, total_g, dot_u, dot_s, lows, AllOk, pull_rows}
 use Rattle.error_bound.proofs.Rows.{rise_pull, fall_pull}

@@ -41,7 +41,7 @@ as_literal b box i t x term v r ex et ev h =
     record {
       value = rw (ex, et, ev) h.value;
       bytes = rw (ex, et, ev) h.bytes;
-      sides = rw (ex, et, ev) h.sides;
+      deviation = rw (ex, et, ev) h.deviation;
       small = h.small;
     }
 

@@ -21,18 +21,21 @@ use Rattle.error_bound.specs.Tight.{deviations_at, byte_ranges, deviations, scal
 use Rattle.error_bound.specs.Tight.{IsTightCount, of_bound, of_none, greatest_over, high_part}
 use Rattle.error_bound.specs.Tight.{silent as tight_silent, sure}
 use Rattle.error_bound.specs.TightLaws.{TightBoundsAreLeast, TightBoundsFallInside, TightBoundsAreOne}
-use Rattle.error_bound.specs.Masses.{AreGreatest, AreMasses, AreSmall, sum_at, if_some, offset_at, byte_ranges_at}
-use Rattle.error_bound.specs.Masses.{deviations_of, scale_at, IsBoundAt}
+use Rattle.error_bound.specs.declared.tight.Deviations.{Deviations}
+use Rattle.error_bound.specs.Masses.{AreGreatest, AreMasses, AreDeviations, sum_at, if_some, offset_at}
+use Rattle.error_bound.specs.Masses.{byte_ranges_at, deviations_of, scale_at, IsBoundAt}
 use Rattle.error_bound.specs.Bounds.{offset, silent_bound, errors_from}
 use Rattle.error_bound.specs.{TightLaws.TightBoundsHoldInside, TightLaws.TightBoundsFallWithParts, Reaches.IsEndOfRule}
 use Rattle.error_bound.specs.{Leaves.Holds, Leaves.strong, Leaves.silent, Leaves.concludes_some, declared.ends.End.End}
 use Rattle.error_bound.specs.{Boxes.rule_span, Boxes.rule_byte_span, Boxes.IsBox, declared.boxes.Interval.Interval}
 use Rattle.error_bound.specs.Errors.{billion, AreTermErrors, rule_rise, rule_fall}
-use Rattle.error_bound.specs.{CellErrors.term_errors, Flattening.IsSame, Best.silent_leaf, declared.tight.Masses.Masses}
+use Rattle.error_bound.specs.{CellErrors.term_errors, Flattening.IsSame, Best.silent_leaf}
+use Rattle.error_bound.specs.{declared.tight.Masses.Masses}
 use Rattle.error_bound.specs.{Ratios.value_of, Laws.IsInside, Spans.Span}
 use Rattle.error_bound.proofs.Nested.{moved, bound_strong, bound_silent, rule_narrow, IsNarrow, less_rise, less_fall}
 use Rattle.error_bound.proofs.Nested.{leaves_hold_inside, inside_itself}
-use Rattle.error_bound.proofs.TightLemmas.{bytes_ordered_at, greatest_of-mono, sum_over-mono, greatest_over-mono, strong_sure, sure_has}
+use Rattle.error_bound.proofs.TightLemmas.{bytes_ordered_at, greatest_of-mono, sum_over-mono, greatest_over-mono}
+use Rattle.error_bound.proofs.TightLemmas.{strong_sure, sure_has}
 use Rattle.error_bound.proofs.RuleLemmas.{bytes_ordered, none_below, IsStill-test, none_same}
 use Rattle.error_bound.proofs.{TightLemmas.strong_least, AnswerLemmas.quiet_rules, Literals.term_errors-are}
 use Rattle.error_bound.proofs.{LeafLemmas.any-some, Shares.within_width}
@@ -503,20 +506,27 @@ AreGreatest-raised f n o r rest rs value old new here is to before raised = reco
       (before.small t few);
 }
 
-skipped-is : (p : Bool) (x y : ℕ) → (p ≡ true → x ≡ 0) → y ≡ (if p then max x y else y)
-skipped-is true x y none = let z = none refl in omega arith
-skipped-is false x y none = refl
+skipped-is : (p : Bool) (x y : ℕ) → (p ≡ true → x ≤ y) → y ≡ (if p then max x y else y)
+skipped-is true x y within = let z = within refl in omega arith
+skipped-is false x y within = refl
+
+-- one that raises nothing
+pub AreGreatest-within : (f : Rule → ℕ) (n o : ℕ) (r : Rule) (rest rs : List Rule) (values : List ℕ) → rs ≡ r ∷ rest
+    → ((t : ℕ) → t < 15 → concludes r o (t + 1) ≡ true → f r ≤ slice_index values t) → AreGreatest f n o rest values
+    → AreGreatest f n o rs values
+AreGreatest-within f n o r rest rs values here within before = record {
+  each = λ t few. before.each t few
+      ∙ skipped-is (concludes r o (t + 1)) (f r) (greatest_of f o (t + 1) rest)
+      (λ c. subst (λ m. f r ≤ m) (before.each t few) (within t few c))
+      ∙ sym (ap (greatest_of f o (t + 1)) here);
+  small = before.small;
+}
 
 -- one that counts for nothing
 pub AreGreatest-skipped : (f : Rule → ℕ) (n o : ℕ) (r : Rule) (rest rs : List Rule) (values : List ℕ) → rs ≡ r ∷ rest
     → (concludes_some r o ≡ true → f r ≡ 0) → AreGreatest f n o rest values → AreGreatest f n o rs values
-AreGreatest-skipped f n o r rest rs values here none before = record {
-  each = λ t few. before.each t few
-      ∙ skipped-is (concludes r o (t + 1)) (f r) (greatest_of f o (t + 1) rest)
-      (λ c. none (any-some o (t + 1) r.concl c))
-      ∙ sym (ap (greatest_of f o (t + 1)) here);
-  small = before.small;
-}
+AreGreatest-skipped f n o r rest rs values here none = AreGreatest-within f n o r rest rs values here
+    (λ t few c. omega (arith, none (any-some o (t + 1) r.concl c)))
 
 both_ways : {m n : ℕ} → m ≤ n → n ≤ m → m ≡ n
 both_ways l k = omega arith
@@ -638,28 +648,20 @@ module _ (b : Block) (box : List Interval) (o : ℕ) (x : Output) (m : Masses) (
   byte_ranges-same = ranges-same (slice_index m.byte_lows) (λ k. byte_low_of b box o (k + 1)) (slice_index m.byte_highs)
       (λ k. byte_high_of b box o (k + 1)) x.lo ms.byte_lows.each ms.byte_highs.each 0 x.singletons (omega arith)
 
-  deviations_of-same : deviations_of m x ≡ deviations b box (term_errors b box) o x
-  deviations_of-same = deviations-same (slice_index m.rises) (λ k. rise_of b box (term_errors b box) o (k + 1))
-      (slice_index m.falls) (λ k. fall_of b box (term_errors b box) o (k + 1)) ms.rises.each ms.falls.each 0
+  deviations_of-same : (d : Deviations) → AreDeviations b box o d
+      → deviations_of d x ≡ deviations b box (term_errors b box) o x
+  deviations_of-same d ds = deviations-same (slice_index d.rises) (λ k. rise_of b box (term_errors b box) o (k + 1))
+      (slice_index d.falls) (λ k. fall_of b box (term_errors b box) o (k + 1)) ds.rises.each ds.falls.each 0
       x.singletons (omega arith)
 
-  pub bound-same : (h n : ℕ) → IsBoundAt m x h n → IsSureBound b box (term_errors b box) o x h n
-  bound-same h n is =
-      subst (λ d. IsMeanError (scale b box o x h) (byte_ranges b box o x) d n) deviations_of-same
-      (subst (λ t. IsMeanError (scale b box o x h) t (deviations_of m x) n) byte_ranges-same
-      (subst (λ s. IsMeanError s (byte_ranges_at m x) (deviations_of m x) n) (scale-same h) is))
+  pub bound-same : (d : Deviations) → AreDeviations b box o d → (h n : ℕ) → IsBoundAt m d x h n
+      → IsSureBound b box (term_errors b box) o x h n
+  bound-same d ds h n is =
+      subst (λ d. IsMeanError (scale b box o x h) (byte_ranges b box o x) d n) (deviations_of-same d ds)
+      (subst (λ t. IsMeanError (scale b box o x h) t (deviations_of d x) n) byte_ranges-same
+      (subst (λ s. IsMeanError s (byte_ranges_at m x) (deviations_of d x) n) (scale-same h) is))
 
 -- ---- how great they are
-
-width_small : (x : Output) → IsValidOutput x → distance x.lo x.hi ≤ 2000010000
-width_small x v =
-    let r = v.range in
-    let l = v.lo_in.low in
-    let h = v.hi_in in
-    omega (arith, ints)
-
-pub width_some : (x : Output) → IsValidOutput x → 0 < distance x.lo x.hi
-width_some x v = let r = v.range in omega (arith, ints)
 
 pub ranges_fit : (f g : ℕ → ℕ) (lo hi : Dec) → lo.0 <ℤ hi.0 → ((j : ℕ) → j < 15 → f j ≤ g j)
     → ((j : ℕ) → j < 15 → g j ≤ 255) → (k : ℕ) (us : List Dec) → k + length us ≤ 15 → All (IsWithin lo hi) us
@@ -687,17 +689,18 @@ deviations_fit f g hf hg k (u ∷ us) l =
 
 module _ (b : Block) (box : List Interval) (o : ℕ) (x : Output) (h : ℕ) (m : Masses) (ms : AreMasses b box o m)
     (few : length x.singletons ≤ 15) (found : output_at b o ≡ Some x) where
-  pub some_bound : AreTermErrors b box (term_errors b box) → (r : Option ℕ) → IfSome r (IsBoundAt m x h)
-      → IfSome r (λ n. 1 ≤ sum_at m.lows x.singletons) → IfSome r (λ n. 1 ≤ sum_at m.byte_lows x.singletons)
+  pub some_bound : (d : Deviations) → AreDeviations b box o d → AreTermErrors b box (term_errors b box)
+      → (r : Option ℕ) → IfSome r (IsBoundAt m d x h) → IfSome r (λ n. 1 ≤ sum_at m.lows x.singletons)
+      → IfSome r (λ n. 1 ≤ sum_at m.byte_lows x.singletons)
       → IfSome r (λ n. IfSome (output_at b o) (λ y. IsTightBound b box o y h n))
-  some_bound es None e s t = tt
-  some_bound es (Some n) e s t =
+  some_bound d ds es None e s t = tt
+  some_bound d ds es (Some n) e s t =
       let is_sure : IsSure b box o x = record {
         sum = subst (λ k. 1 ≤ k) (sum-same b box o x m ms few) s;
         bytes = subst (λ k. 1 ≤ k) (bytes-same b box o x m ms few) t;
       } in
       let bounds : IsTightBound b box o x h n =
-      sure (term_errors b box) es is_sure (bound-same b box o x m ms few h n e) in
+      sure (term_errors b box) es is_sure (bound-same b box o x m ms few d ds h n e) in
       rw found bounds
 
   pub none_sure : (r : Option ℕ)

@@ -1,6 +1,7 @@
 -- The tight Bound's parts, the ends of a term's mass, and rules that are still.
 use Rattle.std.proofs.Common.{◌≡◌, ⊎_elim, ℕ, zero, suc, ◌+◌, ◌-◌, ◌*◌, ◌/◌, ◌<◌, ◌≤◌, max, Bool, true, false, List}
-use Rattle.std.proofs.Common.{[], ◌∷◌, length, get_or, Some, refl, sym, subst, ap, ap₂, ◌∙◌, arith, mul-le-mul_right, mul-pos}
+use Rattle.std.proofs.Common.{[], ◌∷◌, length, get_or, Some, refl, sym, subst, ap, ap₂, ◌∙◌, arith, mul-le-mul_right}
+use Rattle.std.proofs.Common.{mul-pos}
 use Rattle.std.proofs.{Common.Option, Common.None, Common.le_of_mul-le-mul_right, lemmas.Option.slice_get_within}
 use Rattle.std.proofs.{lemmas.Nat.mul-le, lemmas.Nat.le-div, lemmas.Bool.cases_lt, lemmas.Int.ints}
 use Rattle.std.specs.Prelude.{All, ◌==◌, slice_get, ◌<ℤ◌, IfSome, if◌then◌else◌}
@@ -14,7 +15,7 @@ use Rattle.fuzzy_meaning.specs.{Blocks.IsValidInput, Blocks.IsWeight, Blocks.inp
 use Rattle.fuzzy_meaning.specs.{declared.block.Trapezoid.Trapezoid, Places.points_of, Places.degree_at}
 use Rattle.fuzzy_meaning.specs.{declared.block.Block.Block, declared.block.Input.Input, declared.block.Rule.Rule}
 use Rattle.error_bound.specs.Errors.{billion, rule_error, rule_rise, rule_fall, output_error, output_error_among}
-use Rattle.error_bound.specs.Errors.{AreTermSides}
+use Rattle.error_bound.specs.Errors.{IsTermDeviation}
 use Rattle.cell_error.specs.declared.{ranges.MassRange.MassRange, ranges.Deviation.Deviation}
 use Rattle.cell_error.specs.{Errors.total, Errors.weighted, Means.pull, Means.up, Means.down, Means.IsOrdered}
 use Rattle.cell_error.specs.{Means.MeansHaveErrors, Errors.sure_mass}
@@ -25,18 +26,18 @@ use Rattle.error_bound.specs.Boxes.{rule_span, rule_byte_span, IsBox, literal_sp
 use Rattle.error_bound.specs.Bounds.{errors_from, strong_bound, ratio_bound, offset, greatest_offset}
 use Rattle.error_bound.specs.Tight.{sure_bytes, IsSure, high_part}
 use Rattle.error_bound.specs.{Leaves.IsStrong, Leaves.IsStill, Leaves.concludes_some, declared.boxes.Interval.Interval}
-use Rattle.error_bound.specs.{CellErrors.term_sides, CellErrors.term_errors, Masses.IsRuleMass, Masses.no_mass}
+use Rattle.error_bound.specs.{CellErrors.term_deviation, CellErrors.term_errors}
 use Rattle.error_bound.specs.{Spans.Span, Spans.only, Spans.span, Spans.byte_span, Errors.AreTermErrors}
 use Rattle.error_bound.specs.{Reaches.IsNowhere, Best.IsCandidate}
-use Rattle.error_bound.proofs.RuleLemmas.{rule_low_proper, bytes_ordered, term_held, rule_within, times_ordered, none_below}
+use Rattle.error_bound.proofs.RuleLemmas.{rule_low_proper, bytes_ordered, term_held, rule_within, times_ordered}
+use Rattle.error_bound.proofs.RuleLemmas.{none_below}
 use Rattle.error_bound.proofs.SpanLemmas.{IsBetween, AreOrdered, ordered-refl, between, truths_monotone}
 use Rattle.error_bound.proofs.Literals.{IsWithinSpans, term_errors-are, at_place, width_pos, least_le}
 use Rattle.error_bound.proofs.CellErrors.{le_greatest}
 use Rattle.error_bound.proofs.FlatteningLemmas.{span_to_itself, at_literal-holds}
-use Rattle.error_bound.proofs.{RuleLemmas.scaled-mono, RuleLemmas.times_proper, Shares.concluded, Shares.within_width}
-use Rattle.error_bound.proofs.{SpanLemmas.levels_monotone, LeafLemmas.candidate-rule, Nested.ratio-mono}
+use Rattle.error_bound.proofs.{RuleLemmas.scaled-mono, Shares.concluded, Shares.within_width}
+use Rattle.error_bound.proofs.{SpanLemmas.levels_monotone, LeafLemmas.candidate-rule}
 use Rattle.fz_num.proofs.Algebra.{by_greater, le-up_div, AtMost-refl, AtMost-lesser_left, AtMost-lesser_right}
-use Rattle.fz_num.proofs.Algebra.{up_div-le}
 use Rattle.byte_scaling.specs.{Cells.IsInCell, Cells.cell_start, Cells.inside, Weights.weight_byte_of}
 use Rattle.point_slope.specs.{Tables.row_of, Tables.grade_of, Bytes.literal_grade}
 
@@ -463,9 +464,9 @@ module _ (b : Block) (box : List Interval) (valid : IsValid b) (count : length b
         let hw = width_pos x vx in
         let s = is.some (i - 1) v.0 ev in
         let errors : AreTermErrors b box (term_errors b box) = term_errors-are b box valid is in
-        let er : AreTermSides x term v.0 (term_sides x term v.0) =
+        let er : IsTermDeviation x term v.0 (term_deviation x term v.0) =
         rw (ex, et, ev) at (errors.error i t x term v.0 ex et ev) in
-        let p = at_place x term v.0 v.0.from (term_sides x term v.0) (cell_start w v.0.from) er hw (omega arith) s.0
+        let p = at_place x term v.0 v.0.from (term_deviation x term v.0) (cell_start w v.0.from) er hw (omega arith) s.0
         (start_in w v.0.from hw) in
         (degree_at (points_of x term) (cell_start w v.0.from), rw (ex, et, ev) p.between)
 
@@ -540,31 +541,9 @@ module _ (b : Block) (box : List Interval) where
       let l : s.low ≤ s.high = (let x = h.low in let y = h.high in omega arith) in
       scaled-mono s.low s.high (weight_byte_of r.weight + 1) l
 
-  -- a rule that is still has no mass
-  pub still_mass : IsValid b → length box ≡ length b.inputs → IsBox box → (r : Rule) → IsStill b box r
-      → IsRuleMass b box r no_mass
-  still_mass valid count box_is r still =
-      let s = (rule_span b box r).high in
-      let proper : IsProper s = times_proper (highest b box r.cond) (weight_of r.weight)
-      (highest_proper b box r.cond) in
-      let upper : high_part b box r ≤ 0 = up_div-le (255 * billion * s.num) s.den 0 proper.pos
-      (let z = still.high in omega arith) in
-      let lower = rule_parts_ordered b box valid count box_is r in
-      let bytes = rule_upright r in
-      let byte_none = still.byte_high in
-      record {
-        low = omega arith;
-        high = omega arith;
-        byte_low = omega arith;
-        byte_high = omega arith;
-        rise = rw (still.high, still.byte_high) refl;
-        fall = rw (still.high, still.byte_high) refl;
-        low_small = omega arith;
-        high_small = omega arith;
-        byte_low_small = omega arith;
-        byte_high_small = omega arith;
-        sides_small = record { rise_to = omega arith; fall_to = omega arith };
-      }
+  -- a rule that is still counts for no deviation
+  pub still_moves : (r : Rule) (n : ℕ) → IsStill b box r → if_moving b box r n ≡ 0
+  still_moves r n still = rw (still.high, still.byte_high) refl
 
   -- nor does a leaf count on it
   pub IsCandidate-still : (o n : ℕ) (r : Rule) → slice_get b.rules n ≡ Some r

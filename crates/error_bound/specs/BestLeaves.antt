@@ -16,6 +16,17 @@ abbrev pub BestLeavesAreOne : Type 0
 BestLeavesAreOne =
     (b : Block) (box : List Interval) (o : ℕ) (p q : Option Leaf) → IsBest b box o p → IsBest b box o q → p ≡ q
 
+-- and each has a best leaf's Bound, or the count where there is none
+abbrev pub EachBoxHasABestBound : Type 0
+EachBoxHasABestBound =
+    (b : Block) (box : List Interval) (o : ℕ) (x : Output) (h : ℕ) → IsValid b → IsBox box
+    → (n : ℕ) × IsBestBound b box o x h n
+
+-- the best leaf counts on at most the whole truth
+abbrev pub BestPartsAreSmall : Type 0
+BestPartsAreSmall =
+    (b : Block) (box : List Interval) (o : ℕ) (leaf : Leaf) → IsValid b → IsBest b box o (Some leaf) → leaf.k ≤ 255
+
 -- it holds, and is a pair of a certificate
 abbrev pub BestLeavesHold : Type 0
 BestLeavesHold =

@@ -16,8 +16,8 @@ cell_fall t k w grade b = fall t (grade b) (low k (over (b * w) 256) (over ((b +
 abbrev pub cell_rise : ℕ → Points → ℕ → (ℕ → ℕ) → ℕ → ℕ
 cell_rise t k w grade b = rise t (grade b) (high k (over (b * w) 256) (over ((b + 1) * w) 256) (b == 255))
 
-abbrev pub term_sides : Input → Trapezoid → Interval → Span ℕ
-term_sides i t v =
+abbrev pub term_deviation : Input → Trapezoid → Interval → Span ℕ
+term_deviation i t v =
     let k = points_of i t in
     let w = distance i.lo i.hi in
     let grade = grade_of (row_of i t) in
@@ -28,4 +28,4 @@ term_sides i t v =
 
 -- of each term of each input over a box
 abbrev pub term_errors : Block → List Interval → ℕ → ℕ → Span ℕ
-term_errors b box i t = at_literal term_sides (only 0) b box i t
+term_errors b box i t = at_literal term_deviation (only 0) b box i t

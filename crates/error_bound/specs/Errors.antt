@@ -7,7 +7,7 @@ use Rattle.fuzzy_meaning.specs.{declared.block.Trapezoid.Trapezoid, Blocks.input
 use Rattle.fuzzy_meaning.specs.{Meaning.concludes, Places.points_of, Places.degree_at}
 use Rattle.byte_scaling.specs.{Cells.IsInCell, Weights.weight_byte_of}
 use Rattle.point_slope.specs.Tables.{row_of, grade_of}
-use Rattle.error_bound.specs.{declared.boxes.Interval.Interval, Spans.Span, Spans.only, Spans.sides}
+use Rattle.error_bound.specs.{declared.boxes.Interval.Interval, Spans.Span, Spans.only, Spans.deviation}
 
 abbrev pub billion : ℕ
 billion = 1000000000
@@ -24,7 +24,7 @@ Covers i t v e =
     → IsNear billion (grade_of (row_of i t) n) (degree_at (points_of i t) x) e.high e.low
 
 -- the fall of a term over an interval is the least such low, and its rise the least such high
-pub record AreTermSides (i : Input) (t : Trapezoid) (v : Interval) (e : Span ℕ) : Type 0 where
+pub record IsTermDeviation (i : Input) (t : Trapezoid) (v : Interval) (e : Span ℕ) : Type 0 where
   pub covers : Covers i t v e
   pub least : (f : Span ℕ) → Covers i t v f → (e.low ≤ f.low) × (e.high ≤ f.high)
 
@@ -40,7 +40,7 @@ pub record IsTermError (i : Input) (t : Trapezoid) (v : Interval) (e : ℕ) : Ty
 -- e gives the fall and the rise of each term of each input over a box
 pub record AreTermErrors (b : Block) (box : List Interval) (e : ℕ → ℕ → Span ℕ) : Type 0 where
   pub error : (i t : ℕ) (x : Input) (term : Trapezoid) (v : Interval) → input_at b i ≡ Some x
-      → slice_get x.terms (t - 1) ≡ Some term → slice_get box (i - 1) ≡ Some v → AreTermSides x term v (e i t)
+      → slice_get x.terms (t - 1) ≡ Some term → slice_get box (i - 1) ≡ Some v → IsTermDeviation x term v (e i t)
 
 -- |(v + 1)/256 - w|, rounded up
 abbrev pub weight_error : Rule → ℕ
@@ -52,15 +52,15 @@ floor_error r = if weight_byte_of r.weight == 255 then 0 else up_div billion 255
 
 -- a rule's strength is at most so far above that over bytes
 abbrev pub rule_rise : (ℕ → ℕ → Span ℕ) → Rule → ℕ
-rule_rise e r = (sides e r.cond).high + weight_error r + floor_error r
+rule_rise e r = (deviation e r.cond).high + weight_error r + floor_error r
 
 -- and below, where nothing is lost by rounding
 abbrev pub rule_fall : (ℕ → ℕ → Span ℕ) → Rule → ℕ
-rule_fall e r = (sides e r.cond).low + weight_error r
+rule_fall e r = (deviation e r.cond).low + weight_error r
 
 -- its eps, on both sides
 abbrev pub rule_error : (ℕ → ℕ → Span ℕ) → Rule → ℕ
-rule_error e r = eps (sides e r.cond) + weight_error r + floor_error r
+rule_error e r = eps (deviation e r.cond) + weight_error r + floor_error r
 
 -- of term t of output o: the greatest of those of the rules that conclude it, or 0
 abbrev pub output_error_among : (ℕ → ℕ → Span ℕ) → ℕ → ℕ → List Rule → ℕ

@@ -1,13 +1,13 @@
 -- Why a leaf does not hold on a box.
 -- Beside the promise.
-use Rattle.std.specs.Prelude.{◌≡◌, ℕ, ◌*◌, ◌/◌, ◌<◌, ◌≤◌, List, Some, IsTrue}
+use Rattle.std.specs.Prelude.{◌≡◌, ◌⊎◌, ℕ, ◌*◌, ◌/◌, ◌<◌, ◌≤◌, List, Some, IsTrue}
 use Rattle.fz_num.specs.Fractions.{Fraction, over, AtMost, IsBelow, up_div}
 use Rattle.fuzzy_meaning.specs.{declared.block.Block.Block, declared.block.Rule.Rule, Meaning.concludes}
 use Rattle.error_bound.specs.declared.boxes.Interval.{Interval}
 use Rattle.error_bound.specs.declared.boxes.Leaf as the
 use Rattle.error_bound.specs.declared.boxes.LeafFault.{LeafFault}
 use Rattle.error_bound.specs.declared.boxes.LeafFault.TheVariants.{Weak, Still, Silent, Loud}
-use Rattle.error_bound.specs.Leaves.{rule_at, concludes_some, IsStill, Holds}
+use Rattle.error_bound.specs.Leaves.{rule_at, concludes_some, IsStill, Holds, IsPairFor}
 use Rattle.error_bound.specs.{Boxes.rule_span, Boxes.rule_byte_span, Spans.Span, Errors.billion}
 
 -- in parts of 10^9, rounded down or up
@@ -54,3 +54,9 @@ abbrev pub LeafFaultsAreOne : Type 0
 LeafFaultsAreOne =
     (b : Block) (box : List Interval) (o : ℕ) (leaf : the.Leaf) (f g : LeafFault) → HasLeafFault b box o leaf f
     → HasLeafFault b box o leaf g → f ≡ g
+
+-- and each pair for an output holds or has one
+abbrev pub EachLeafIsJudged : Type 0
+EachLeafIsJudged =
+    (b : Block) (box : List Interval) (o : ℕ) (leaf : the.Leaf) → IsPairFor b o leaf
+    → Holds b box o leaf ⊎ ((f : LeafFault) × HasLeafFault b box o leaf f)

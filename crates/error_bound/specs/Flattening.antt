@@ -7,7 +7,7 @@ use Rattle.fuzzy_meaning.specs.{declared.block.Block.Block, Blocks.IsValidCondit
 use Rattle.fuzzy_meaning.specs.Conditions.{Condition, is, negation, all, any, Conditions, end, also, group, under}
 use Rattle.fuzzy_meaning.specs.Conditions.{Joins, evaluate_pushed, evaluate_pushed_parts}
 use Rattle.error_bound.specs.{declared.boxes.Interval.Interval, Boxes.literal_span, Boxes.literal_byte_span}
-use Rattle.error_bound.specs.Spans.{Span, span, byte_span, sides}
+use Rattle.error_bound.specs.Spans.{Span, span, byte_span, deviation}
 
 -- the second behind the first
 abbrev pub followed : Conditions → Conditions → Conditions
@@ -56,7 +56,7 @@ pub record ReachesAlike (b : Block) (c d : Condition) : Type 0 where
   pub valid : IsValidCondition b c → IsValidCondition b d
   pub spans : (box : List Interval) → AreSame IsSame (span (literal_span b box) d) (span (literal_span b box) c)
   pub byte_spans : (box : List Interval) → byte_span (literal_byte_span b box) d ≡ byte_span (literal_byte_span b box) c
-  pub errors : (e : ℕ → ℕ → Span ℕ) → sides e d ≡ sides e c
+  pub errors : (e : ℕ → ℕ → Span ℕ) → deviation e d ≡ deviation e c
 
 abbrev pub FlatteningKeepsReaches : Type 0
 FlatteningKeepsReaches = (b : Block) (c : Condition) → ReachesAlike b c (flat c)

@@ -1,10 +1,10 @@
 -- What the masses of an output's terms lie between over a box, and the answers that this allows.
 -- Beside the promise.
-use Rattle.std.specs.Prelude.{◌≡◌, ℕ, ◌+◌, ◌*◌, ◌<◌, ◌≤◌, List, [], ◌∷◌, Some, None}
+use Rattle.std.specs.Prelude.{◌≡◌, ℕ, ◌+◌, ◌*◌, ◌<◌, ◌≤◌, List, length, All, Some, None}
 use Rattle.std.specs.Option.{option_map_or}
 use Rattle.fz_num.specs.{declared.dec.Dec.Dec, Decimals.distance, Fractions.Quotient, Fractions.IsClose}
 use Rattle.cell_error.specs.{declared.ranges.MassRange.MassRange, declared.ranges.Answer.Answer, Errors.Covers}
-use Rattle.cell_error.specs.Errors.{sure_mass}
+use Rattle.cell_error.specs.Errors.{sure_mass, IsRange}
 use Rattle.fuzzy_meaning.specs.declared.{block.Block.Block, block.Output.Output}
 use Rattle.fuzzy_meaning.specs.{Blocks.output_at, Blocks.IsValid, Meaning.answer_after}
 use Rattle.byte_scaling.specs.Cells.{value_in}
@@ -42,3 +42,9 @@ AnswersToMassesAreNear =
     → (x.default ≡ None → 0 < sure_mass (ranges b box o x))
     → Covers (answer_at h x q) (ranges b box o x) (rest_of x) n
     → IsClose (distance x.lo x.hi) n (value_in h x q) (answer_after b o before xs)
+
+-- masses are in range: no end is below the lower one, or above 255
+abbrev pub MassesAreInRange : Type 0
+MassesAreInRange =
+    (b : Block) (box : List Interval) (o : ℕ) (x : Output) → IsValid b → length box ≡ length b.inputs → IsBox box
+    → output_at b o ≡ Some x → All (IsRange (distance x.lo x.hi)) (ranges b box o x)

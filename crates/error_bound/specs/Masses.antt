@@ -1,12 +1,16 @@
 -- What the code knows of the masses of an output's terms on a box.
 -- Beside the promise.
-use Rattle.std.specs.Prelude.{◌≡◌, ℕ, ◌+◌, ◌-◌, ◌*◌, ◌<◌, ◌≤◌, ◌==◌, List, if◌then◌else◌, slice_index}
-use Rattle.fz_num.specs.{declared.dec.Dec.Dec, Decimals.distance}
+use Rattle.std.specs.Prelude.{◌≡◌, ℕ, ◌+◌, ◌-◌, ◌*◌, ◌/◌, ◌<◌, ◌≤◌, ◌==◌, List, if◌then◌else◌, slice_index}
+use Rattle.std.specs.Prelude.{unsigned_abs}
+use Rattle.fz_num.specs.{declared.dec.Dec.Dec, Decimals.distance, Fractions.times}
 use Rattle.fuzzy_meaning.specs.declared.{block.Block.Block, block.Output.Output, block.Rule.Rule}
+use Rattle.fuzzy_meaning.specs.Conditions.{Condition}
 use Rattle.error_bound.specs.declared.{boxes.Interval.Interval, tight.RuleMass.RuleMass, tight.Masses.Masses}
+use Rattle.error_bound.specs.declared.{tight.Deviations.Deviations, limits.Limit.Limit}
 use Rattle.cell_error.specs.declared.{ranges.MassRange.MassRange, ranges.Deviation.Deviation, means.Scale.Scale}
-use Rattle.cell_error.specs.Means.{IsMeanError, IsSmallDeviation}
+use Rattle.cell_error.specs.Means.{IsMeanError}
 use Rattle.error_bound.specs.{Boxes.rule_byte_span, CellErrors.term_errors, Errors.rule_rise, Errors.rule_fall}
+use Rattle.error_bound.specs.{Boxes.literal_span, Boxes.literal_byte_span, Spans.span, Spans.byte_span, Errors.billion}
 use Rattle.error_bound.specs.{Bounds.offset, Tight.greatest_of, Tight.sum_over, Tight.greatest_over, Tight.low_part}
 use Rattle.error_bound.specs.Tight.{high_part, if_moving, ranges_at, deviations_at}
 
@@ -16,17 +20,26 @@ pub record IsRuleMass (b : Block) (box : List Interval) (r : Rule) (m : RuleMass
   pub high : m.high ≡ high_part b box r
   pub byte_low : m.byte_low ≡ (rule_byte_span b box r).low
   pub byte_high : m.byte_high ≡ (rule_byte_span b box r).high
-  pub rise : m.sides.rise ≡ if_moving b box r (rule_rise (term_errors b box) r)
-  pub fall : m.sides.fall ≡ if_moving b box r (rule_fall (term_errors b box) r)
   pub low_small : m.low ≤ 255000000000
   pub high_small : m.high ≤ 255000000000
   pub byte_low_small : m.byte_low ≤ 255
   pub byte_high_small : m.byte_high ≤ 255
-  pub sides_small : IsSmallDeviation m.sides
 
--- that of a rule that is still
-abbrev pub no_mass : RuleMass
-no_mass = record { low = 0; high = 0; byte_low = 0; byte_high = 0; sides = record { rise = 0; fall = 0 } }
+-- its strength reaches no further than these
+pub record IsRuleWithin (b : Block) (box : List Interval) (r : Rule) (m : RuleMass) : Type 0 where
+  pub low : low_part b box r ≤ m.low
+  pub high : high_part b box r ≤ m.high
+  pub byte_low : (rule_byte_span b box r).low ≤ m.byte_low
+  pub byte_high : (rule_byte_span b box r).high ≤ m.byte_high
+
+-- nor does the truth of a condition under the weight of a limit
+pub record IsConditionWithin (b : Block) (box : List Interval) (c : Condition) (l : Limit) : Type 0 where
+  pub low : 255 * billion * (times (span (literal_span b box) c).low (unsigned_abs l.weight.0)).num
+      < (l.mass.low + 1) * (times (span (literal_span b box) c).low (unsigned_abs l.weight.0)).den
+  pub high : 255 * billion * (times (span (literal_span b box) c).high (unsigned_abs l.weight.0)).num
+      ≤ l.mass.high * (times (span (literal_span b box) c).high (unsigned_abs l.weight.0)).den
+  pub byte_low : (byte_span (literal_byte_span b box) c).low * (l.byte + 1) / 256 ≤ l.mass.byte_low
+  pub byte_high : (byte_span (literal_byte_span b box) c).high * (l.byte + 1) / 256 ≤ l.mass.byte_high
 
 -- for each term the greatest that f gives for the rules that conclude it, n at most
 pub record AreGreatest (f : Rule → ℕ) (n o : ℕ) (rs : List Rule) (values : List ℕ) : Type 0 where
@@ -39,8 +52,11 @@ pub record AreMasses (b : Block) (box : List Interval) (o : ℕ) (m : Masses) : 
   pub highs : AreGreatest (high_part b box) 255000000000 o b.rules m.highs
   pub byte_lows : AreGreatest (λ r. (rule_byte_span b box r).low) 255 o b.rules m.byte_lows
   pub byte_highs : AreGreatest (λ r. (rule_byte_span b box r).high) 255 o b.rules m.byte_highs
-  pub rises : AreGreatest (λ r. if_moving b box r (rule_rise (term_errors b box) r)) 3000000000 o b.rules m.rises
-  pub falls : AreGreatest (λ r. if_moving b box r (rule_fall (term_errors b box) r)) 3000000000 o b.rules m.falls
+
+-- and how far they may be above those over bytes, and below
+pub record AreDeviations (b : Block) (box : List Interval) (o : ℕ) (d : Deviations) : Type 0 where
+  pub rises : AreGreatest (λ r. if_moving b box r (rule_rise (term_errors b box) r)) 3000000000 o b.rules d.rises
+  pub falls : AreGreatest (λ r. if_moving b box r (rule_fall (term_errors b box) r)) 3000000000 o b.rules d.falls
 
 pub record AreSmall (n : ℕ) (values : List ℕ) : Type 0 where
   pub each : (t : ℕ) → t < 15 → slice_index values t ≤ n
@@ -59,8 +75,8 @@ offset_at highs x = greatest_over (λ t s. if_some highs t (offset x s)) 1 x.sin
 abbrev pub byte_ranges_at : Masses → Output → List MassRange
 byte_ranges_at m x = ranges_at (slice_index m.byte_lows) (slice_index m.byte_highs) x.lo 0 x.singletons
 
-abbrev pub deviations_of : Masses → Output → List Deviation
-deviations_of m x = deviations_at (slice_index m.rises) (slice_index m.falls) 0 x.singletons
+abbrev pub deviations_of : Deviations → Output → List Deviation
+deviations_of d x = deviations_at (slice_index d.rises) (slice_index d.falls) 0 x.singletons
 
 abbrev pub scale_at : Masses → Output → ℕ → Scale
 scale_at m x h = record {
@@ -70,5 +86,5 @@ scale_at m x h = record {
   parts = h;
 }
 
-abbrev pub IsBoundAt : Masses → Output → ℕ → ℕ → Type 0
-IsBoundAt m x h n = IsMeanError (scale_at m x h) (byte_ranges_at m x) (deviations_of m x) n
+abbrev pub IsBoundAt : Masses → Deviations → Output → ℕ → ℕ → Type 0
+IsBoundAt m d x h n = IsMeanError (scale_at m x h) (byte_ranges_at m x) (deviations_of d x) n

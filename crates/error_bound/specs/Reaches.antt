@@ -14,8 +14,8 @@ use Rattle.error_bound.specs.{Ratios.value_of, Ratios.IsRatio, Spans.Span, Spans
 use Rattle.error_bound.specs.Boxes.{IsBoxOf, degrees_over, grades_over, literal_span, literal_byte_span, rule_span}
 use Rattle.error_bound.specs.Boxes.{rule_byte_span}
 use Rattle.error_bound.specs.Errors.{billion, rule_error, rule_rise, rule_fall}
-use Rattle.error_bound.specs.{Flattening.IsSame, Flattening.ReachesAlike, Spans.sides}
-use Rattle.error_bound.specs.CellErrors.{cell_rise, cell_fall, term_sides, term_errors}
+use Rattle.error_bound.specs.{Flattening.IsSame, Flattening.ReachesAlike, Spans.deviation}
+use Rattle.error_bound.specs.CellErrors.{cell_rise, cell_fall, term_deviation, term_errors}
 
 abbrev pub span_of : Degrees → Span Fraction
 span_of d = record { low = value_of d.low; high = value_of d.high }
@@ -24,10 +24,10 @@ abbrev pub byte_span_of : Reach → Span ℕ
 byte_span_of r = record { low = r.least; high = r.greatest }
 
 -- from the fall to the rise
-abbrev pub sides_in : Deviation → Span ℕ
-sides_in d = record { low = d.fall; high = d.rise }
+abbrev pub fall_to_rise : Deviation → Span ℕ
+fall_to_rise d = record { low = d.fall; high = d.rise }
 
-pub record AreSmallSides (d : Deviation) : Type 0 where
+pub record IsUnitDeviation (d : Deviation) : Type 0 where
   pub rise : d.rise ≤ 1000000000
   pub fall : d.fall ≤ 1000000000
 
@@ -76,13 +76,13 @@ pub record AreTruths (d : Degrees) : Type 0 where
 
 pub record IsSmall (r : Reach) : Type 0 where
   pub degrees : AreTruths r.degrees
-  pub sides : AreSmallSides r.sides
+  pub deviation : IsUnitDeviation r.deviation
 
 -- the reach of a term over an interval
 pub record IsReachOfTerm (x : Input) (term : Trapezoid) (v : Interval) (r : Reach) : Type 0 where
   pub value : span_of r.degrees ≡ degrees_over x term v
   pub bytes : byte_span_of r ≡ grades_over x term v
-  pub sides : sides_in r.sides ≡ term_sides x term v
+  pub deviation : fall_to_rise r.deviation ≡ term_deviation x term v
   pub small : IsSmall r
 
 -- the reaches of an input's terms
@@ -102,7 +102,7 @@ pub record AreBoxTerms (b : Block) (terms : BoxTerms) : Type 0 where
 pub record IsReachOfLiteral (b : Block) (box : List Interval) (i t : ℕ) (r : Reach) : Type 0 where
   pub value : span_of r.degrees ≡ literal_span b box i t
   pub bytes : byte_span_of r ≡ literal_byte_span b box i t
-  pub sides : sides_in r.sides ≡ term_errors b box i t
+  pub deviation : fall_to_rise r.deviation ≡ term_errors b box i t
   pub small : IsSmall r
 
 -- an end of the reach of a condition, the upper one or the lower
@@ -123,12 +123,12 @@ pub record IsEndOfRule (b : Block) (box : List Interval) (r : Rule) (upper : Boo
   pub small : IsRatio 10000000000000000 e.truth
 
 -- how far a condition's truth may be above that over bytes, and below
-pub record AreSidesOfCondition (b : Block) (box : List Interval) (c : Condition) (d : Deviation) : Type 0 where
-  pub value : sides_in d ≡ sides (term_errors b box) c
-  pub small : AreSmallSides d
+pub record IsDeviationOfCondition (b : Block) (box : List Interval) (c : Condition) (d : Deviation) : Type 0 where
+  pub value : fall_to_rise d ≡ deviation (term_errors b box) c
+  pub small : IsUnitDeviation d
 
 -- and a rule's strength
-pub record AreSidesOfRule (b : Block) (box : List Interval) (r : Rule) (d : Deviation) : Type 0 where
+pub record IsDeviationOfRule (b : Block) (box : List Interval) (r : Rule) (d : Deviation) : Type 0 where
   pub rise : d.rise ≡ rule_rise (term_errors b box) r
   pub fall : d.fall ≡ rule_fall (term_errors b box) r
   pub small : IsSmallDeviation d

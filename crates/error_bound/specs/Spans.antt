@@ -41,5 +41,5 @@ abbrev pub greatest : Joins ℕ
 greatest = record { none = λ any. 0; join = λ any. max }
 
 -- of how far degrees may be below grades, to how far above; NOT changes the two
-abbrev pub sides : (ℕ → ℕ → Span ℕ) → Condition → Span ℕ
-sides = evaluate (reversed (λ n. n)) (spans greatest)
+abbrev pub deviation : (ℕ → ℕ → Span ℕ) → Condition → Span ℕ
+deviation = evaluate (reversed (λ n. n)) (spans greatest)

@@ -40,6 +40,12 @@ TightBoundsAreOne =
     (b : Block) (box : List Interval) (o : ℕ) (x : Output) (h n m : ℕ) → IsValid b → length box ≡ length b.inputs
     → IsTightCount b box o x h n → IsTightCount b box o x h m → n ≡ m
 
+-- and each has the one or the other
+abbrev pub EachBoxHasATightCount : Type 0
+EachBoxHasATightCount =
+    (b : Block) (box : List Interval) (o : ℕ) (x : Output) (h : ℕ) → IsValid b → IsBox box → output_at b o ≡ Some x
+    → 1 ≤ h → (n : ℕ) × IsTightCount b box o x h n
+
 -- it is at most the whole range
 abbrev pub TightBoundsAreSmall : Type 0
 TightBoundsAreSmall =

@@ -14,8 +14,8 @@ use byte_scaling::near;
 use fuzzy_meaning::{Block, Output, Rule};
 use fz_num::Dec;
 
-/// The Bound of a strong leaf, in millionths of the output's range, for answers in so many parts to
-/// a byte, of the sum of its terms' errors and the part of the rule's strength that is counted on.
+/// The Bound of a strong leaf, in millionths of the output's range, for answers with `parts` parts to
+/// a byte, from the sum of its terms' errors and the leaf's `k`.
 pub(crate) fn strong_bound(output: &Output, parts: u16, sum: u64, k: u8) -> u32
     requires output { IsValidOutput output.now }
     requires parts_from { 1 ≤ parts }
@@ -33,7 +33,7 @@ pub(crate) fn strong_bound(output: &Output, parts: u16, sum: u64, k: u8) -> u32
     in_millionths(num, product(counted, bytes, steps))
 }
 
-/// The Bound of a silent leaf: how far the default's byte is from it, or 0 with NC.
+/// The Bound of a silent leaf: how far the value of the default's byte is from the default, or 0 with NC.
 pub(crate) fn silent_bound(output: &Output) -> u32
     requires { IsValidOutput output.now }
     ensures { result ≡ silent_bound_of output.now }
@@ -67,7 +67,7 @@ fn product(x: u64, bytes: u64, steps: u64) -> u128
     u128::from(x) * u128::from(bytes * steps)
 }
 
-/// A fraction in millionths, rounded up, and 1000000 at most.
+/// A fraction in millionths, rounded up, but at most 1000000.
 pub(crate) fn in_millionths(num: u128, den: u128) -> u32
     requires num { num ≤ 400000000000000000000000000000 }
     requires den_from { 0 < den }
@@ -77,7 +77,7 @@ pub(crate) fn in_millionths(num: u128, den: u128) -> u32
     ((1_000_000 * num + (den - 1)) / den).min(1_000_000) as u32
 }
 
-/// How far a number of an output is from the value of its byte, over `whole_bytes`.
+/// The distance of a number of an output from the value of its byte, as the numerator over `whole_bytes`.
 pub(crate) fn offset(output: &Output, number: Dec) -> u64
     requires output { IsValidOutput output.now }
     requires number { IsWithin output.now.lo output.now.hi number }
@@ -119,7 +119,7 @@ impl BoxTable<'_> {
         sum
     }
 
-    /// The errors of an output's terms, from the first on: each the greatest of the rules that conclude it.
+    /// The errors of an output's terms, in order: each is the greatest of the rules that conclude the term.
     fn errors_by_term(&self, block: &Block, out: u8) -> [u64; 15]
         requires table { IsTable block.now self.now }
         requires block { IsValid block.now }
@@ -139,7 +139,7 @@ impl BoxTable<'_> {
     }
 }
 
-/// Raises to a rule's error those of the terms of an output that it concludes.
+/// Raises the errors of those of an output's terms that a rule concludes to at least the rule's error.
 pub(crate) fn raise_terms(errors: &mut [u64; 15], rule: &Rule, out: u8, error: u64)
     requires { All (λ c. (1 ≤ c.1) × (c.1 ≤ 15)) rule.now.concl }
     ensures { (t : ℕ) → t < 15 → slice_index errors.new t ≡ (if concludes_it rule.now out (t + 1)

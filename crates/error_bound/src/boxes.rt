@@ -1,4 +1,4 @@
-//! Boxes of bytes and what a leaf says of one.
+//! Boxes of bytes, and what a leaf states about one.
 ghost use Rattle.std.specs.Prelude.{◌≡◌, ◌<◌, length, set};
 
 use arrayvec::ArrayVec;
@@ -16,7 +16,7 @@ pub struct Interval {
 pub struct ByteBox(pub ArrayVec<Interval, 8>);
 
 impl ByteBox {
-    /// The same box again, which takes no memory.
+    /// A copy of the box. It allocates no memory.
     pub fn copied(&self) -> ByteBox
         ensures { result.0.items ≡ self.now.0.items }
     {
@@ -27,7 +27,7 @@ impl ByteBox {
         ByteBox(intervals)
     }
 
-    /// Puts another interval at a place.
+    /// Sets the interval at an index.
     pub(crate) fn set_interval(&mut self, place: usize, new: Interval)
         requires { place < length self.old.0.items }
         ensures { self.new.0.items ≡ set self.old.0.items place new }
@@ -36,7 +36,7 @@ impl ByteBox {
     }
 }
 
-/// What a leaf says of an output: the rule `rule` has a strength of at least `k`/255, or, where
+/// What a leaf states about an output: that the rule `rule` has a strength of at least `k`/255, or, if
 /// both are 0, that no rule fires. Rules count from 1.
 #[derive(Clone, Copy, PartialEq, Eq, Debug)]
 pub struct Leaf {
@@ -47,12 +47,12 @@ pub struct Leaf {
 /// Why a leaf does not hold on a box.
 #[derive(Clone, Copy, PartialEq, Eq, Debug)]
 pub enum LeafFault {
-    /// That rule's strength goes below `k`/255: as far down as the number says, rounded down.
+    /// The least strength of that rule is below `k`/255: it is this number, rounded down.
     Weak(u16, u8, Nano),
-    /// That rule's strength over bytes goes down to 0.
+    /// The least strength of that rule over bytes is 0.
     Still(u16),
-    /// That rule's strength goes as high as the number says, rounded up.
+    /// The greatest strength of that rule is this number, rounded up.
     Silent(u16, Nano),
-    /// That rule's strength over bytes goes as high as that byte.
+    /// The greatest strength of that rule over bytes is this byte.
     Loud(u16, u8),
 }

@@ -1,4 +1,4 @@
-//! The grades of a term and how far each is from its cell's degrees, byte by byte.
+//! The grades of a term and how far each is from the degrees of its cell, byte by byte.
 ghost use Rattle.std.specs.Prelude.{◌≡◌, ◌-◌, ◌≤◌, ℕ, length, IfSome, slice_get, slice_index};
 ghost use Rattle.fz_num.specs.Decimals.{distance};
 ghost use Rattle.fuzzy_meaning.specs.{Blocks.IsValidInput, Blocks.IsValidTerm, Places.points_of};
@@ -14,8 +14,8 @@ use fuzzy_meaning::{Input, Trapezoid};
 use fz_num::Nano;
 use point_slope::{grade, row};
 
-/// The eps of a term over the bytes from `from` to `to`: the least number of 10^9 parts above which
-/// no grade of these bytes is from a degree of its cell. A term counts from 1 in its input.
+/// The eps of a term over the bytes from `from` to `to`: the greatest distance, in parts of 10^9 and
+/// rounded up, of a grade from the degrees of its cell. The terms of an input count from 1.
 pub fn term_error(input: &Input, term: u8, from: u8, to: u8) -> Nano
     requires input { IsValidInput input.now }
     requires term_from { 1 ≤ term }
@@ -29,7 +29,7 @@ pub fn term_error(input: &Input, term: u8, from: u8, to: u8) -> Nano
     Nano(u64::from(grades.rise.max(grades.fall)))
 }
 
-/// From the least to the greatest grade, and the greatest rise and fall, in parts of 10^9.
+/// The least and the greatest grade, and the greatest rise and fall, in parts of 10^9.
 #[derive(Clone, Copy)]
 pub(crate) struct Grades {
     pub(crate) least: u8,
@@ -38,8 +38,8 @@ pub(crate) struct Grades {
     pub(crate) fall: u32,
 }
 
-/// A term's grades at the bytes of an interval, and how far degrees of their cells rise above them and fall below,
-/// in parts of 10^9.
+/// A term's grades at the bytes of an interval, and how far the degrees of their cells rise above them and fall
+/// below, in parts of 10^9.
 #[derive(Clone, Copy)]
 pub(crate) struct TermCells {
     grades: [u8; 256],
@@ -55,7 +55,7 @@ impl TermCells {
         falls: [0; 256],
     };
 
-    /// Of a term over an interval. A term counts from 1 in its input.
+    /// The cells of a term over an interval. The terms of an input count from 1.
     pub(crate) fn new(input: &Input, term: u8, bytes: Interval) -> TermCells
         requires input { IsValidInput input.now }
         requires term_from { 1 ≤ term }
@@ -67,7 +67,7 @@ impl TermCells {
         cells_under(input, term, table, bytes)
     }
 
-    /// The reach of the grades, and the greatest rise and fall, over an interval.
+    /// The least and the greatest grade, and the greatest rise and fall, over an interval.
     pub(crate) fn over(&self, bytes: Interval) -> Grades
         requires { bytes.from ≤ bytes.to }
         ensures least { result.least ≡ least_from
@@ -112,15 +112,15 @@ fn cells_under(input: &Input, term: &Trapezoid, table: [u8; 4], bytes: Interval)
     let mut cells = TermCells::NONE;
     for b in usize::from(bytes.from)..usize::from(bytes.to) + 1 {
         cells.grades[b] = grade(table, b as u8);
-        let sides = sides_of_cell(input, term, table, b as u8);
-        cells.rises[b] = sides.rise as u32;
-        cells.falls[b] = sides.fall as u32;
+        let deviation = deviation_of_cell(input, term, table, b as u8);
+        cells.rises[b] = deviation.rise as u32;
+        cells.falls[b] = deviation.fall as u32;
     }
     cells
 }
 
 /// How far the degrees of one byte's cell rise above its grade, and fall below.
-fn sides_of_cell(input: &Input, term: &Trapezoid, table: [u8; 4], b: u8) -> Deviation
+fn deviation_of_cell(input: &Input, term: &Trapezoid, table: [u8; 4], b: u8) -> Deviation
     requires input { IsValidInput input.now }
     requires term { IsValidTerm input.now.lo input.now.hi term.now }
     ensures rise { result.rise

@@ -9,9 +9,8 @@ use crate::ends::End;
 use crate::rules::BoxTable;
 use fuzzy_meaning::Block;
 
-/// The best leaf of a box for an output, which counts from 1: the silent one where it holds, else of
-/// the strong ones the one with the greatest `k`, of those the one with the first rule, and `None`
-/// exactly where there is none.
+/// The best leaf of a box for an output, counted from 1: the silent one if it holds, else the strong
+/// one with the greatest `k`, the first rule's on a tie, or `None` if no leaf holds.
 pub fn best(block: &Block, bytes: &ByteBox, out: u8) -> Option<Leaf>
     requires block { IsValid block.now }
     requires bytes { IsBoxOf block.now bytes.now.0.items }
@@ -33,7 +32,7 @@ impl BoxTable<'_> {
         }
     }
 
-    /// The strong leaf with the greatest part, the first rule's on a tie.
+    /// The strong leaf with the greatest `k`, the first rule's on a tie.
     fn strongest(&self, block: &Block, out: u8) -> Option<Leaf>
         requires block { IsValid block.now }
         requires table { IsTable block.now self.now }
@@ -58,7 +57,7 @@ impl BoxTable<'_> {
         }
     }
 
-    /// The part of rule number n + 1 that its leaf could count on, or 0.
+    /// The greatest `k` with which a strong leaf of rule number n + 1 holds, or 0 if there is none.
     fn part_of_rule(&self, block: &Block, n: u16, out: u8) -> u8
         requires table { IsTable block.now self.now }
         requires block { IsValid block.now }
@@ -74,7 +73,7 @@ impl BoxTable<'_> {
     }
 }
 
-/// The least strength over a box in 255ths, rounded down, or 0 where over bytes it is 0.
+/// The least strength over a box in 255ths, rounded down, or 0 if the least over bytes is 0.
 fn part_of(low: End) -> u8
     requires { IsRatio 10000000000000000 low.truth }
     ensures part { 1 ≤ low.byte → result ≡ 255 * (value_of low.truth).num / (value_of low.truth).den }

@@ -1,4 +1,4 @@
-//! From the least to the greatest degree.
+//! The range of a term's degrees.
 ghost use Rattle.std.specs.Prelude.{◌≡◌, ◌+◌, ◌*◌, ◌==◌, ◌≤◌, IfSome, ◌≤ℤ◌, option_map};
 ghost use Rattle.fz_num.specs.{Fractions.over, Decimals.distance};
 ghost use Rattle.fuzzy_meaning.specs.{Blocks.IsValidInput, Blocks.IsValidTerm, Places.rise_at, Places.fall_at};
@@ -10,14 +10,14 @@ use crate::ratio::Ratio;
 use fuzzy_meaning::{Input, Trapezoid};
 use fz_num::Dec;
 
-/// From the least to the greatest degree.
+/// The least and the greatest degree.
 #[derive(Clone, Copy)]
 pub(crate) struct Degrees {
     pub(crate) low: Ratio,
     pub(crate) high: Ratio,
 }
 
-/// Of a term over the cells of an interval, between numbers too.
+/// The range of a term's degrees at all points of the cells of an interval.
 pub(crate) fn degrees_of(input: &Input, term: &Trapezoid, bytes: Interval) -> Degrees
     requires input { IsValidInput input.now }
     requires term { IsValidTerm input.now.lo input.now.hi term.now }
@@ -37,7 +37,7 @@ pub(crate) fn degrees_of(input: &Input, term: &Trapezoid, bytes: Interval) -> De
     }
 }
 
-/// The rising side at n/256, or its limit from below where the end is open.
+/// The degree of the rising side at n/256, or its limit from below if the end is open.
 fn rising(lo: Dec, a: Option<Dec>, b: Dec, n: u64, closed: bool) -> Ratio
     requires a { IfSome a (λ p. (lo.0 ≤ℤ p.0) × (p.0 ≤ℤ b.0)) }
     requires b { lo.0 ≤ℤ b.0 }
@@ -63,7 +63,7 @@ fn rising(lo: Dec, a: Option<Dec>, b: Dec, n: u64, closed: bool) -> Ratio
     }
 }
 
-/// The falling side at n/256.
+/// The degree of the falling side at n/256.
 fn falling(lo: Dec, c: Dec, d: Option<Dec>, n: u64) -> Ratio
     requires c { lo.0 ≤ℤ c.0 }
     requires d { IfSome d (λ p. (c.0 ≤ℤ p.0) × (distance lo p ≤ 2000000000)) }

@@ -1,8 +1,8 @@
 //! Flat conditions, for many boxes.
 //!
-//! AND and OR spread into the rule list, which has little room. But a text may nest them 64 deep and put a NOT at each
-//! place, and a walk through that takes a call for each. A flat condition has NOT at literals alone, and no AND
-//! right in an AND nor OR right in an OR, so that most of its walk is one loop over literals.
+//! AND and OR spread into the rule list, which has little room. But a text may nest them 64 deep with a NOT at each
+//! level, and walking through that takes a call for each. A flat condition has NOT at literals only, and no AND
+//! directly in an AND nor OR directly in an OR, so that most of the walk is one loop over literals.
 ghost use Rattle.std.specs.Prelude.{◌≡◌, IfOk, OnOk};
 ghost use Rattle.fuzzy_meaning.specs.Conditions.{conditions, group, under as under_of};
 ghost use Rattle.error_bound.specs.Flattening.{followed, parts as parts_of, flat_under, flat_parts, flat};
@@ -19,7 +19,7 @@ pub(crate) fn flattened(alloc: Global, condition: &Condition) -> Result<Conditio
     Ok(Condition::all(pieces))
 }
 
-/// Puts what a condition comes to behind the parts of an OR or an AND. `odd` says that it stands behind
+/// Appends the flat form of a condition to the parts of an OR (`any`) or an AND. `odd` means that it is under
 /// an odd number of NOTs.
 #[cycle(flattening)]
 fn push_pieces(
@@ -44,7 +44,7 @@ fn push_pieces(
     }
 }
 
-/// Puts a group of parts, an OR where `kind` says so, behind those of another.
+/// Appends a group of parts, an OR if `kind` is true and else an AND, to the parts of another group.
 #[cycle(flattening)]
 fn push_group(
     alloc: Global,
@@ -66,7 +66,7 @@ fn push_group(
     Ok(())
 }
 
-/// An OR of parts, or an AND.
+/// The OR of these parts, or the AND.
 fn grouped(parts: Vec<Condition>, any: bool) -> Condition
     ensures { result ≡ group any (conditions parts.items) }
 {
@@ -77,7 +77,7 @@ fn grouped(parts: Vec<Condition>, any: bool) -> Condition
     }
 }
 
-/// Puts what each part comes to behind the parts of an OR or an AND.
+/// Appends the flat form of each part to the parts of an OR (`any`) or an AND.
 #[cycle(flattening)]
 fn push_each(
     alloc: Global,
@@ -95,7 +95,7 @@ fn push_each(
     Ok(())
 }
 
-/// A condition, or where `odd` its negation.
+/// The condition, or its negation if `odd`.
 fn under(alloc: Global, condition: Condition, odd: bool) -> Result<Condition, AllocError>
     ensures { IfOk result (λ c. c ≡ under_of odd condition) }
 {

@@ -1,4 +1,4 @@
-//! Leaves: whether they hold on a box, with which Bound, and the best one of a box.
+//! Leaves: whether one holds on a box, and with which Bound.
 ghost use Rattle.std.specs.Prelude.{◌≡◌, ◌↔◌, ◌≤◌, ◌<◌, ◌*◌, ◌/◌, ℕ, IsTrue, IfOk, IfErr, OnOk, All, IfSome, IfNone};
 ghost use Rattle.std.specs.Prelude.{Some, length};
 ghost use Rattle.fz_num.specs.Fractions.{over, AtMost};
@@ -16,7 +16,7 @@ use crate::ends::End;
 use crate::rules::BoxTable;
 use fuzzy_meaning::{Block, Output, Rule};
 
-/// An output of a block. They count from 1.
+/// An output of a block, counted from 1.
 pub fn output_of(block: &Block, out: u8) -> &Output
     requires block { IsValid block.now }
     requires from { 1 ≤ out }
@@ -27,8 +27,8 @@ pub fn output_of(block: &Block, out: u8) -> &Output
     &block.outputs.as_slice()[out as usize - 1]
 }
 
-/// The Bound of a leaf's pair for an output on a box, in millionths of the output's range, or its
-/// first fault, for answers that are bytes.
+/// The Bound of a leaf's pair for an output on a box, in millionths of the output's range, for
+/// answers that are bytes, or the pair's first fault.
 pub fn leaf_bound(block: &Block, bytes: &ByteBox, leaf: &Leaf, out: u8) -> Result<u32, LeafFault>
     requires block { IsValid block.now }
     requires bytes { IsBoxOf block.now bytes.now.0.items }
@@ -59,8 +59,8 @@ pub fn leaf_bound16(block: &Block, bytes: &ByteBox, leaf: &Leaf, out: u8) -> Res
 }
 
 impl BoxTable<'_> {
-    /// The Bound of a leaf's pair for an output on the table's box, or its first fault, for answers in
-    /// so many parts to a byte: one, or 256 for those of 16 bits.
+    /// The Bound of a leaf's pair for an output on the table's box, or the pair's first fault, for
+    /// answers with `parts` parts to a byte: 1 if they are bytes, 256 if they have 16 bits.
     pub fn bound(&self, block: &Block, leaf: &Leaf, out: u8, parts: u16) -> Result<u32, LeafFault>
         requires block { IsValid block.now }
         requires table { IsTable block.now self.now }
@@ -89,7 +89,7 @@ impl BoxTable<'_> {
         Ok(strong_bound(output, parts, sum, leaf.k))
     }
 
-    /// The fault of the first rule that concludes a term of an output and has a strength.
+    /// The fault of the first rule that concludes a term of an output and whose strength is not 0 all over the box.
     pub(crate) fn silent_fault(&self, block: &Block, out: u8) -> Option<LeafFault>
         requires block { IsValid block.now }
         requires table { IsTable block.now self.now }
@@ -111,7 +111,7 @@ impl BoxTable<'_> {
     }
 }
 
-/// The fault of a strong leaf whose rule reaches so far down.
+/// The fault of a strong leaf, if the least strength of its rule is `low`.
 fn strong_fault(low: End, leaf: Leaf) -> Option<LeafFault>
     requires { IsRatio 10000000000000000 low.truth }
     ensures low { IfNone result (AtMost (over leaf.k 255) (value_of low.truth)) }
@@ -127,7 +127,7 @@ fn strong_fault(low: End, leaf: Leaf) -> Option<LeafFault>
     }
 }
 
-/// The fault of rule number n, which reaches so far up, where it has a strength.
+/// The fault of a silent leaf at rule number `n`, if the greatest strength of the rule, `high`, is above 0.
 fn firing_fault(high: End, n: u16) -> Option<LeafFault>
     requires { IsRatio 10000000000000000 high.truth }
     ensures high { IfNone result ((value_of high.truth).num ≡ 0) }
@@ -143,8 +143,8 @@ fn firing_fault(high: End, n: u16) -> Option<LeafFault>
     }
 }
 
-/// Whether a pair may stand for an output: both of its numbers are 0, or it names a rule that
-/// concludes a term of the output.
+/// Whether a pair is valid for an output: both of its numbers are 0, or neither is and it names a
+/// rule that concludes a term of the output.
 pub fn is_pair_for(block: &Block, leaf: &Leaf, out: u8) -> bool
     ensures { IsTrue result ↔ IsPairFor block.now out leaf.now }
 {

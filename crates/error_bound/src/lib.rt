@@ -1,10 +1,10 @@
-//! How far the answers over bytes may stand from the exact ones: boxes of bytes, the error of a term
-//! over them, and leaves, which say of a box and an output that a rule is strong or that none fires.
+//! How far the answers over bytes may be from the exact ones: boxes of bytes, the error of a term
+//! over them, and leaves, which state for a box and an output that a rule is strong or that none fires.
 //!
-//! [`leaf_bound`] gives the Bound of a leaf that holds, or exactly its first fault, and a Bound is at
-//! least the distance of each answer from the exact one, in millionths of the output's range
+//! [`leaf_bound`] gives the Bound of a leaf that holds, or otherwise its first fault. No answer is
+//! farther than the Bound from the exact one, in millionths of the output's range
 //! ([`laws::answers_are_near`]). For many leaves of one box a [`BoxTable`] is made once, and for
-//! many boxes a [`BlockTable`]; only this takes memory.
+//! many boxes a [`BlockTable`]; only the latter allocates memory.
 #![tactic(auto)]
 
 mod bounds;
@@ -16,6 +16,7 @@ mod ends;
 mod flattening;
 pub mod laws;
 mod leaves;
+mod limits;
 mod literal_errors;
 mod matters;
 mod nowhere;

@@ -1,12 +1,13 @@
-//! The inputs that matter on a box: those that a rule with a strength there asks for by a term whose degrees or
-//! grades are not all one.
+//! The inputs that matter on a box: those of which a rule with a strength there uses a term whose degrees or
+//! grades differ on the box.
 ghost use Rattle.std.specs.Prelude.{◌≡◌, ◌≤◌, ◌<◌, ◌*◌, ◌+◌, ◌==◌, ◌&&◌, ◌||◌, not, if◌then◌else◌, nat_lt};
 ghost use Rattle.std.specs.Prelude.{length, Some, slice_get};
 ghost use Rattle.error_bound.specs.declared.boxes.Interval.{Interval as TheInterval};
 ghost use Rattle.fuzzy_meaning.specs.declared.block.Rule.{Rule as TheRule};
 ghost use Rattle.fuzzy_meaning.specs.Blocks.{IsValid, IsValidCondition, AreValidConditions};
 ghost use Rattle.fuzzy_meaning.specs.Conditions.{all, conditions};
-ghost use Rattle.error_bound.specs.{Boxes.IsBoxOf, Reaches.AreBoxTerms, Reaches.IsTable, Ratios.value_of, Tight.is_still};
+ghost use Rattle.error_bound.specs.{Boxes.IsBoxOf, Reaches.AreBoxTerms, Reaches.IsTable, Ratios.value_of};
+ghost use Rattle.error_bound.specs.{Tight.is_still};
 ghost use Rattle.error_bound.specs.Matters.{asks_for as asks_for_of, matters as matters_of, narrowed};
 
 use crate::boxes::{ByteBox, Interval};
@@ -19,7 +20,7 @@ use fuzzy_meaning::laws::parts_are_valid;
 use fuzzy_meaning::{Block, Condition, Node};
 
 impl BoxTable<'_> {
-    /// The table's box with its low byte alone in each interval of an input that doesn't matter there.
+    /// The table's box, with the interval of each input that doesn't matter there cut down to its low byte.
     pub fn narrowed(&self, block: &Block) -> ByteBox
         requires block { IsValid block.now }
         requires table { IsTable block.now self.now }
@@ -33,7 +34,7 @@ impl BoxTable<'_> {
         ByteBox(narrow)
     }
 
-    /// The interval at a place, or its low byte alone.
+    /// The interval at an index, cut down to its low byte if its input doesn't matter.
     fn interval_that_matters(&self, block: &Block, place: usize) -> Interval
         requires block { IsValid block.now }
         requires table { IsTable block.now self.now }
@@ -53,7 +54,7 @@ impl BoxTable<'_> {
         }
     }
 
-    /// Whether an input, from 1, matters on the table's box.
+    /// Whether an input, counted from 1, matters on the table's box.
     fn matters(&self, block: &Block, input: u8) -> bool
         requires block { IsValid block.now }
         requires table { IsTable block.now self.now }
@@ -67,7 +68,8 @@ impl BoxTable<'_> {
         false
     }
 
-    /// Whether the rule at a place, which has a strength somewhere on the table's box, asks for an input so.
+    /// Whether the rule at an index has a strength somewhere on the table's box, and uses a term of the input that
+    /// differs there.
     fn rule_asks_for(&self, block: &Block, place: usize, input: u8) -> bool
         requires block { IsValid block.now }
         requires table { IsTable block.now self.now }
@@ -84,14 +86,14 @@ impl BoxTable<'_> {
     }
 }
 
-/// Whether a strength that reaches so far up is none, over bytes neither.
+/// Whether the greatest strength is 0, and over bytes too.
 fn is_nothing(high: End) -> bool
     ensures { result ≡ (((value_of high.truth).num == 0) && (high.byte == 0)) }
 {
     high.truth.num == 0 && high.byte == 0
 }
 
-/// Whether a condition has a literal of an input whose degrees or grades are not all one.
+/// Whether a condition has a literal of the input whose degrees or grades differ on the box.
 #[cycle(asking)]
 fn asks_for(condition: &Condition, input: u8, block: &Block, terms: &BoxTerms) -> bool
     requires condition { IsValidCondition block.now condition.now }
@@ -107,7 +109,7 @@ fn asks_for(condition: &Condition, input: u8, block: &Block, terms: &BoxTerms) -
     }
 }
 
-/// Whether some of an AND's parts has one, or as well of an OR's.
+/// Whether some part of an AND or of an OR has one.
 #[cycle(asking)]
 fn some_asks_for(parts: &[Condition], input: u8, block: &Block, terms: &BoxTerms) -> bool
     requires parts { AreValidConditions block.now (conditions parts.now) }
@@ -123,7 +125,7 @@ fn some_asks_for(parts: &[Condition], input: u8, block: &Block, terms: &BoxTerms
     some
 }
 
-/// Whether the degrees of a reach, or its grades, are not all one.
+/// Whether the degrees of a reach differ, or its grades do.
 fn is_spread(reach: &Reach) -> bool
     ensures { result ≡ (nat_lt ((value_of reach.now.degrees.low).num * (value_of reach.now.degrees.high).den)
         ((value_of reach.now.degrees.high).num * (value_of reach.now.degrees.low).den)

@@ -1,4 +1,4 @@
-//! Conditions that are true nowhere on a box, which is seen at once.
+//! Conditions that are true nowhere on a box, as one term alone shows.
 ghost use Rattle.std.specs.Prelude.{◌≡◌, IsTrue};
 ghost use Rattle.fuzzy_meaning.specs.Blocks.{IsValid, IsValidCondition, AreValidConditions};
 ghost use Rattle.fuzzy_meaning.specs.Conditions.{all, conditions};
@@ -9,7 +9,7 @@ use crate::tables::BoxTerms;
 use fuzzy_meaning::laws::parts_are_valid;
 use fuzzy_meaning::{Block, Condition, Node};
 
-/// Whether a condition is an AND with a part that is a term of degree 0 all over a box, over bytes too.
+/// Whether a condition is an AND of which one part is a term of degree 0 all over the box, and of grade 0 too.
 pub(crate) fn is_nowhere(condition: &Condition, block: &Block, terms: &BoxTerms) -> bool
     requires condition { IsValidCondition block.now condition.now }
     requires block { IsValid block.now }
@@ -22,7 +22,7 @@ pub(crate) fn is_nowhere(condition: &Condition, block: &Block, terms: &BoxTerms)
     }
 }
 
-/// Whether some of an AND's parts is such a term.
+/// Whether some part of an AND is such a term.
 fn some_is_nowhere(parts: &[Condition], block: &Block, terms: &BoxTerms) -> bool
     requires parts { AreValidConditions block.now (conditions parts.now) }
     requires block { IsValid block.now }
@@ -51,7 +51,7 @@ fn term_is_nowhere(condition: &Condition, block: &Block, terms: &BoxTerms) -> bo
     }
 }
 
-/// Whether a reach goes nowhere above 0.
+/// Whether no truth of a reach is above 0.
 fn is_nothing(reach: &Reach) -> bool
     ensures num { IsTrue result → (value_of reach.now.degrees.high).num ≡ 0 }
     ensures byte { IsTrue result → reach.now.greatest ≡ 0 }

@@ -19,7 +19,7 @@ impl Ratio {
 
     pub(crate) const NONE: Ratio = Ratio { num: 0, den: 1 };
 
-    /// The lesser of the two; where they are equal, the first.
+    /// The lesser of the two; the first if they are equal.
     pub(crate) fn min(self, other: Ratio) -> Ratio
         requires left { IsRatio 1000000000000 self }
         requires right { IsRatio 1000000000000 other }
@@ -33,7 +33,7 @@ impl Ratio {
         }
     }
 
-    /// The greater of the two; where they are equal, the second.
+    /// The greater of the two; the second if they are equal.
     pub(crate) fn max(self, other: Ratio) -> Ratio
         requires left { IsRatio 1000000000000 self }
         requires right { IsRatio 1000000000000 other }
@@ -58,7 +58,7 @@ impl Ratio {
         }
     }
 
-    /// The fraction times a weight of 0 to 1.
+    /// The fraction times a weight from 0 to 1.
     pub(crate) fn times(self, weight: Dec) -> Ratio
         requires ratio { IsRatio 1000000000000 self }
         requires from { pos 0 ≤ℤ weight.0 }
@@ -105,7 +105,7 @@ impl Ratio {
         Nano(((u128::from(self.num) * 1_000_000_000 + (den - 1)) / den) as u64)
     }
 
-    /// The same fraction of wider numbers.
+    /// The same fraction in wider numbers.
     pub(crate) fn wide(self) -> Frac
         requires { IsRatio 1000000000000 self }
         ensures value { fraction_of result ≡ value_of self }

@@ -1,4 +1,4 @@
-//! How far the truths of literals reach over a box.
+//! The ranges of the truths of literals over a box.
 ghost use Rattle.std.specs.Prelude.{◌≡◌, IfSome};
 ghost use Rattle.fuzzy_meaning.specs.{Blocks.IsValid, Blocks.HasTerm, Conditions.is, Conditions.under};
 ghost use Rattle.error_bound.specs.Reaches.{AreBoxTerms, IsReachOfLiteral};
@@ -9,14 +9,14 @@ use crate::tables::BoxTerms;
 use cell_error::Deviation;
 use fuzzy_meaning::{Block, Condition, Node};
 
-/// From the least to the greatest truth, of degrees and over bytes, and how far the former may be above
-/// the latter and below, in parts of 10^9.
+/// The least and the greatest truth, exact and over bytes, and how far the exact ones may be above those
+/// over bytes, and how far below, in parts of 10^9.
 #[derive(Clone, Copy)]
 pub(crate) struct Reach {
     pub(crate) degrees: Degrees,
     pub(crate) least: u8,
     pub(crate) greatest: u8,
-    pub(crate) sides: Deviation,
+    pub(crate) deviation: Deviation,
 }
 
 impl Reach {
@@ -28,11 +28,11 @@ impl Reach {
         },
         least: 0,
         greatest: 0,
-        sides: Deviation { rise: 0, fall: 0 },
+        deviation: Deviation { rise: 0, fall: 0 },
     };
 }
 
-/// An input that is a term, or is not.
+/// `input IS term`, or `input IS NOT term`.
 #[derive(Clone, Copy)]
 pub(crate) struct Literal {
     pub(crate) input: u8,
@@ -40,7 +40,7 @@ pub(crate) struct Literal {
     pub(crate) negated: bool,
 }
 
-/// The literal that a condition is, which may stand behind one NOT.
+/// The condition as a literal, if it is one, with or without a NOT.
 #[inline]
 pub(crate) fn literal_in(condition: &Condition) -> Option<Literal>
     ensures { IfSome result (λ l. condition.now ≡ under l.negated (is l.input l.term)) }
@@ -66,7 +66,7 @@ pub(crate) fn literal_in(condition: &Condition) -> Option<Literal>
     }
 }
 
-/// The reach of a term, in place.
+/// The reach of a term, by reference.
 #[inline]
 pub(crate) fn reach_of_literal<'a>(
     block: &Block,

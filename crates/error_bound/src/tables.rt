@@ -1,4 +1,4 @@
-//! What boxes need of a block, and the reaches of all terms over a box.
+//! What boxes need to know about a block, and the reaches of all terms over a box.
 ghost use Rattle.std.specs.Prelude.{◌≡◌, ◌≤◌, ◌-◌, ℕ, length, IfOk, IfSome, IsTrue, Some, slice_get};
 ghost use Rattle.fuzzy_meaning.specs.Blocks.{IsValid, IsValidInput, IsValidTerm};
 ghost use Rattle.error_bound.specs.{declared.tables.InputCells.InputCells as TheCells, Boxes.IsBoxOf};
@@ -22,7 +22,7 @@ pub(crate) struct InputCells {
 }
 
 impl InputCells {
-    /// At the bytes of an interval.
+    /// The cells of an input's terms at the bytes of an interval.
     pub(crate) fn new(input: &Input, bytes: Interval) -> InputCells
         requires { IsValidInput input.now }
         ensures { AreInputCells input.now bytes result }
@@ -35,7 +35,7 @@ impl InputCells {
     }
 }
 
-/// What boxes need of a block, made once for all of them.
+/// What boxes need to know about a block, made once for all of them.
 #[derive(Drop)]
 pub struct BlockTable {
     /// The cells of the inputs' terms.
@@ -45,8 +45,8 @@ pub struct BlockTable {
 }
 
 impl BlockTable {
-    /// Takes some 35 KB for each input and a copy of each condition, and a division or two for each
-    /// byte of each term.
+    /// It takes some 35 KB for each input and a copy of each condition, and one or two divisions for
+    /// each byte of each term.
     pub fn new(alloc: Global, block: &Block) -> Result<BlockTable, AllocError>
         requires { IsValid block.now }
         ensures { IfOk result (IsBlockTable block.now) }
@@ -101,7 +101,7 @@ const NO_TERMS: Row = Row {
 };
 
 impl BoxTerms {
-    /// Of a box, from the block's table where that is kept.
+    /// The reaches of all terms over a box, from the block's table if there is one.
     #[inline(never)]
     pub(crate) fn new(block: &Block, bytes: ByteBox, kept: Option<&BlockTable>) -> BoxTerms
         requires block { IsValid block.now }
@@ -118,7 +118,7 @@ impl BoxTerms {
         BoxTerms { bytes, rows }
     }
 
-    /// Makes them those of another box. The rows of intervals that this box has too stay.
+    /// Makes them those of another box. Only the rows of intervals that differ are computed again.
     pub(crate) fn move_to(&mut self, block: &Block, kept: Option<&BlockTable>, bytes: &ByteBox)
         requires block { IsValid block.now }
         requires bytes { IsBoxOf block.now bytes.now.0.items }
@@ -144,7 +144,7 @@ fn is_same(left: Interval, right: Interval) -> bool
     left.from == right.from && left.to == right.to
 }
 
-/// The row of the input at a place, from its cells where they are kept.
+/// The row of the input at an index, from the cells of the block's table if there is one.
 fn row_in(kept: Option<&BlockTable>, place: usize, input: &Input, bytes: Interval) -> Row
     requires input { IsValidInput input.now }
     requires order { bytes.from ≤ bytes.to }
@@ -158,8 +158,8 @@ fn row_in(kept: Option<&BlockTable>, place: usize, input: &Input, bytes: Interva
     }
 }
 
-/// The reaches of an input's terms, from cells that are made for this interval alone. They take a frame of
-/// 35 KB, which is cleared at each call.
+/// The reaches of an input's terms, from cells that are made for this interval alone. They take a stack frame
+/// of 35 KB, which is cleared at each call.
 #[inline(never)]
 fn row_anew(input: &Input, bytes: Interval) -> Row
     requires input { IsValidInput input.now }
@@ -184,7 +184,7 @@ fn row_of(input: &Input, cells: &InputCells, bytes: Interval) -> Row
     Row { reaches }
 }
 
-/// The reach of a term of these cells.
+/// The reach of a term with these cells.
 fn reach_of_term(input: &Input, term: &Trapezoid, cells: &TermCells, bytes: Interval) -> Reach
     requires input { IsValidInput input.now }
     requires term { IsValidTerm input.now.lo input.now.hi term.now }
@@ -197,7 +197,7 @@ fn reach_of_term(input: &Input, term: &Trapezoid, cells: &TermCells, bytes: Inte
         degrees: degrees_of(input, term, bytes),
         least: grades.least,
         greatest: grades.greatest,
-        sides: Deviation {
+        deviation: Deviation {
             rise: u64::from(grades.rise),
             fall: u64::from(grades.fall),
         },

@@ -1,54 +1,58 @@
-//! The tight Bound of a box, which names no rule: it comes from how far the masses of an output's terms
-//! reach there.
-ghost use Rattle.std.specs.Prelude.{◌≡◌, ◌≤◌, ◌<◌, ◌*◌, ◌/◌, ℕ, ◌==◌, if◌then◌else◌, true};
+//! The tight Bound of a box, which depends on no choice of a rule: it is computed from the ranges of the
+//! masses of an output's terms.
+ghost use Rattle.std.specs.Prelude.{◌≡◌, ◌≤◌, ◌<◌, ◌+◌, ◌*◌, ◌/◌, ℕ, All, ◌==◌, if◌then◌else◌, true};
 ghost use Rattle.std.specs.Prelude.{IfSome, IfNone, Some, length, slice_get, slice_index, take};
 ghost use Rattle.fz_num.specs.{Fractions.up_div};
 ghost use Rattle.cell_error.specs.Means.{IsSmallDeviation};
 ghost use Rattle.fuzzy_meaning.specs.declared.block.Rule.{Rule as TheRule};
 ghost use Rattle.fuzzy_meaning.specs.Blocks.{IsValid, IsValidOutput, output_at};
+ghost use Rattle.fuzzy_meaning.specs.Meaning.{concludes as concludes_it};
 ghost use Rattle.error_bound.specs.{Leaves.Holds, Ratios.value_of, Ratios.IsRatio, CellErrors.term_errors};
 ghost use Rattle.error_bound.specs.{Errors.rule_rise, Errors.rule_fall, Reaches.IsEndOfRule, Reaches.IsTable};
-ghost use Rattle.error_bound.specs.Masses.{IsRuleMass, AreMasses, AreSmall, sum_at, offset_at, IsBoundAt};
+ghost use Rattle.error_bound.specs.Masses.{IsRuleMass, AreMasses, AreDeviations, AreSmall, sum_at, offset_at};
+ghost use Rattle.error_bound.specs.Masses.{IsBoundAt};
 ghost use Rattle.error_bound.specs.Tight.{IsTightBound, IsSure, if_moving, ranges_at, deviations_at};
 
 use crate::bounds::{offset, raise_terms, silent_bound};
 use crate::ends::End;
-use crate::leaves::output_of;
+use crate::leaves::{concludes_some, output_of};
 use crate::rules::BoxTable;
 use cell_error::{Deviation, MassRange, Scale, mean_error};
-use fuzzy_meaning::{Block, Output};
+use fuzzy_meaning::{Block, Output, Rule};
 
-/// How far the strength of a rule reaches over a box: its least and its greatest in parts of 255 * 10^9,
-/// those over bytes, and how far the former may be above the latter and below, which is 0 where both are 0.
+/// The range of a rule's strength over a box: the least and the greatest in parts of 255 * 10^9, and
+/// those over bytes.
 #[derive(Clone, Copy)]
 pub(crate) struct RuleMass {
     pub(crate) low: u64,
     pub(crate) high: u64,
     pub(crate) byte_low: u64,
     pub(crate) byte_high: u64,
-    pub(crate) sides: Deviation,
 }
 
-/// How far the masses of an output's terms reach over a box, each at its term's place.
+/// The ranges of the masses of an output's terms over a box, each at the index of its term.
 #[derive(Clone, Copy)]
 pub struct Masses {
-    /// The least of each in parts of 255 * 10^9, rounded down.
+    /// The least masses in parts of 255 * 10^9, rounded down.
     pub lows: [u64; 15],
-    /// The greatest, rounded up.
+    /// The greatest masses in the same parts, rounded up.
     pub highs: [u64; 15],
-    /// The least over bytes.
+    /// The least masses over bytes.
     pub byte_lows: [u64; 15],
-    /// The greatest over bytes.
+    /// The greatest masses over bytes.
     pub byte_highs: [u64; 15],
-    /// How far each may be above that over bytes, in parts of 10^9.
-    pub rises: [u64; 15],
-    /// And below.
-    pub falls: [u64; 15],
+}
+
+/// How far each mass may be above the mass over bytes, and how far below, in parts of 10^9.
+#[derive(Clone, Copy)]
+pub(crate) struct Deviations {
+    rises: [u64; 15],
+    falls: [u64; 15],
 }
 
 impl BoxTable<'_> {
     /// The tight Bound of the table's box for an output, in millionths of the output's range, for
-    /// answers in so many parts to a byte, or `None` exactly where there is none.
+    /// answers with `parts` parts to a byte, or `None` if there is none.
     pub fn tight_bound(&self, block: &Block, out: u8, parts: u16) -> Option<u32>
         requires block { IsValid block.now }
         requires table { IsTable block.now self.now }
@@ -65,7 +69,7 @@ impl BoxTable<'_> {
         self.tight_bound_by(block, out, parts, &self.masses(block, out))
     }
 
-    /// The same where the masses are known.
+    /// The same, from masses that are known already.
     pub fn tight_bound_by(&self, block: &Block, out: u8, parts: u16, masses: &Masses) -> Option<u32>
         requires block { IsValid block.now }
         requires table { IsTable block.now self.now }
@@ -83,11 +87,11 @@ impl BoxTable<'_> {
         let output = output_of(block, out);
         match self.silent_fault(block, out) {
             None => Some(silent_bound(output)),
-            Some(_) => masses.bound(output, parts),
+            Some(_) => masses.bound(&self.deviations(block, out), output, parts),
         }
     }
 
-    /// How far the masses of an output's terms reach over the table's box.
+    /// The ranges of the masses of an output's terms over the table's box.
     pub fn masses(&self, block: &Block, out: u8) -> Masses
         requires table { IsTable block.now self.now }
         requires block { IsValid block.now }
@@ -98,18 +102,18 @@ impl BoxTable<'_> {
         let mut highs = [0; 15];
         let mut byte_lows = [0; 15];
         let mut byte_highs = [0; 15];
-        let mut rises = [0; 15];
-        let mut falls = [0; 15];
         let rules = block.rules.as_slice();
         for n in (0..rules.len()).rev() {
-            if self.may_fire(block, n, out) {
-                let rule = self.mass_of_rule(block, n);
-                raise_terms(&mut lows, &rules[n], out, rule.low);
-                raise_terms(&mut highs, &rules[n], out, rule.high);
-                raise_terms(&mut byte_lows, &rules[n], out, rule.byte_low);
-                raise_terms(&mut byte_highs, &rules[n], out, rule.byte_high);
-                raise_terms(&mut rises, &rules[n], out, rule.sides.rise);
-                raise_terms(&mut falls, &rules[n], out, rule.sides.fall);
+            let rule = &rules[n];
+            if concludes_some(rule, out) {
+                let so_far = least_masses(&lows, &highs, &byte_lows, &byte_highs, rule, out);
+                if !self.is_within(block, n, so_far) {
+                    let mass = self.mass_of_rule(block, n);
+                    raise_terms(&mut lows, rule, out, mass.low);
+                    raise_terms(&mut highs, rule, out, mass.high);
+                    raise_terms(&mut byte_lows, rule, out, mass.byte_low);
+                    raise_terms(&mut byte_highs, rule, out, mass.byte_high);
+                }
             }
         }
         Masses {
@@ -117,12 +121,31 @@ impl BoxTable<'_> {
             highs,
             byte_lows,
             byte_highs,
-            rises,
-            falls,
         }
     }
 
-    /// How far the strength of the rule at a place reaches.
+    /// How far the masses of an output's terms may be above those over bytes on the table's box, and how far below.
+    fn deviations(&self, block: &Block, out: u8) -> Deviations
+        requires table { IsTable block.now self.now }
+        requires block { IsValid block.now }
+        ensures { AreDeviations block.now self.now.bytes.0.items out result }
+    {
+        let mut rises = [0; 15];
+        let mut falls = [0; 15];
+        let rules = block.rules.as_slice();
+        for n in (0..rules.len()).rev() {
+            let rule = &rules[n];
+            if self.may_fire(block, n, out) {
+                let high = self.end_of_rule(block, n, true);
+                let deviation = self.moving_deviation(block, n, high);
+                raise_terms(&mut rises, rule, out, deviation.rise);
+                raise_terms(&mut falls, rule, out, deviation.fall);
+            }
+        }
+        Deviations { rises, falls }
+    }
+
+    /// The range of the strength of the rule at an index.
     fn mass_of_rule(&self, block: &Block, place: usize) -> RuleMass
         requires block { IsValid block.now }
         requires table { IsTable block.now self.now }
@@ -130,20 +153,18 @@ impl BoxTable<'_> {
         ensures { (r : TheRule) → slice_get block.now.rules place ≡ Some r
             → IsRuleMass block.now self.now.bytes.0.items r result }
     {
-        let low = self.end_of_rule(block, place, false);
-        let high = self.end_of_rule(block, place, true);
+        let ends = self.ends_of_rule(block, place);
         RuleMass {
-            low: low_part(low),
-            high: high_part(high),
-            byte_low: u64::from(low.byte),
-            byte_high: u64::from(high.byte),
-            sides: self.moving_sides(block, place, high),
+            low: low_part(ends.low),
+            high: high_part(ends.high),
+            byte_low: u64::from(ends.low.byte),
+            byte_high: u64::from(ends.high.byte),
         }
     }
 
-    /// How far the strength of the rule at a place may be above that over bytes, and below, or 0 where it reaches up
-    /// to nowhere.
-    fn moving_sides(&self, block: &Block, place: usize, high: End) -> Deviation
+    /// How far the strength of the rule at an index may be above that over bytes, and how far below; both are 0 if
+    /// the rule has no strength anywhere on the box.
+    fn moving_deviation(&self, block: &Block, place: usize, high: End) -> Deviation
         requires block { IsValid block.now }
         requires table { IsTable block.now self.now }
         requires place { place < length block.now.rules }
@@ -160,8 +181,49 @@ impl BoxTable<'_> {
         if high.truth.num == 0 && high.byte == 0 {
             Deviation { rise: 0, fall: 0 }
         } else {
-            self.sides_of_rule(block, place)
+            self.deviation_of_rule(block, place)
         }
+    }
+}
+
+/// The least of each sort of values at those of an output's terms that a rule concludes.
+fn least_masses(
+    lows: &[u64; 15],
+    highs: &[u64; 15],
+    byte_lows: &[u64; 15],
+    byte_highs: &[u64; 15],
+    rule: &Rule,
+    out: u8,
+) -> RuleMass
+    requires { All (λ c. (1 ≤ c.1) × (c.1 ≤ 15)) rule.now.concl }
+    ensures low { (t : ℕ) → t < 15 → concludes_it rule.now out (t + 1) ≡ true → result.low ≤ slice_index lows.now t }
+    ensures high { (t : ℕ) → t < 15 → concludes_it rule.now out (t + 1) ≡ true
+        → result.high ≤ slice_index highs.now t }
+    ensures byte_low { (t : ℕ) → t < 15 → concludes_it rule.now out (t + 1) ≡ true
+        → result.byte_low ≤ slice_index byte_lows.now t }
+    ensures byte_high { (t : ℕ) → t < 15 → concludes_it rule.now out (t + 1) ≡ true
+        → result.byte_high ≤ slice_index byte_highs.now t }
+{
+    let conclusions = rule.concl.as_slice();
+    let mut low = u64::MAX;
+    let mut high = u64::MAX;
+    let mut byte_low = u64::MAX;
+    let mut byte_high = u64::MAX;
+    for k in (0..conclusions.len()).rev() {
+        let (output, term) = conclusions[k];
+        if output == out {
+            let place = term as usize - 1;
+            low = low.min(lows[place]);
+            high = high.min(highs[place]);
+            byte_low = byte_low.min(byte_lows[place]);
+            byte_high = byte_high.min(byte_highs[place]);
+        }
+    }
+    RuleMass {
+        low,
+        high,
+        byte_low,
+        byte_high,
     }
 }
 
@@ -185,17 +247,17 @@ fn high_part(high: End) -> u64
 }
 
 impl Masses {
-    /// The Bound of a box with these masses, where their sum is above 0, over bytes too.
-    fn bound(&self, output: &Output, parts: u16) -> Option<u32>
+    /// The Bound of a box with these masses, if the sum of the least ones is above 0, and that over bytes too.
+    fn bound(&self, deviations: &Deviations, output: &Output, parts: u16) -> Option<u32>
         requires output { IsValidOutput output.now }
         requires parts_from { 1 ≤ parts }
         requires parts_to { parts ≤ 256 }
         requires lows { AreSmall 255000000000 self.now.lows }
         requires ordered { (t : ℕ) → t < 15 → slice_index self.now.byte_lows t ≤ slice_index self.now.byte_highs t }
         requires byte_highs { AreSmall 255 self.now.byte_highs }
-        requires rises { AreSmall 3000000000 self.now.rises }
-        requires falls { AreSmall 3000000000 self.now.falls }
-        ensures bound { IfSome result (IsBoundAt self.now output.now parts) }
+        requires rises { AreSmall 3000000000 deviations.now.rises }
+        requires falls { AreSmall 3000000000 deviations.now.falls }
+        ensures bound { IfSome result (IsBoundAt self.now deviations.now output.now parts) }
         ensures sum { IfSome result (λ n. 1 ≤ sum_at self.now.lows output.now.singletons) }
         ensures bytes { IfSome result (λ n. 1 ≤ sum_at self.now.byte_lows output.now.singletons) }
         ensures none { IfNone result (1 ≤ sum_at self.now.lows output.now.singletons
@@ -213,13 +275,13 @@ impl Masses {
             parts: u64::from(parts),
         };
         let ranges = ranges_of(output, &self.byte_lows, &self.byte_highs);
-        let deviations = deviations_of(output, &self.rises, &self.falls);
+        let deviations = deviations_of(output, &deviations.rises, &deviations.falls);
         let count = output.singletons.len();
         Some(mean_error(&ranges[..count], &deviations[..count], scale))
     }
 }
 
-/// What the masses of an output's terms lie between, of their lower and their upper ends.
+/// The ranges of the masses of an output's terms, given their lower and upper ends.
 pub fn ranges_of(output: &Output, lows: &[u64; 15], highs: &[u64; 15]) -> [MassRange; 15]
     requires { IsValidOutput output.now }
     ensures { take (length output.now.singletons) result
@@ -257,7 +319,7 @@ fn deviations_of(output: &Output, rises: &[u64; 15], falls: &[u64; 15]) -> [Devi
     deviations
 }
 
-/// The sum of a number for each term of an output.
+/// The sum of the values of an output's terms.
 fn sum_of(values: &[u64; 15], output: &Output) -> u64
     requires output { IsValidOutput output.now }
     requires small { AreSmall 255000000000 values.now }
@@ -271,14 +333,14 @@ fn sum_of(values: &[u64; 15], output: &Output) -> u64
     sum
 }
 
-/// A number of a term with a mass, or 0 where it has none.
+/// `number`, or 0 for a term whose greatest mass is 0.
 fn if_some(high: u64, number: u64) -> u64
     ensures { result ≡ (if high == 0 then 0 else number) }
 {
     if high == 0 { 0 } else { number }
 }
 
-/// How far the singleton of a term with a mass is at most from its byte.
+/// The greatest distance of a singleton from the value of its byte, over the terms whose greatest mass is above 0.
 fn live_offset(highs: &[u64; 15], output: &Output) -> u64
     requires output { IsValidOutput output.now }
     ensures value { result ≡ offset_at highs.now output.now }

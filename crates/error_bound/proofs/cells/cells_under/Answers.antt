@@ -8,9 +8,9 @@ loop-b-init c =
 
 pub loop-b-preserved : goal.loop-b-preserved
 loop-b-preserved c =
-    let e = c.sides_of_cell-sides.ensures in
+    let e = c.deviation_of_cell-deviation.ensures in
     AreCellsBefore-more c.args.input.now c.args.term.now c.args.table c.args.bytes.from c.loop-b.b c.loop-b.cells
-    c.grade.result c.sides_of_cell-sides.result c.loop-b.invariant
+    c.grade.result c.deviation_of_cell-deviation.result c.loop-b.invariant
     (omega (arith, c.loop-b-test.true, c.from-b-end.ensures)) c.grade.ensures
     (record { rise = e.rise; fall = e.fall; rise_small = e.rise_small; fall_small = e.fall_small })
 

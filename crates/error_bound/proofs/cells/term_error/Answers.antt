@@ -4,8 +4,9 @@ use Rattle.fuzzy_meaning.specs.{declared.block.Trapezoid.Trapezoid, Blocks.IsVal
 use Rattle.fuzzy_meaning.specs.declared.block.Input.{Input}
 use Rattle.fz_list.proofs.Algebra.{All-slice_get}
 use Rattle.error_bound.specs.{declared.cells.TermCells.TermCells, declared.boxes.Interval.Interval, Errors.IsTermError}
-use Rattle.error_bound.specs.{Reaches.AreTermCells, Boxes.greatest_from, CellErrors.term_sides}
-use Rattle.error_bound.proofs.{Literals.term_sides-are, Literals.term_error-is, CellErrors.rise_is, CellErrors.fall_is}
+use Rattle.error_bound.specs.{Reaches.AreTermCells, Boxes.greatest_from, CellErrors.term_deviation}
+use Rattle.error_bound.proofs.{Literals.term_deviation-are, Literals.term_error-is, CellErrors.rise_is}
+use Rattle.error_bound.proofs.{CellErrors.fall_is}
 use Rattle.error_bound.proofs.cells.term_error.Goals as goal
 
 is_error : (i : Input) (n : ℕ) (v : Interval) (c : TermCells) (r d e : ℕ) → IsValidInput i → v.from ≤ v.to
@@ -19,7 +20,7 @@ is_error i n v c r d e valid order rise fall is (Some t) found cells =
     subst (IsTermError i t v)
     (sym (is ∙ ap₂ max (fall ∙ fall_is i t v v c cells (omega arith) (omega arith) order)
     (rise ∙ rise_is i t v v c cells (omega arith) (omega arith) order)))
-    (term_error-is i t v (term_sides i t v) (term_sides-are i t v valid term order))
+    (term_error-is i t v (term_deviation i t v) (term_deviation-are i t v valid term order))
 
 pub returns : goal.returns
 returns c =

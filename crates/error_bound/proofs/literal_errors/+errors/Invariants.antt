@@ -1,8 +1,8 @@
 use Rattle.std.proofs.Common.{drop}
 use Rattle.fuzzy_meaning.specs.Conditions.{all, conditions}
-use Rattle.error_bound.specs.Reaches.{AreSidesOfCondition}
+use Rattle.error_bound.specs.Reaches.{IsDeviationOfCondition}
 use Rattle.error_bound.proofs.literal_errors.+errors.Given as goal
 
-abbrev pub invariant-sides_among-loop-k : goal.invariant-sides_among-loop-k
-invariant-sides_among-loop-k l =
-    AreSidesOfCondition l.block l.terms.bytes.0.items (all (conditions (drop l.k l.parts))) l.sides
+abbrev pub invariant-deviation_among-loop-k : goal.invariant-deviation_among-loop-k
+invariant-deviation_among-loop-k l =
+    IsDeviationOfCondition l.block l.terms.bytes.0.items (all (conditions (drop l.k l.parts))) l.deviation

@@ -1,6 +1,6 @@
-use Rattle.std.proofs.Common.{◌≡◌, ℕ, Bool, inl, inr, refl, sym, ap, ◌∙◌, subst, rules}
+use Rattle.std.proofs.Common.{◌≡◌, ℕ, Bool, inl, inr, refl, sym, ap, ◌∙◌, rules}
 use Rattle.std.specs.Prelude.{◌||◌, ◌&&◌, ◌==◌}
-use Rattle.fuzzy_meaning.specs.Conditions.{Condition, all, any, Conditions, end, also, conditions}
+use Rattle.fuzzy_meaning.specs.Conditions.{all, any, Conditions, end, also, conditions}
 use Rattle.fuzzy_meaning.specs.Trees.{tree}
 use Rattle.error_bound.specs.Matters.{some_literal, asks_for, is_spread}
 use Rattle.error_bound.proofs.ListLemmas.{part_asks, parts_ask}

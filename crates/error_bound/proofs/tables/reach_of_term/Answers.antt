@@ -15,14 +15,14 @@ returns c =
       bytes = ap₂ (λ a b. record { low = a; high = b })
           (o.least ∙ least_is x term v v cells c.requires.cells (omega arith) (omega arith) c.requires.order)
           (o.greatest ∙ greatest_is x term v v cells c.requires.cells (omega arith) (omega arith) c.requires.order);
-      sides = ap₂ (λ a b. record { low = a; high = b })
+      deviation = ap₂ (λ a b. record { low = a; high = b })
           (c.from-2.ensures ∙ o.fall
           ∙ fall_is x term v v cells c.requires.cells (omega arith) (omega arith) c.requires.order)
           (c.from.ensures ∙ o.rise
           ∙ rise_is x term v v cells c.requires.cells (omega arith) (omega arith) c.requires.order);
       small = record {
         degrees = c.degrees_of.ensures.truth;
-        sides = record {
+        deviation = record {
           rise = subst (λ e. e ≤ billion) (sym (c.from.ensures ∙ o.rise))
               (rise_small x term v v cells c.requires.cells (omega arith) (omega arith) c.requires.order);
           fall = subst (λ e. e ≤ billion) (sym (c.from-2.ensures ∙ o.fall))

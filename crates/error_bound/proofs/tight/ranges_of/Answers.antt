@@ -2,7 +2,7 @@ use Rattle.std.proofs.Common.{◌-◌, length, refl, ap, arith}
 use Rattle.std.proofs.lemmas.List.{length-set}
 use Rattle.std.specs.Prelude.{ℕ, slice_index, pos}
 use Rattle.cell_error.specs.declared.ranges.MassRange.{MassRange}
-use Rattle.fz_num.specs.{declared.dec.Dec.Dec, Decimals.distance}
+use Rattle.fz_num.specs.{Decimals.distance}
 use Rattle.error_bound.specs.Tight.{ranges_at}
 use Rattle.error_bound.proofs.RangeLemmas.{fill_next}
 use Rattle.error_bound.proofs.tight.ranges_of.Goals as goal

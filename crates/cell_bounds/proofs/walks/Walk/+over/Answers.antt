@@ -1,4 +1,4 @@
-use Rattle.std.proofs.Common.{ℕ, ◌+◌, ◌≤◌, List, ◌∙◌, arith}
+use Rattle.std.proofs.Common.{ℕ, ◌+◌, List, ◌∙◌, arith}
 use Rattle.std.proofs.lemmas.Result.{err_from_is_err_and}
 use Rattle.cell_bounds.proofs.WalkLemmas.{more_ok, more_err, left_part, right_part, raised_of_parts, above_in_left}
 use Rattle.cell_bounds.proofs.WalkLemmas.{above_in_right}

@@ -1,4 +1,4 @@
-use Rattle.std.proofs.Common.{◌≡◌, ◌+◌, length, take, sym, ◌∙◌, arith}
+use Rattle.std.proofs.Common.{◌∙◌, arith}
 use Rattle.fz_list.proofs.Algebra.{some_at}
 use Rattle.std.proofs.lemmas.List.{take_all}
 use Rattle.error_bound.specs.Matters.{narrowed}

@@ -1,5 +1,5 @@
-use Rattle.std.proofs.Common.{◌≡◌, not, true, false, List, Some, ap, ap₂, sym, ◌∙◌}
-use Rattle.std.specs.Prelude.{◌&&◌, slice_get}
+use Rattle.std.proofs.Common.{◌≡◌, not, true, false, List, ap, ap₂, sym, ◌∙◌}
+use Rattle.std.specs.Prelude.{◌&&◌}
 use Rattle.fuzzy_meaning.specs.declared.block.Rule.{Rule}
 use Rattle.error_bound.specs.{declared.boxes.Interval.Interval, Matters.asks_for, Tight.is_still}
 use Rattle.error_bound.proofs.{ListLemmas.get_or-slice, TightLawLemmas.still-same}

@@ -25,8 +25,9 @@ returns-in-Some c =
     let n = c.bound.ensures in
     record {
       bound = some_bound b box c.args.out x c.args.parts c.args.masses.now c.requires.masses few found
-          (term_errors-are b box c.requires.block c.requires.table.box_is.intervals) c.bound.result
-          n.bound n.sum n.bytes;
+          c.deviations.result c.deviations.ensures
+          (term_errors-are b box c.requires.block c.requires.table.box_is.intervals) c.bound.result n.bound n.sum
+          n.bytes;
       loud = none_quiet c.bound.result
           (λ h. faulty_fail b box c.args.out silent_leaf c.in-Some.field-0 c.in-Some.ensures.fault h);
       unsure = none_sure b box c.args.out x c.args.parts c.args.masses.now c.requires.masses few found c.bound.result

@@ -1,4 +1,4 @@
-use Rattle.std.proofs.Common.{◌≡◌, ◌≤◌, ◌∙◌, length, take, sym, subst, arith}
+use Rattle.std.proofs.Common.{◌≤◌, ◌∙◌, take, sym, subst, arith}
 use Rattle.std.specs.Prelude.{All, slice_index}
 use Rattle.fz_num.specs.Decimals.{distance}
 use Rattle.cell_error.specs.{Means.IsByteRange, Means.IsSmallDeviation, Errors.sure_mass}
@@ -23,12 +23,12 @@ mean_error-requires-clause-terms c =
 
 pub mean_error-requires-clause-deviations : goal.mean_error-requires-clause-deviations
 mean_error-requires-clause-deviations c =
-    let m = c.args.self.now in
+    let d = c.args.deviations.now in
     let x = c.args.output.now in
     let few = c.requires.output.few_terms in
     subst (λ n. All IsSmallDeviation (take n c.deviations_of-deviations.result)) (sym c.len-count.ensures)
     (subst (All IsSmallDeviation) (sym c.deviations_of-deviations.ensures)
-    (deviations_fit (slice_index m.rises) (slice_index m.falls) c.requires.rises.each c.requires.falls.each 0 x.singletons
+    (deviations_fit (slice_index d.rises) (slice_index d.falls) c.requires.rises.each c.requires.falls.each 0 x.singletons
     (omega arith)))
 
 pub mean_error-requires-clause-some : goal.mean_error-requires-clause-some

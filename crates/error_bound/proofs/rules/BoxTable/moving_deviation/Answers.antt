@@ -3,7 +3,7 @@ use Rattle.std.specs.Prelude.{◌==◌, ◌&&◌, if◌then◌else◌}
 use Rattle.std.proofs.{Common.arith, lemmas.Bool.Decides.nat_tests}
 use Rattle.fz_list.proofs.Algebra.{some_at}
 use Rattle.error_bound.proofs.TightLawLemmas.{still-same}
-use Rattle.error_bound.proofs.rules.BoxTable.moving_sides.Goals as goal
+use Rattle.error_bound.proofs.rules.BoxTable.moving_deviation.Goals as goal
 
 both_zero : (m n : ℕ) → m ≡ 0 → n ≡ 0 → ((m == 0) && (n == 0)) ≡ true
 both_zero m n e f = rw (e, f) refl
@@ -40,17 +40,17 @@ returns-then-high-eq0-2-clause-fall c r found =
 
 pub returns-else-high-eq0-clause-rise : goal.returns-else-high-eq0-clause-rise
 returns-else-high-eq0-clause-rise c r found =
-    (c.sides_of_rule.ensures r found).rise
+    (c.deviation_of_rule.ensures r found).rise
     ∙ moving _ _ _ (not_both c.args.high.truth.num c.args.high.byte c.else-high-eq0.either)
     (still-same c.args.block.now c.args.self.now.bytes.0.items r c.args.high (c.requires.high r found))
 
 pub returns-else-high-eq0-clause-fall : goal.returns-else-high-eq0-clause-fall
 returns-else-high-eq0-clause-fall c r found =
-    (c.sides_of_rule.ensures r found).fall
+    (c.deviation_of_rule.ensures r found).fall
     ∙ moving _ _ _ (not_both c.args.high.truth.num c.args.high.byte c.else-high-eq0.either)
     (still-same c.args.block.now c.args.self.now.bytes.0.items r c.args.high (c.requires.high r found))
 
 pub returns-else-high-eq0-clause-small : goal.returns-else-high-eq0-clause-small
 returns-else-high-eq0-clause-small c =
     let r = some_at c.args.block.now.rules c.args.place c.requires.place in
-    (c.sides_of_rule.ensures r.0 r.1).small
+    (c.deviation_of_rule.ensures r.0 r.1).small

@@ -2,7 +2,7 @@ use Rattle.std.proofs.Common.{arith}
 use Rattle.std.proofs.lemmas.Int.{ints}
 use Rattle.fz_num.specs.declared.frac.Frac.{Frac}
 use Rattle.fz_num.specs.Fractions.{IsTruth}
-use Rattle.error_bound.proofs.cells.sides_of_cell.Goals as goal
+use Rattle.error_bound.proofs.cells.deviation_of_cell.Goals as goal
 
 wider : (f : Frac) → IsTruth 1000000000000 f → IsTruth 10000000000000000 f
 wider f t = record {

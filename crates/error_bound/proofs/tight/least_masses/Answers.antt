@@ -1,0 +1,72 @@
+use Rattle.std.proofs.Common.{◌≡◌, ◌≤◌, ℕ, suc, ◌+◌, ◌-◌, ◌<◌, min, Bool, true, false, List, ◌∷◌, length, drop, get_or}
+use Rattle.std.proofs.Common.{refl, ap, ◌∙◌, subst, arith}
+use Rattle.std.proofs.{Math.Seq.drop-cons, lemmas.Bool.Decides.nat_tests}
+use Rattle.std.specs.Prelude.{slice_index, ◌==◌, ◌&&◌, ◌||◌}
+use Rattle.error_bound.proofs.LeafLemmas.{concludes_among}
+use Rattle.error_bound.proofs.tight.least_masses.Invariants.{IsLeast}
+use Rattle.error_bound.proofs.tight.least_masses.Goals as goal
+
+either : (o t : ℕ) (p : Bool) (x : ℕ × ℕ) (least value : ℕ) (values : ℕ → ℕ)
+    → (((x.0 == o) && (x.1 == t + 1)) || p) ≡ true → (p ≡ true → least ≤ values t)
+    → value ≡ min least (values (x.1 - 1)) → value ≤ values t
+either o t true x least value values h rest is = omega (arith, rest refl, is)
+either o t false x least value values h rest is =
+    let same : x.1 - 1 ≡ t = grind (arith, nat_tests) in
+    omega (arith, is, ap values same)
+
+pub loop-k-preserved-then-output-out : goal.loop-k-preserved-then-output-out
+loop-k-preserved-then-output-out c =
+    let cs = c.args.rule.now.concl in
+    let j = c.loop-k.k - 1 in
+    let x = get_or cs j (0, 0) in
+    let within : j < length cs = omega (arith, ap length c.as_slice-conclusions.ensures) in
+    let named : get_or c.as_slice-conclusions.result.now j (0, 0) ≡ x =
+    ap (λ l. get_or l j (0, 0)) c.as_slice-conclusions.ensures in
+    let back : suc j ≡ c.loop-k.k = omega arith in
+    let next : drop j cs ≡ x ∷ drop c.loop-k.k cs = drop-cons cs j (0, 0) within ∙ ap (λ n. x ∷ drop n cs) back in
+    let rest = drop c.loop-k.k cs in
+    let o = c.args.out in
+    let raised : (least value : ℕ) (values : List ℕ) → IsLeast o least rest values
+    → value ≡ min least (slice_index values ((get_or c.as_slice-conclusions.result.now j (0, 0)).1 - 1))
+    → IsLeast o value (drop j cs) values = λ least value values before is t few one.
+    either o t (concludes_among o (t + 1) rest) x least value (slice_index values)
+    (subst (λ ys. concludes_among o (t + 1) ys ≡ true) next one) (before t few)
+    (is ∙ ap (λ (y : ℕ × ℕ). min least (slice_index values (y.1 - 1))) named) in
+    let i = c.loop-k.invariant in
+    record {
+      low = raised c.loop-k.low c.min-low.result c.args.lows.now i.low c.min-low.ensures;
+      high = raised c.loop-k.high c.min-high.result c.args.highs.now i.high c.min-high.ensures;
+      byte_low = raised c.loop-k.byte_low c.min-byte_low.result c.args.byte_lows.now i.byte_low c.min-byte_low.ensures;
+      byte_high = raised c.loop-k.byte_high c.min-byte_high.result c.args.byte_highs.now i.byte_high
+          c.min-byte_high.ensures;
+    }
+
+elsewhere : (o t : ℕ) (p : Bool) (x : ℕ × ℕ) → (x.0 ≡ o → ⊥) → (((x.0 == o) && (x.1 == t + 1)) || p) ≡ true
+    → p ≡ true
+elsewhere o t p x differs h =
+    let none : (x.0 == o) ≡ false = grind (arith, nat_tests) in
+    subst (λ q. ((q && (x.1 == t + 1)) || p) ≡ true) none h
+
+pub loop-k-preserved : goal.loop-k-preserved
+loop-k-preserved c =
+    let cs = c.args.rule.now.concl in
+    let j = c.loop-k.k - 1 in
+    let x = get_or cs j (0, 0) in
+    let within : j < length cs = omega (arith, ap length c.as_slice-conclusions.ensures) in
+    let named : get_or c.as_slice-conclusions.result.now j (0, 0) ≡ x =
+    ap (λ l. get_or l j (0, 0)) c.as_slice-conclusions.ensures in
+    let back : suc j ≡ c.loop-k.k = omega arith in
+    let next : drop j cs ≡ x ∷ drop c.loop-k.k cs = drop-cons cs j (0, 0) within ∙ ap (λ n. x ∷ drop n cs) back in
+    let rest = drop c.loop-k.k cs in
+    let o = c.args.out in
+    let differs = subst (λ (y : ℕ × ℕ). y.0 ≡ o → ⊥) named c.if-output-out.false in
+    let kept : (least : ℕ) (values : List ℕ) → IsLeast o least rest values → IsLeast o least (drop j cs) values =
+    λ least values before t few one. before t few (elsewhere o t (concludes_among o (t + 1) rest) x differs
+    (subst (λ ys. concludes_among o (t + 1) ys ≡ true) next one)) in
+    let i = c.loop-k.invariant in
+    record {
+      low = kept c.loop-k.low c.args.lows.now i.low;
+      high = kept c.loop-k.high c.args.highs.now i.high;
+      byte_low = kept c.loop-k.byte_low c.args.byte_lows.now i.byte_low;
+      byte_high = kept c.loop-k.byte_high c.args.byte_highs.now i.byte_high;
+    }
