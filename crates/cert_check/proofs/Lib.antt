@@ -5,3 +5,5 @@ pub mod FaultLemmas
 pub mod LeafLemmas
 pub mod WalkLemmas
 pub mod DriverLemmas
+pub mod JudgedLeaves
+pub mod JudgedTrees

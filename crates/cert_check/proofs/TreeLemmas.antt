@@ -242,7 +242,7 @@ boxes_are b _ _ _ _ (split box i c nodes mid rest left right from cut l r) is =
     }))
 
 -- they are among the nodes
-All-tail : {X : Type 0} (P : X → Type 0) (x : X) (xs : List X) → All P (x ∷ xs) → All P xs
+pub All-tail : {X : Type 0} (P : X → Type 0) (x : X) (xs : List X) → All P (x ∷ xs) → All P xs
 All-tail P x xs all k d l = all (suc k) d (omega arith)
 
 leaves_are : (P : Node → Type 0) (box : List Interval) (nodes : List Node) (parts : List Part) (rest : List Node)

@@ -1,6 +1,7 @@
 -- What an accepted certificate says.
 -- Beside the promise.
-use Rattle.std.specs.Prelude.{◌≡◌, ◌≢◌, ℕ, ◌-◌, ◌≤◌, true, List, ◌++◌, map, fold, All, Some, slice_get, Result, Ok, Err}
+use Rattle.std.specs.Prelude.{◌≡◌, ◌≢◌, ◌⊎◌, ℕ, ◌-◌, ◌≤◌, true, List, [], ◌++◌, map, fold, All, Some, slice_get, Result, Ok}
+use Rattle.std.specs.Prelude.{Err, None}
 use Rattle.fz_num.specs.{declared.dec.Dec.Dec, Decimals.distance, Fractions.IsClose}
 use Rattle.fuzzy_meaning.specs.declared.{block.Block.Block, block.Output.Output}
 use Rattle.fuzzy_meaning.specs.{Blocks.IsValid, Blocks.AreInputs, Blocks.output_at, Meaning.exact_answer}
@@ -14,9 +15,14 @@ use Rattle.box_tree.specs.declared.{cert.LeafForm.LeafForm, cert.Node.Node}
 use Rattle.box_tree.specs.declared.cert.LeafForm.TheVariants.{Pairs, Tight, Cells}
 use Rattle.box_tree.specs.declared.{cert.Node.TheVariants.Split, cert.Node.TheVariants.Leaf, cert.Cert.Cert}
 use Rattle.box_tree.specs.{Certificates.IsCert, Texts.version_line, Texts.lines_of}
-use Rattle.cert_check.specs.{Trees.Part, Trees.IsTree, Trees.lies, Trees.leaves_with, Acceptance.IsAccepted}
+use Rattle.cert_check.specs.{Trees.Part, Trees.IsTree, Trees.lies, Trees.leaves_with, Trees.whole}
+use Rattle.cert_check.specs.Acceptance.{HasBound, IsAccepted}
 use Rattle.cert_check.specs.{Faults.HasCheckFault, TextFaults.IsAcceptedText, TextFaults.HasTextFault}
 use Rattle.cert_check.specs.declared.{checker.CheckFault.CheckFault, text.TextFault.TextFault}
+
+-- no output has NC as its default
+abbrev pub HasDefaults : Block → Type 0
+HasDefaults b = (o : ℕ) (x : Output) → 1 ≤ o → output_at b o ≡ Some x → x.default ≢ None
 
 -- each list of bytes of the box lies in exactly one leaf
 abbrev pub OneLeafHasTheBytes : Type 0
@@ -107,6 +113,19 @@ CheckFaultsAreOne =
     (b : Block) (h : ℕ) (cert : Cert) (f g : CheckFault) → IsValid b → HasCheckFault b h cert f
     → HasCheckFault b h cert g → f ≡ g
 
+-- and each is accepted or has one
+abbrev pub EachCertIsJudged : Type 0
+EachCertIsJudged =
+    (b : Block) (h : ℕ) (k : CertKind) (cert : Cert) → IsValid b → 1 ≤ h → IsCert k cert
+    → ((errors : List ℕ) × IsAccepted b h cert errors) ⊎ ((fault : CheckFault) × HasCheckFault b h cert fault)
+
+-- a tree is accepted with the errors that it claims, for some claims, where each leaf has a Bound for each output
+abbrev pub BoundedTreesAreAccepted : Type 0
+BoundedTreesAreAccepted =
+    (b : Block) (h : ℕ) (nodes : List Node) (parts : List Part) → IsTree (whole b) nodes parts []
+    → ((o : ℕ) (x : Output) → 1 ≤ o → output_at b o ≡ Some x → All (λ p. (n : ℕ) × HasBound b o x h p n) parts)
+    → (errors : List ℕ) × IsAccepted b h (record { claims = errors; nodes = nodes }) errors
+
 -- the errors that a text is accepted with, or why it is refused
 abbrev pub IsTextAnswer : Block → ℕ → CertKind → Width → List ℕ → Result (List ℕ) TextFault → Type 0
 IsTextAnswer b h k answers text (Ok errors) = IsAcceptedText b h k answers text errors
@@ -117,3 +136,9 @@ abbrev pub TextAnswersAreOne : Type 0
 TextAnswersAreOne =
     (b : Block) (h : ℕ) (k : CertKind) (answers : Width) (text : List ℕ) (x y : Result (List ℕ) TextFault)
     → IsValid b → IsTextAnswer b h k answers text x → IsTextAnswer b h k answers text y → x ≡ y
+
+-- and each has one
+abbrev pub EachCertTextIsJudged : Type 0
+EachCertTextIsJudged =
+    (b : Block) (h : ℕ) (k : CertKind) (answers : Width) (text : List ℕ) → IsValid b → 1 ≤ h
+    → (answer : Result (List ℕ) TextFault) × IsTextAnswer b h k answers text answer

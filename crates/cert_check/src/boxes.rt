@@ -23,7 +23,7 @@ pub fn whole_box(block: &Block) -> ByteBox
     ByteBox(intervals)
 }
 
-/// Puts a box onto a stack that has room for it.
+/// Pushes a box onto a stack that has room for it.
 pub(crate) fn push(boxes: &mut Vec<ByteBox>, bytes: ByteBox)
     requires { vec_len boxes.old < vec_capacity boxes.old }
     ensures boxes { stack_of boxes.new.items ≡ bytes.0.items ∷ stack_of boxes.old.items }
@@ -33,7 +33,7 @@ pub(crate) fn push(boxes: &mut Vec<ByteBox>, bytes: ByteBox)
     boxes.push(bytes).unwrap();
 }
 
-/// Puts the halves of a box onto the stack, the left one last.
+/// Pushes the halves of a box onto the stack, the left one last.
 pub(crate) fn push_halves(
     boxes: &mut Vec<ByteBox>,
     bytes: ByteBox,
@@ -64,7 +64,7 @@ pub(crate) fn push_halves(
     }
 }
 
-/// The interval at a place, if the cut is inside it.
+/// The interval at an index, if the cut is inside it.
 fn interval_cut(bytes: &ByteBox, place: usize, cut: u8) -> Option<Interval>
     ensures inside { IfSome result (λ v.
         IsCut place cut bytes.now.0.items × (slice_get bytes.now.0.items place ≡ Some v)) }
@@ -78,7 +78,7 @@ fn interval_cut(bytes: &ByteBox, place: usize, cut: u8) -> Option<Interval>
     }
 }
 
-/// The lower and the upper half of a box that is cut inside the interval at a place.
+/// The lower and the upper half of a box that is cut inside the interval at an index.
 pub fn halves(bytes: ByteBox, place: usize, interval: Interval, cut: u8) -> (ByteBox, ByteBox)
     requires interval { slice_get bytes.0.items place ≡ Some interval }
     requires above { interval.from < cut }

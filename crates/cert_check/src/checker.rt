@@ -1,4 +1,4 @@
-//! Whether a certificate is accepted, with which errors, or its first fault.
+//! Whether a certificate is accepted, and with which errors, or its first fault.
 ghost use Rattle.std.specs.Prelude.{◌≢◌, ◌≤◌, ◌<◌, IfOk, IfErr};
 ghost use Rattle.fuzzy_meaning.specs.Blocks.{IsValid};
 ghost use Rattle.box_tree.specs.declared.{cert.CertKind.CertKind as TheKind, cert.CertKind.TheVariants.Named};
@@ -18,10 +18,10 @@ use thiserror::Error;
 /// rules count from 1.
 #[derive(Clone, Copy, PartialEq, Eq, Debug, Error)]
 pub enum CheckFault {
-    /// So many claims, and so many outputs.
+    /// The number of claims and that of outputs, which differ.
     #[error("{0} claims for {1} outputs")]
     Outputs(u32, u32),
-    /// That line cuts an input that the block does not have, or not inside its interval.
+    /// The cut on that line is at an input that the block does not have, or not inside its interval.
     #[error("line {0} cuts no interval")]
     BadCut(u32),
     /// A pair on that line names no rule that concludes a term of its output.
@@ -33,20 +33,20 @@ pub enum CheckFault {
     /// The leaf on that line has no Bound for that output, or one of its cells has none.
     #[error("line {0} is unsure of output {1}")]
     Unsure(u32, u8),
-    /// The leaf of cells on that line has more than 64.
+    /// The leaf of cells on that line has more than 64 cells.
     #[error("line {0} has too many cells")]
     TooManyCells(u32),
     /// That output's claim, and its error, which is greater.
     #[error("output {0} has a claim of {1} and an error of {2}")]
     Claimed(u8, u32, u32),
-    /// There was no memory for the errors or for the boxes still to come.
+    /// Out of memory for the errors or the open boxes.
     #[error("no memory")]
     Memory,
 }
 
-/// The error of each output in millionths of its range, for answers that are bytes, or the
-/// certificate's first fault: in the order of its lines, on a line in the order of its pairs, and
-/// its claims last. The certificate names rules.
+/// The error of each output in millionths of its range, for answers that are bytes, or the first
+/// fault of a plain certificate, in the order of its lines, of the pairs on a line, and with the
+/// claims last.
 pub fn check(alloc: Global, block: &Block, cert: &Cert) -> Result<Vec<u32>, CheckFault>
     requires block { IsValid block.now }
     requires cert { IsCert Named cert.now }
@@ -68,7 +68,7 @@ pub fn check16(alloc: Global, block: &Block, cert: &Cert) -> Result<Vec<u32>, Ch
     check_for(alloc, block, cert, Width::Word)
 }
 
-/// The same of a certificate of either kind, for answers of this width.
+/// The same for a certificate of either kind and answers of this width.
 pub fn check_for(
     alloc: Global,
     block: &Block,
@@ -84,7 +84,7 @@ pub fn check_for(
     checked(alloc, block, cert, answers.parts())
 }
 
-/// The same for answers in so many parts to a byte.
+/// The same for answers with `parts` parts to a byte.
 fn checked(alloc: Global, block: &Block, cert: &Cert, parts: u16) -> Result<Vec<u32>, CheckFault>
     requires block { IsValid block.now }
     requires cert { (kind : TheKind) × IsCert kind cert.now }

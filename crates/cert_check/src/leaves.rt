@@ -1,4 +1,4 @@
-//! Leaves: whether what their lines say holds on their boxes, and with which Bounds.
+//! Leaves: whether what their lines state holds on their boxes, and with which Bounds.
 ghost use Rattle.std.specs.Prelude.{◌≡◌, ◌≤◌, ◌<◌, ◌+◌, ◌-◌, length, OnOk, IfOk, IfErr, IfSome};
 ghost use Rattle.std.specs.Prelude.{Some};
 ghost use Rattle.fuzzy_meaning.specs.Blocks.{IsValid, output_at};
@@ -18,7 +18,7 @@ use cell_bounds::{has_few_cells, sure_cells_bounds};
 use error_bound::{BlockTable, BoxTable, ByteBox, Leaf, is_pair_for};
 use fuzzy_meaning::Block;
 
-/// Raises the error of each output to the Bound of a leaf, or tells the leaf's first fault.
+/// Raises the error of each output to at least the Bound of a leaf, or gives the leaf's first fault.
 pub(crate) fn raise_errors(
     errors: &mut [u32],
     block: &Block,
@@ -43,7 +43,7 @@ pub(crate) fn raise_errors(
     Ok(())
 }
 
-/// Raises each error to the Bound at its place.
+/// Raises each error to at least the Bound at its index.
 pub fn raise(errors: &mut [u32], bounds: &[u32; 4])
     requires { length errors.old ≤ 4 }
     ensures { AreRaised bounds.now errors.old errors.new }
@@ -53,7 +53,7 @@ pub fn raise(errors: &mut [u32], bounds: &[u32; 4])
     }
 }
 
-/// The Bound of a leaf for each output at its place, or the leaf's first fault.
+/// The Bound of a leaf for each output, at its index, or the leaf's first fault.
 fn leaf_bounds(
     block: &Block,
     kept: &BlockTable,
@@ -78,7 +78,7 @@ fn leaf_bounds(
     }
 }
 
-/// Those of a leaf of cells.
+/// The same for a leaf of cells.
 fn cells_bounds(
     block: &Block,
     kept: &BlockTable,
@@ -105,7 +105,7 @@ fn cells_bounds(
     }
 }
 
-/// Those of a tight leaf.
+/// The same for a tight leaf.
 fn tight_bounds(
     block: &Block,
     kept: &BlockTable,
@@ -133,7 +133,7 @@ fn tight_bounds(
     Ok(bounds)
 }
 
-/// Those of a leaf's pairs.
+/// The same for the pairs of a leaf.
 fn pair_bounds(
     block: &Block,
     kept: &BlockTable,

@@ -1,4 +1,4 @@
-//! Certificates that are checked as their text is read, node by node.
+//! Checks a certificate while its text is read, node by node.
 ghost use Rattle.std.specs.Prelude.{◌≢◌, ◌≤◌, ℕ, List as Items, [], length, IfOk, IfErr};
 ghost use Rattle.fuzzy_meaning.specs.Blocks.{IsValid};
 ghost use Rattle.byte_scaling.specs.{declared.width.Width.Width as TheWidth, Widths.parts as parts_of};
@@ -15,24 +15,24 @@ use fuzzy_meaning::Block;
 use std::alloc::Global;
 use thiserror::Error;
 
-/// Why a text is refused as a certificate: by a fault of its lines, by a fault of the certificate that
-/// they spell, or for want of memory, which says nothing of the text.
+/// Why a text is refused as a certificate: for a fault of its lines, for a fault of the certificate that
+/// they spell, or for lack of memory, whatever the text.
 #[derive(Clone, Copy, PartialEq, Eq, Debug, Error)]
 pub enum TextFault {
-    /// The text has no certificate. It is never `CertFault::Memory`.
+    /// The text spells no certificate. The fault is never `CertFault::Memory`.
     #[error("{0}")]
     Text(CertFault),
-    /// The text has a certificate, and it is not accepted. It is never `CheckFault::Memory`.
+    /// The text spells a certificate that is not accepted. The fault is never `CheckFault::Memory`.
     #[error("{0}")]
     Check(CheckFault),
-    /// There was no memory for the errors or for the boxes still to come.
+    /// Out of memory for the errors or the open boxes.
     #[error("no memory")]
     Memory,
 }
 
 /// The errors that a text's certificate is accepted with, for answers that are bytes, or why the text
-/// is refused: its first fault as a text, or else that of its certificate. It makes no tree, and takes
-/// what memory it needs before the first node.
+/// is refused: its first fault as a text, or else the first fault of its certificate. It builds no
+/// tree, and allocates all memory before the first node.
 pub fn check_text(alloc: Global, block: &Block, text: &[u8]) -> Result<Vec<u32>, TextFault>
     requires block { IsValid block.now }
     requires text { length text.now ≤ 1048576 }
@@ -54,7 +54,7 @@ pub fn check_text16(alloc: Global, block: &Block, text: &[u8]) -> Result<Vec<u32
     check_text_for(alloc, block, text, CertKind::Named, Width::Word)
 }
 
-/// The same of a certificate of this kind, for answers of this width.
+/// The same for a certificate of this kind and answers of this width.
 pub fn check_text_for(
     alloc: Global,
     block: &Block,
@@ -75,8 +75,8 @@ pub fn check_text_for(
     }
 }
 
-/// The errors of a text of which the claims are read, or why it is refused. Behind a fault of the
-/// certificate the text is read on, since a fault of the text comes first.
+/// The errors of a text whose claims have been read, or why it is refused. After a fault of the
+/// certificate the rest of the text is still read, since a fault of the text takes precedence.
 fn errors_of(
     alloc: Global,
     block: &Block,

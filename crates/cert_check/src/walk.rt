@@ -1,4 +1,4 @@
-//! A walk over the nodes of a tree, with a stack of the boxes still to come.
+//! A walk over the nodes of a tree, with a stack of the open boxes: those whose nodes are still to come.
 ghost use Rattle.std.specs.Prelude.{◌≡◌, ◌≤◌, ◌<◌, ◌+◌, List, [], ◌∷◌, ◌++◌, length, replicate, OnOk, IfOk, IfErr};
 ghost use Rattle.std.specs.Prelude.{IfSome, IfNone, None};
 ghost use Rattle.fuzzy_meaning.specs.Blocks.{IsValid};
@@ -14,25 +14,25 @@ use error_bound::{BlockTable, ByteBox};
 use fuzzy_meaning::Block;
 use std::alloc::{AllocError, Global};
 
-/// The most boxes that are open at once: 255 cuts of each of 8 inputs leave so many, and one more.
+/// The greatest number of boxes that are open at once: 255 cuts of each of 8 inputs, and one more.
 const MOST_BOXES: usize = 2041;
 
-/// A walk over the nodes of a certificate. It takes them one by one, and no memory meanwhile.
+/// A walk over the nodes of a certificate. It takes them one by one, without allocating memory.
 #[derive(Drop)]
 pub(crate) struct Walk<'a> {
     block: &'a Block,
     claims: &'a [u32],
-    /// How many parts an answer has to a byte.
+    /// The number of parts that answers have to a byte.
     parts: u16,
-    /// What the leaves' boxes need of the block.
+    /// What the leaves' boxes need to know about the block.
     table: BlockTable,
     /// The open boxes, the next one last.
     boxes: Vec<ByteBox>,
-    /// The error of each output over the leaves that were taken.
+    /// The error of each output over the leaves taken so far.
     errors: Vec<u32>,
     /// The line of the next node.
     line: u32,
-    /// The first fault, if one was met.
+    /// The first fault, if there was one.
     fault: Option<CheckFault>,
 }
 
@@ -41,7 +41,7 @@ impl<'a> Walk<'a> {
     ghost use Rattle.cert_check.specs.Faults.{HasCheckFault};
     ghost use Rattle.cert_check.specs.Walks.{HasTaken, IsBehind, AreFirst, IsSameTask, cert_over};
 
-    /// A walk that has taken no node, for answers in so many parts to a byte.
+    /// A walk that has taken no node yet, for answers with `parts` parts to a byte.
     pub(crate) fn new(
         alloc: Global,
         block: &'a Block,
@@ -79,7 +79,7 @@ impl<'a> Walk<'a> {
         })
     }
 
-    /// Takes the next node. After a fault it only passes by.
+    /// Takes the next node. After a fault it does nothing.
     pub(crate) fn take(&mut self, node: &Node)
         requires { (nodes : List TheNode) × HasTaken nodes self.old
             × AreFirst (length self.old.claims.now) (nodes ++ node.now ∷ []) }
@@ -97,7 +97,7 @@ impl<'a> Walk<'a> {
         }
     }
 
-    /// Takes a node, where no fault was met before.
+    /// Takes a node, if there was no fault before.
     fn visit(&mut self, node: &Node) -> Result<(), CheckFault>
         requires { (nodes : List TheNode) × HasTaken nodes self.old × IsBehind nodes self.old
             × AreFirst (length self.old.claims.now) (nodes ++ node.now ∷ []) }
@@ -131,7 +131,7 @@ impl<'a> Walk<'a> {
         }
     }
 
-    /// The errors of the certificate of the nodes that were taken, or its first fault.
+    /// The errors of the certificate with the nodes taken, or its first fault.
     pub(crate) fn finish(self) -> Result<Vec<u32>, CheckFault>
         requires { (nodes : List TheNode) × HasTaken nodes self }
         ensures accepted { (nodes : List TheNode) → HasTaken nodes self.entry
@@ -156,7 +156,7 @@ fn zeros(alloc: Global, count: usize) -> Result<Vec<u32>, AllocError>
     vec![in alloc; 0; count]
 }
 
-/// The place of the first error that is greater than its claim.
+/// The index of the first error that is greater than its claim.
 fn first_over(errors: &[u32], claims: &[u32]) -> Option<usize>
     requires { length errors.now ≡ length claims.now }
     ensures within { IfSome result (λ o. o < length errors.now) }

@@ -3,7 +3,8 @@ use Rattle.std.proofs.Common.{◌≡◌, ⊎_elim, ℕ, zero, suc, ◌+◌, ◌-
 use Rattle.std.proofs.Common.{get_or, Some, refl, sym, ap, ap₂, ◌∙◌, subst, arith, length-set, inl, inr, max, ◌++◌}
 use Rattle.std.proofs.{lemmas.List.Elements.All-append, lemmas.Option.slice_get_within, lemmas.Bool.cases_lt}
 use Rattle.std.proofs.Common.{append_assoc, Bool, true, false, Option}
-use Rattle.std.specs.{Prelude.if◌then◌else◌, Prelude.slice_get, Prelude.All, Prelude.◌⊎◌, Prelude.slice_index, Global.Vec, List.Any}
+use Rattle.std.specs.{Prelude.if◌then◌else◌, Prelude.slice_get, Prelude.All, Prelude.◌⊎◌, Prelude.slice_index}
+use Rattle.std.specs.{Global.Vec, List.Any}
 use Rattle.fuzzy_meaning.specs.{declared.block.Output.Output, declared.block.Block.Block, declared.block.Input.Input}
 use Rattle.error_bound.specs.{declared.boxes.Interval.Interval, Boxes.IsBox, Boxes.IsBoxOf}
 use Rattle.error_bound.specs.{Matters.matters, Matters.narrowed_from}
@@ -106,7 +107,7 @@ pub cell_bytes : (bytes : List ℕ) → map (λ (v : Interval). v.from) (cell_of
 cell_bytes [] = refl
 cell_bytes (n ∷ ns) = ap (λ ms. n ∷ ms) (cell_bytes ns)
 
-cell_at : (bytes : List ℕ) (k : ℕ) (v : Interval) → slice_get (cell_of bytes) k ≡ Some v
+pub cell_at : (bytes : List ℕ) (k : ℕ) (v : Interval) → slice_get (cell_of bytes) k ≡ Some v
     → (v.from ≡ v.to) × (slice_get bytes k ≡ Some v.from)
 cell_at [] k v e = absurd (let z : ⊥ = cc in z)
 cell_at (n ∷ ns) zero v e =
@@ -125,7 +126,7 @@ cell_not_halved box bytes k c e at =
     let more = at.more in
     absurd (omega arith)
 
-length-cell : (bytes : List ℕ) → length (cell_of bytes) ≡ length bytes
+pub length-cell : (bytes : List ℕ) → length (cell_of bytes) ≡ length bytes
 length-cell [] = refl
 length-cell (n ∷ ns) = ap suc (length-cell ns)
 
@@ -235,7 +236,7 @@ Any-right P (z ∷ xs) ys a = let r = Any-right P xs ys a in let l = r.2 in (suc
 Any-one : {X : Type 0} (P : X → Type 0) (x : X) → P x → Any P (x ∷ [])
 Any-one P x p = (zero, x, omega arith, refl, p)
 
-All-one : {X : Type 0} (P : X → Type 0) (x : X) → P x → All P (x ∷ [])
+pub All-one : {X : Type 0} (P : X → Type 0) (x : X) → P x → All P (x ∷ [])
 All-one P x p zero d l = p
 All-one P x p (suc k) d l = absurd (omega arith)
 
@@ -319,7 +320,7 @@ split_nodes : (old pushed mid new ls rs : List Node) (x : Node) → pushed ≡ o
 split_nodes old pushed mid new ls rs x p m n =
     n ∙ ap (λ (xs : List Node). xs ++ rs) (m ∙ ap (λ (xs : List Node). xs ++ ls) p) ∙ regroup old x ls rs
 
-split_tree : (box : List Interval) (k c : ℕ) (ls rs rest : List Node) (ps qs : List Part) → IsCut k c box
+pub split_tree : (box : List Interval) (k c : ℕ) (ls rs rest : List Node) (ps qs : List Part) → IsCut k c box
     → IsTree (left_of k c box) (ls ++ (rs ++ rest)) ps (rs ++ rest) → IsTree (right_of k c box) (rs ++ rest) qs rest
     → IsTree box (Split (k + 1) c ∷ ((ls ++ rs) ++ rest)) (ps ++ qs) rest
 split_tree box k c ls rs rest ps qs cut l r =

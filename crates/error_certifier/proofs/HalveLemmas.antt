@@ -29,7 +29,8 @@ use Rattle.error_certifier.specs.Halving.{IsWithinTarget, IsFirstAbove, IsAbove,
 use Rattle.error_certifier.specs.Trees.{IsBestPair, AreBestPairs, AreTightBounds, IsFoundLeaf, IsTreeFor, IsSplit}
 use Rattle.error_certifier.specs.Laws.{IsComparable, IsLeastError, IsOutOfReach, SaysOutOfReachFor, CellsAreOutOfReach}
 use Rattle.error_certifier.specs.declared.certifier.NotReached.TheVariants.{Cell, LeafLimit, Memory}
-use Rattle.error_certifier.specs.Halving.{counted, halving, outputs, IsToCut, Stops, cell, limit, in_left, in_right, IsStuck}
+use Rattle.error_certifier.specs.Halving.{counted, halving, outputs, IsToCut, Stops, cell, limit, in_left, in_right}
+use Rattle.error_certifier.specs.Halving.{IsStuck}
 use Rattle.error_certifier.specs.{declared.certifier.NotReached.NotReached, declared.leaves.FoundLeaf.FoundLeaf}
 use Rattle.error_certifier.specs.{declared.halving.Tree.Tree, Trees.Grows, Targets.AreTargets}
 use Rattle.error_certifier.proofs.BoxLemmas.{whole_box, left_box, right_box, halves_fewer, middle_inside, cell_is}
@@ -452,7 +453,7 @@ named_compared form.Tight k c named at = absurd named
 named_compared form.Cells k c named at = absurd named
 
 -- the bytes of a box are bytes
-lies_small : (box : List Interval) (bytes : List ℕ) → IsBox box → LieIn box bytes → All (λ n. n ≤ 255) bytes
+pub lies_small : (box : List Interval) (bytes : List ℕ) → IsBox box → LieIn box bytes → All (λ n. n ≤ 255) bytes
 lies_small box bytes is lie k d l =
     let count = lie.count in
     let v = some_at box k (omega (arith, l, count)) in

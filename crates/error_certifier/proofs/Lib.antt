@@ -4,3 +4,6 @@ pub mod CertLemmas
 pub mod TargetLists
 pub mod OneAnswer
 pub mod TargetLemmas
+pub mod JudgedBoxes
+pub mod JudgedHalving
+pub mod SmallBlocks

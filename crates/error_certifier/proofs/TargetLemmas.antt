@@ -1,22 +1,18 @@
 -- The certificate of a halving is a good one, within its targets.
-use Rattle.std.proofs.Common.{◌≡◌, ℕ, ◌+◌, ◌-◌, ◌*◌, ◌<◌, ◌≤◌, List, [], ◌∷◌, ◌++◌, length, get_or}
-use Rattle.std.proofs.Common.{Option, Some, None, Bool, true, false, cond, refl, sym, ap, ◌∙◌, subst, arith}
+use Rattle.std.proofs.Common.{◌≡◌, ℕ, ◌+◌, ◌-◌, ◌≤◌, List, [], ◌∷◌, ◌++◌, length, get_or}
+use Rattle.std.proofs.Common.{Some, refl, sym, ap, ◌∙◌, subst, arith}
 use Rattle.std.proofs.Common.{append_assoc}
 use Rattle.std.proofs.lemmas.List.{append-nil}
-use Rattle.std.specs.Prelude.{slice_index, slice_get, All, ◌==◌}
+use Rattle.std.specs.Prelude.{slice_index, slice_get, All}
 use Rattle.std.specs.List.{AllByRecursion}
-use Rattle.std.specs.Option.{option_map, option_map_or}
-use Rattle.std.proofs.lemmas.Option.{slice_get_within, slice_get-get_or, get_or_from_slice_get}
+use Rattle.std.specs.Option.{option_map}
+use Rattle.std.proofs.lemmas.Option.{slice_get_within, slice_get-get_or}
 use Rattle.std.proofs.lemmas.List.Elements.{All-append, All-from_recursion, recursion_from_All}
 use Rattle.fz_list.proofs.Algebra.{All-cons, some_at}
-use Rattle.fz_num.specs.declared.dec.Dec.{Dec}
 use Rattle.fuzzy_meaning.specs.declared.{block.Block.Block, block.Output.Output}
 use Rattle.fuzzy_meaning.specs.Blocks.{IsValid}
-use Rattle.error_bound.specs.{declared.boxes.Interval.Interval, Boxes.IsBoxOf, Bounds.IsBound}
-use Rattle.error_bound.specs.{Bounds.errors_from, Bounds.in_millionths, Bounds.silent_bound, Bounds.strong_bound}
-use Rattle.error_bound.specs.{Bounds.offset, Leaves.Holds, Leaves.strong, Leaves.silent, Tight.of_bound, Tight.of_none}
-use Rattle.error_bound.specs.{Tight.IsTightCount, TightLaws.TightBoundsAreSmall}
-use Rattle.fz_num.specs.{Fractions.over, Decimals.distance}
+use Rattle.error_bound.specs.{declared.boxes.Interval.Interval, Boxes.IsBoxOf}
+use Rattle.error_bound.specs.{Leaves.Holds, Leaves.strong, Leaves.silent}
 use Rattle.box_tree.specs.declared.{cert.CertKind.CertKind, cert.LeafForm.LeafForm, cert.Node.Node, cert.Cert.Cert}
 use Rattle.box_tree.specs.declared.cert.CertKind.TheVariants.{Named, Tight}
 use Rattle.box_tree.specs.declared.cert.Node.TheVariants.{Split, Leaf}

@@ -1,8 +1,8 @@
 -- One target for all outputs.
-use Rattle.std.proofs.Common.{◌≡◌, ℕ, zero, suc, ◌+◌, ◌<◌, ◌≤◌, List, [], ◌∷◌, length, replicate, get_or, Some, arith}
+use Rattle.std.proofs.Common.{◌≡◌, ℕ, zero, suc, ◌<◌, ◌≤◌, List, length, replicate, get_or, arith}
 use Rattle.std.proofs.lemmas.{List.length-replicate, Option.slice_get-get_or}
 use Rattle.std.specs.Prelude.{All, slice_index, IfOk, Result, Ok, Err}
-use Rattle.std.proofs.Common.{⊎_elim, ◌≢◌, refl, sym, ◌∙◌, subst}
+use Rattle.std.proofs.Common.{⊎_elim, ◌≢◌, sym, ◌∙◌, subst}
 use Rattle.std.proofs.{lemmas.List.get_or_past, lemmas.Bool.cases_lt}
 use Rattle.fuzzy_meaning.specs.{declared.block.Block.Block, Blocks.IsValid}
 use Rattle.error_bound.specs.declared.boxes.Interval.{Interval}

@@ -1,7 +1,8 @@
--- Halving: a box is a leaf where its best leaves are all within the outputs' targets, and else it is cut in the middle of
--- the widest interval of an input that matters, the lower half first.
+-- Halving: a box is a leaf where its best leaves are all within the outputs' targets, and else it is cut in the middle
+-- of the widest interval of an input that matters, the lower half first.
 -- Beside the promise.
-use Rattle.std.specs.Prelude.{◌≡◌, ◌≢◌, ℕ, ◌+◌, ◌-◌, ◌/◌, ◌<◌, ◌≤◌, List, [], ◌∷◌, ◌++◌, length, Some, slice_get, slice_index, replicate}
+use Rattle.std.specs.Prelude.{◌≡◌, ◌≢◌, ℕ, ◌+◌, ◌-◌, ◌/◌, ◌<◌, ◌≤◌, List, [], ◌∷◌, ◌++◌, length, Some, slice_get}
+use Rattle.std.specs.Prelude.{slice_index, replicate}
 use Rattle.arrayvec.specs.ArrayVec.{ArrayVec}
 use Rattle.fuzzy_meaning.specs.declared.{block.Block.Block, block.Output.Output}
 use Rattle.error_bound.specs.declared.boxes.Interval.{Interval}
@@ -18,10 +19,13 @@ use Rattle.cert_check.specs.{Trees.whole, Trees.left_of, Trees.right_of, Accepta
 use Rattle.error_certifier.specs.{declared.certifier.NotReached.NotReached, Targets.AreTargets}
 use Rattle.error_certifier.specs.declared.certifier.NotReached.TheVariants.{Cell, LeafLimit, Outputs}
 
--- ---- a box and the targets, one for each output in order, in millionths of its range, for answers in h parts to a byte
+-- ---- a box and the targets, one for each output in order, in millionths of its range, for answers in h parts to a
+-- byte
 
--- of the outputs the one at place k is the first whose best leaf, not one of cells, counts n on the box, above its target
-pub record IsFirstAbove (kind : CertKind) (b : Block) (h : ℕ) (targets : List ℕ) (box : List Interval) (k n : ℕ) : Type 0 where
+-- of the outputs the one at place k is the first whose best leaf, not one of cells, counts n on the box, above its
+-- target
+pub record IsFirstAbove (kind : CertKind) (b : Block) (h : ℕ) (targets : List ℕ) (box : List Interval) (k n : ℕ)
+    : Type 0 where
   pub output : Output
   pub output_is : slice_get b.outputs k ≡ Some output
   pub bound : IsBoxCount kind b box (k + 1) output h n
@@ -41,7 +45,8 @@ pub record IsWithinTarget (b : Block) (h target : ℕ) (box : List Interval) (o 
   pub within : n ≤ target
 
 -- these are the best leaves of the box, one for each output, each within its target
-pub record AreWithinTarget (b : Block) (h : ℕ) (targets : List ℕ) (box : List Interval) (pairs : List (ℕ × ℕ)) : Type 0 where
+pub record AreWithinTarget (b : Block) (h : ℕ) (targets : List ℕ) (box : List Interval) (pairs : List (ℕ × ℕ))
+    : Type 0 where
   pub count : length pairs ≡ length b.outputs
   pub each : (k : ℕ) (x : Output) → slice_get b.outputs k ≡ Some x
       → (p : ℕ × ℕ) × (n : ℕ) × (slice_get pairs k ≡ Some p)
@@ -106,7 +111,8 @@ abbrev pub IsLarge : CertKind → Block → List Interval → Type 0
 IsLarge kind.Named b box = Unit {0}
 IsLarge kind.Tight b box = 64 < cell_count (narrowed b box)
 
-pub record IsToCut (kind : CertKind) (b : Block) (h : ℕ) (targets : List ℕ) (box : List Interval) (k c : ℕ) : Type 0 where
+pub record IsToCut (kind : CertKind) (b : Block) (h : ℕ) (targets : List ℕ) (box : List Interval) (k c : ℕ)
+    : Type 0 where
   pub above : IsAbove kind b h targets box
   pub large : IsLarge kind b box
   pub halved : IsHalvedAt (counted kind b box) box k c
@@ -114,7 +120,8 @@ pub record IsToCut (kind : CertKind) (b : Block) (h : ℕ) (targets : List ℕ) 
 -- ---- halving
 
 -- where n leaves stand, the box comes to these nodes, and then m leaves stand
-pub data Halves (kind : CertKind) (b : Block) (h : ℕ) (targets : List ℕ) : List Interval → ℕ → List Node → ℕ → Type 0 where
+pub data Halves (kind : CertKind) (b : Block) (h : ℕ) (targets : List ℕ) : List Interval → ℕ → List Node → ℕ
+    → Type 0 where
   leaf : (box : List Interval) (n : ℕ) (form : LeafForm) → IsSettled kind b h targets box form → n < 4096
       → Halves kind b h targets box n (Leaf form ∷ []) (n + 1)
   split : (box : List Interval) (k c n m r : ℕ) (left right : List Node) → IsToCut kind b h targets box k c

@@ -1,14 +1,15 @@
 -- What holds of every halving.
 -- Beside the promise.
-use Rattle.std.specs.Prelude.{◌≡◌, ℕ, ◌-◌, ◌<◌, ◌≤◌, List, All, Some, slice_get, slice_index, Result, Ok, Err}
+use Rattle.std.specs.Prelude.{◌≡◌, ◌≢◌, ℕ, ◌-◌, ◌<◌, ◌≤◌, List, length, All, Some, slice_get, slice_index}
+use Rattle.std.specs.Prelude.{Result, Ok, Err}
 use Rattle.fuzzy_meaning.specs.{declared.block.Block.Block, Blocks.IsValid}
 use Rattle.box_tree.specs.declared.cert.CertKind.{CertKind}
 use Rattle.box_tree.specs.declared.cert.CertKind.TheVariants as kind
 use Rattle.box_tree.specs.{Certificates.IsCert, declared.cert.Cert.Cert}
 use Rattle.cell_bounds.specs.CellBounds.{number_of}
-use Rattle.cert_check.specs.{Acceptance.IsAccepted, BoxLaws.IsNodeOf}
+use Rattle.cert_check.specs.{Acceptance.IsAccepted, BoxLaws.IsNodeOf, Laws.HasDefaults}
 use Rattle.error_certifier.specs.{declared.certifier.NotReached.NotReached, Halving.IsHalvingFor, Halving.StopsFor}
-use Rattle.error_certifier.specs.Halving.{IsHalving, StopsAt, one_for_all}
+use Rattle.error_certifier.specs.{Halving.IsHalving, Halving.StopsAt, Halving.one_for_all, Targets.AreTargets}
 use Rattle.error_certifier.specs.declared.certifier.NotReached.TheVariants.{Cell, LeafLimit, Memory, Outputs}
 
 -- the certificate of the halving, or why it stops
@@ -21,6 +22,12 @@ abbrev pub AnswersForTargetsAreOne : Type 0
 AnswersForTargetsAreOne =
     (k : CertKind) (b : Block) (h : ℕ) (targets : List ℕ) (x y : Result Cert NotReached) → IsValid b
     → IsAnswerFor k b h targets x → IsAnswerFor k b h targets y → x ≡ y
+
+-- and each block has one, which is not want of memory
+abbrev pub EachBlockIsHalved : Type 0
+EachBlockIsHalved =
+    (k : CertKind) (b : Block) (h : ℕ) (targets : List ℕ) → IsValid b → 1 ≤ h → All (λ n. n ≤ 1000000) targets
+    → (answer : Result Cert NotReached) × IsAnswerFor k b h targets answer × (answer ≢ Err Memory)
 
 -- each error is at most its output's target
 abbrev pub AreWithin : List ℕ → List ℕ → Type 0
@@ -59,6 +66,27 @@ abbrev pub CellsAreOutOfReach : Type 0
 CellsAreOutOfReach =
     (k : CertKind) (b : Block) (h : ℕ) (targets : List ℕ) (stop : NotReached) → IsValid b → 1 ≤ h → StopsFor k b h targets stop
     → SaysOutOfReachFor k b h targets stop
+
+-- ---- tight halving of one or two inputs
+
+-- it never meets the limit of leaves
+abbrev pub SmallBlocksMeetNoLimit : Type 0
+SmallBlocksMeetNoLimit =
+    (b : Block) (h : ℕ) (targets : List ℕ) → IsValid b → length b.inputs ≤ 2
+    → StopsFor kind.Tight b h targets LeafLimit → ⊥
+
+-- it finds a certificate where each output has a number as DEFAULT
+abbrev pub DefaultsHaveHalvings : Type 0
+DefaultsHaveHalvings =
+    (b : Block) (h : ℕ) → IsValid b → length b.inputs ≤ 2 → 1 ≤ h → HasDefaults b
+    → (cert : Cert) × IsHalving kind.Tight b h 1000000 cert
+
+-- and wherever some certificate is accepted, each error within its target
+abbrev pub TightHalvingDecides : Type 0
+TightHalvingDecides =
+    (b : Block) (h : ℕ) (targets : List ℕ) (cert : Cert) (errors : List ℕ) → IsValid b → length b.inputs ≤ 2 → 1 ≤ h
+    → AreTargets b targets → IsAccepted b h cert errors → AreWithin targets errors
+    → (found : Cert) × IsHalvingFor kind.Tight b h targets found
 
 -- ---- with one target for all outputs
 

@@ -14,8 +14,8 @@ use Rattle.error_certifier.specs.declared.leaves.Piece.TheVariants as piece
 use Rattle.error_certifier.specs.Halving.{IsWithinTarget, IsSettled, IsAbove, IsLarge, IsWidest, Halves, counted}
 
 -- the pair and the Bound at a place are those of the output's best leaf, which is within its target
-pub record IsBestPair (b : Block) (h : ℕ) (targets : List ℕ) (box : List Interval) (k : ℕ) (x : Output) (pairs : List (ℕ × ℕ))
-    (bounds : List ℕ) : Type 0 where
+pub record IsBestPair (b : Block) (h : ℕ) (targets : List ℕ) (box : List Interval) (k : ℕ) (x : Output)
+    (pairs : List (ℕ × ℕ)) (bounds : List ℕ) : Type 0 where
   pub pair : ℕ × ℕ
   pub bound : ℕ
   pub pair_is : slice_get pairs k ≡ Some pair
@@ -23,8 +23,8 @@ pub record IsBestPair (b : Block) (h : ℕ) (targets : List ℕ) (box : List Int
   pub within : IsWithinTarget b h (slice_index targets k) box (k + 1) x (record { rule = pair.0; k = pair.1 }) bound
 
 -- of each output
-pub record AreBestPairs (b : Block) (h : ℕ) (targets : List ℕ) (box : List Interval) (pairs : List (ℕ × ℕ)) (bounds : List ℕ)
-    : Type 0 where
+pub record AreBestPairs (b : Block) (h : ℕ) (targets : List ℕ) (box : List Interval) (pairs : List (ℕ × ℕ))
+    (bounds : List ℕ) : Type 0 where
   pub count : length pairs ≡ length b.outputs
   pub each : (k : ℕ) (x : Output) → slice_get b.outputs k ≡ Some x → IsBestPair b h targets box k x pairs bounds
   pub good : All IsPair pairs
@@ -36,16 +36,16 @@ AreTightBounds b h targets box bounds =
     → IsTightBound b box (k + 1) x h (slice_index bounds k) × (slice_index bounds k ≤ slice_index targets k)
 
 -- the box is a leaf of this form, with these Bounds, each within its target
-pub record IsFoundLeaf (kind : CertKind) (b : Block) (h : ℕ) (targets : List ℕ) (box : List Interval) (found : FoundLeaf) : Type 0
-  where
-    pub settled : IsSettled kind b h targets box found.form
-    pub good : IsLeaf kind (length b.outputs) found.form
-    pub bounds : AreBounds b h (part_of box found.form) found.bounds
-    pub within : (k : ℕ) → k < length b.outputs → slice_index found.bounds k ≤ slice_index targets k
+pub record IsFoundLeaf (kind : CertKind) (b : Block) (h : ℕ) (targets : List ℕ) (box : List Interval)
+    (found : FoundLeaf) : Type 0 where
+  pub settled : IsSettled kind b h targets box found.form
+  pub good : IsLeaf kind (length b.outputs) found.form
+  pub bounds : AreBounds b h (part_of box found.form) found.bounds
+  pub within : (k : ℕ) → k < length b.outputs → slice_index found.bounds k ≤ slice_index targets k
 
 -- or it is to be cut in the interval v, which is at place k
-pub record IsSplit (kind : CertKind) (b : Block) (h : ℕ) (targets : List ℕ) (box : List Interval) (k : ℕ) (v : Interval)
-    : Type 0 where
+pub record IsSplit (kind : CertKind) (b : Block) (h : ℕ) (targets : List ℕ) (box : List Interval) (k : ℕ)
+    (v : Interval) : Type 0 where
   pub above : IsAbove kind b h targets box
   pub large : IsLarge kind b box
   pub is_at : slice_get box k ≡ Some v
@@ -77,7 +77,8 @@ pub record RisesTo (b : Block) (h target : ℕ) (o : ℕ) (x : Output) (parts : 
   pub some : (new ≡ old) ⊎ Any (λ p. HasBound b o x h p new) parts
 
 -- the tree grows by a box's nodes, which are a tree over it
-pub record Grows (kind : CertKind) (b : Block) (h : ℕ) (targets : List ℕ) (box : List Interval) (old new : Tree) : Type 0 where
+pub record Grows (kind : CertKind) (b : Block) (h : ℕ) (targets : List ℕ) (box : List Interval) (old new : Tree)
+    : Type 0 where
   pub added : List Node
   pub parts : List Part
   pub nodes : new.nodes.items ≡ old.nodes.items ++ added
@@ -86,4 +87,5 @@ pub record Grows (kind : CertKind) (b : Block) (h : ℕ) (targets : List ℕ) (b
   pub good : All (IsNode kind (length b.outputs)) added
   pub count : length new.errors.items ≡ length old.errors.items
   pub errors : (k : ℕ) (x : Output) → slice_get b.outputs k ≡ Some x
-      → RisesTo b h (slice_index targets k) (k + 1) x parts (slice_index old.errors.items k) (slice_index new.errors.items k)
+      → RisesTo b h (slice_index targets k) (k + 1) x parts (slice_index old.errors.items k)
+      (slice_index new.errors.items k)

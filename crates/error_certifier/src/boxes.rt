@@ -5,7 +5,7 @@ ghost use Rattle.error_certifier.specs.Halving.{IsWidest, middle_of};
 
 use error_bound::{ByteBox, Interval};
 
-/// The first of the widest intervals, and its place.
+/// The index of the first of the widest intervals, and that interval.
 pub(crate) fn widest(bytes: &ByteBox) -> (usize, Interval)
     requires some { 1 ≤ length bytes.now.0.items }
     requires bytes { IsBox bytes.now.0.items }
@@ -21,7 +21,7 @@ pub(crate) fn widest(bytes: &ByteBox) -> (usize, Interval)
     (place, intervals[place])
 }
 
-/// How many bytes an interval has more than one.
+/// The number of an interval's bytes after the first.
 fn width(interval: Interval) -> u8
     requires { interval.from ≤ interval.to }
     ensures { result ≡ interval.to - interval.from }
@@ -29,7 +29,7 @@ fn width(interval: Interval) -> u8
     interval.to - interval.from
 }
 
-/// The byte in the middle of an interval: half of its bytes, rounded down, are below it.
+/// The byte in the middle of an interval: the half of its bytes that is below it is rounded down.
 pub(crate) fn middle(interval: Interval) -> u8
     requires { interval.from < interval.to }
     ensures middle { result ≡ middle_of interval }

@@ -23,23 +23,23 @@ use thiserror::Error;
 /// Why halving gives no certificate.
 #[derive(Clone, PartialEq, Eq, Debug, Drop, Error)]
 pub enum NotReached {
-    /// The bytes of a cell, one for each input, the first output, from 1, that is above its target
-    /// there, and the Bound of its best leaf in millionths of its range, or 1000001 where it has none.
-    /// With tight leaves it is the first such cell of a box of at most 64.
+    /// The bytes of a cell, one for each input, the first output, counted from 1, that is above its
+    /// target there, and the Bound of its best leaf in millionths of its range, or 1000001 if it has
+    /// none. With tight leaves it is the first such cell of a box of at most 64.
     #[error("on a cell output {1} has a Bound of {2}")]
     Cell(ArrayVec<u8, 8>, u8, u32),
-    /// More than 4096 leaves would be needed. Another certificate may have fewer.
+    /// Halving needs more than 4096 leaves. Another certificate may need fewer.
     #[error("more than 4096 leaves")]
     LeafLimit,
-    /// So many targets were given for a block of so many outputs.
+    /// The number of targets given and that of the block's outputs, which differ.
     #[error("{0} targets for {1} outputs")]
     Outputs(u8, u8),
-    /// There was no memory for the certificate, or for what boxes need of the block.
+    /// Out of memory for the certificate, or for the table of the block.
     #[error("no memory")]
     Memory,
 }
 
-/// The certificate that halving gives for one target for all outputs, in millionths of each output's range,
+/// The plain certificate that halving gives for one target for all outputs, in millionths of each output's range,
 /// for answers that are bytes.
 pub fn certify(alloc: Global, block: &Block, target: u32) -> Result<Cert, NotReached>
     requires block { IsValid block.now }
@@ -86,7 +86,7 @@ pub fn certify_for(
     certify_each(alloc, block, &Targets::All(target), kind, answers)
 }
 
-/// The same for a target for each output.
+/// The same with a target for each output.
 pub fn certify_each(
     alloc: Global,
     block: &Block,
@@ -111,7 +111,7 @@ pub fn certify_each(
     certified(alloc, kind, block, numbers, answers.parts())
 }
 
-/// The same for a number for each output, and for answers in so many parts to a byte.
+/// The same with a number for each output, for answers with `parts` parts to a byte.
 fn certified(
     alloc: Global,
     kind: CertKind,

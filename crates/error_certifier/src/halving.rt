@@ -22,7 +22,7 @@ use fuzzy_meaning::Block;
 use fz_list::List;
 use std::alloc::{AllocError, Global};
 
-/// The most leaves that a certificate has.
+/// The greatest number of leaves of a certificate that halving gives.
 const MOST_LEAVES: u16 = 4096;
 
 /// What is halved, and for which targets.
@@ -30,15 +30,15 @@ const MOST_LEAVES: u16 = 4096;
 pub(crate) struct Task<'a> {
     kind: CertKind,
     block: &'a Block,
-    /// What all boxes need of the block.
+    /// What all boxes need to know about the block.
     pub(crate) table: BlockTable,
-    /// One for each output.
+    /// The target of each output.
     targets: ArrayVec<u32, 4>,
-    /// How many parts an answer has to a byte.
+    /// The number of parts that answers have to a byte.
     parts: u16,
 }
 
-/// The part of a tree that is made, from the left.
+/// The part of a tree that is built so far, from the left.
 #[derive(Drop)]
 pub(crate) struct Tree {
     nodes: Vec<Node>,
@@ -75,7 +75,7 @@ impl<'a> Task<'a> {
         })
     }
 
-    /// Halves a box until each part of it is a leaf, and puts the nodes behind those of the tree.
+    /// Halves a box until each part of it is a leaf, and appends the nodes to those of the tree.
     /// The table is moved from box to box.
     pub(crate) fn halve(
         &self,
@@ -89,8 +89,8 @@ impl<'a> Task<'a> {
         requires tree { IsTreeFor self.now.block.now tree.old }
         ensures table { IsTable self.now.block.now table.new }
         ensures tree { OnOk result (IsTreeFor self.now.block.now tree.new) }
-        ensures grows { OnOk result (Grows self.now.kind self.now.block.now self.now.parts self.now.targets.items bytes.0.items
-            tree.old tree.new) }
+        ensures grows { OnOk result (Grows self.now.kind self.now.block.now self.now.parts
+            self.now.targets.items bytes.0.items tree.old tree.new) }
         ensures stops { IfErr result (λ stop. stop ≢ NotReached.Memory → Stops self.now.kind self.now.block.now
             self.now.parts self.now.targets.items bytes.0.items tree.old.leaves stop) }
     {
@@ -109,7 +109,7 @@ impl<'a> Task<'a> {
         self.halve(right, table, tree)
     }
 
-    /// What becomes of a box, or the cell that is above a target.
+    /// What becomes of a box, or the cell in it that is above a target.
     fn found(&self, bytes: &ByteBox, table: &mut BoxTable) -> Result<Piece, NotReached>
         requires task { IsTask self.now }
         requires bytes { IsBoxOf self.now.block.now bytes.now.0.items }
@@ -127,7 +127,7 @@ impl<'a> Task<'a> {
         }
     }
 
-    /// That of a table's box, for a certificate that names rules.
+    /// The same for a table's box and a plain certificate.
     fn named_leaf(&self, table: &BoxTable) -> Result<Piece, NotReached>
         requires task { IsTask self.now }
         requires table { IsTable self.now.block.now table.now }
@@ -149,7 +149,7 @@ impl<'a> Task<'a> {
         }
     }
 
-    /// The same for a tight certificate.
+    /// The same for a table's box and a tight certificate.
     fn tight_leaf(&self, table: &BoxTable) -> Result<Piece, NotReached>
         requires task { IsTask self.now }
         requires table { IsTable self.now.block.now table.now }
@@ -167,7 +167,7 @@ impl<'a> Task<'a> {
         }
     }
 
-    /// That of a table's box where a tight leaf is above a target.
+    /// The same for a tight certificate, if the tight leaf of the table's box is above a target.
     fn cells_leaf(&self, table: &BoxTable) -> Result<Piece, NotReached>
         requires task { IsTask self.now }
         requires table { IsTable self.now.block.now table.now }
@@ -201,7 +201,7 @@ impl<'a> Task<'a> {
 }
 
 impl Tree {
-    /// No nodes yet, for so many outputs.
+    /// A tree without nodes yet, for this number of outputs.
     pub(crate) fn new(alloc: Global, outputs: usize) -> Result<Tree, AllocError>
         ensures nodes { IfOk result (λ tree. tree.nodes.items ≡ []) }
         ensures errors { IfOk result (λ tree. tree.errors.items ≡ replicate outputs 0) }
@@ -215,7 +215,7 @@ impl Tree {
         })
     }
 
-    /// Puts a leaf behind the nodes, and raises the errors to its Bounds.
+    /// Appends a leaf to the nodes, and raises the errors to at least its Bounds.
     fn push_leaf(&mut self, leaf: FoundLeaf) -> Result<(), NotReached>
         requires { length self.old.errors.items ≤ 4 }
         ensures nodes { OnOk result (self.new.nodes.items ≡ self.old.nodes.items ++ node.Leaf leaf.form ∷ []) }
@@ -224,6 +224,7 @@ impl Tree {
         ensures few { OnOk result (self.old.leaves < 4096) }
         ensures limit { IfErr result (λ stop.
             stop ≢ NotReached.Memory → (stop ≡ NotReached.LeafLimit) × (4096 ≤ self.old.leaves)) }
+        ensures full { IfErr result (λ stop. 4096 ≤ self.old.leaves → stop ≡ NotReached.LeafLimit) }
     {
         if self.leaves >= MOST_LEAVES {
             return Err(NotReached::LeafLimit);
@@ -237,7 +238,7 @@ impl Tree {
         Ok(())
     }
 
-    /// The certificate of the nodes, which claims their errors.
+    /// The certificate with the nodes, which claims their errors.
     pub(crate) fn into_cert(self) -> Cert
         ensures claims { result.claims ≡ self.errors.items }
         ensures nodes { result.nodes ≡ self.nodes.items }

@@ -1,4 +1,4 @@
-//! The leaf of a box, of either kind.
+//! The leaf of a box, for either kind of certificate.
 ghost use Rattle.std.specs.Prelude.{◌≡◌, ◌≤◌, ◌<◌, ◌+◌, ℕ, length, IfOk, IfErr, IfSome, Some, slice_get, slice_index};
 ghost use Rattle.fuzzy_meaning.specs.{declared.block.Output.Output, Blocks.IsValid, Blocks.output_at};
 ghost use Rattle.error_bound.specs.{Reaches.IsTable, BestLeaves.IsBestBound, Tight.IsTightBound, Tight.IsTightCount};
@@ -13,7 +13,7 @@ use error_bound::laws::{best_leaves_hold, faulty_leaves_fail};
 use error_bound::{BoxTable, Interval, Leaf};
 use fuzzy_meaning::Block;
 
-/// A leaf that is within its targets: what its line says, and its Bound for each output at its place.
+/// A leaf within the targets: what its line states, and its Bound for each output, at its index.
 #[derive(Drop)]
 pub(crate) struct FoundLeaf {
     pub(crate) form: LeafForm,
@@ -25,18 +25,18 @@ pub(crate) struct FoundLeaf {
 pub(crate) enum Piece {
     /// A leaf.
     Leaf(FoundLeaf),
-    /// It is to be cut in the interval at a place.
+    /// It is to be cut in the interval at this index.
     Cut(usize, Interval),
 }
 
-/// The place of the first output whose best leaf is above its target, and that leaf's Bound.
+/// The index of the first output whose best leaf is above its target, and that leaf's Bound.
 #[derive(Clone, Copy)]
 pub(crate) struct Above {
     pub(crate) place: u8,
     pub(crate) bound: u32,
 }
 
-/// The leaf of a table's box that names its best leaves, if each is within its output's target.
+/// The leaf with the best pairs of a table's box, if each is within its output's target.
 pub(crate) fn best_leaf(
     block: &Block,
     table: &BoxTable<'_>,
@@ -76,7 +76,7 @@ pub(crate) fn best_leaf(
     })
 }
 
-/// The tight Bounds of a table's box, each at its output's place, if each is within its output's target.
+/// The tight Bounds of a table's box, each at the index of its output, if each is within its output's target.
 pub(crate) fn tight_bounds(
     block: &Block,
     table: &BoxTable<'_>,
@@ -108,8 +108,8 @@ pub(crate) fn tight_bounds(
     Ok(bounds)
 }
 
-/// The tight Bound for the output at a place, if it is at most a target; else the Bound, which is
-/// 1000001 where there is none.
+/// The tight Bound for the output at an index, if it is at most a target; else the Bound as the error, or
+/// 1000001 if there is none.
 fn tight_within(
     block: &Block,
     table: &BoxTable<'_>,
@@ -137,8 +137,8 @@ fn tight_within(
     }
 }
 
-/// The best leaf for the output at a place with its Bound, if that is at most a target; else the
-/// Bound, which is 1000001 where there is no best leaf.
+/// The best leaf for the output at an index with its Bound, if that is at most a target; else the
+/// Bound as the error, or 1000001 if there is no best leaf.
 fn best_within(
     block: &Block,
     table: &BoxTable<'_>,

@@ -1,12 +1,12 @@
-//! Finds a certificate for a block and a target for each output, by halving: where the best leaves of a box are each
-//! within its output's target the box is a leaf, else it is cut in the middle of its widest interval.
+//! Finds a certificate for a block and a target for each output, by halving: if the best leaf of a box for each
+//! output is within the output's target, the box is a leaf; else it is cut in the middle of its widest interval.
 //!
-//! [`certify`] answers exactly the certificate of the halving, or exactly why it stops; [`certify16`]
-//! the same for answers of 16 bits, [`certify_for`] for either kind of leaf and either width, and [`certify_each`] for a
-//! target for each output.
-//! The certificate is accepted with its claims as errors, each at most its target. Where a cell is above
-//! a target, no certificate of the block that is accepted has a smaller error for that output: then another
-//! target is to be asked for, or the rules changed.
+//! [`certify`] returns the certificate of the halving, or why it stops; [`certify16`] does the same for answers of
+//! 16 bits, [`certify_for`] for either kind of certificate and either width, and [`certify_each`] for one target for
+//! each output.
+//! The certificate is accepted with its claims as errors, each at most its target. If a cell is above a target, no
+//! accepted certificate of the block has a smaller error than the cell's for that output (of a plain halving: no plain
+//! one): then a greater target is needed, or other rules.
 #![tactic(auto)]
 
 mod boxes;

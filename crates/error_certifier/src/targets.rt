@@ -1,10 +1,10 @@
-//! What the outputs' errors are to be at most.
+//! The greatest errors allowed for the outputs.
 ghost use Rattle.std.specs.Prelude.{◌≡◌, ◌≤◌, replicate, length};
 ghost use Rattle.error_certifier.specs.Targets.{numbers_of};
 
 use arrayvec::ArrayVec;
 
-/// What the errors of a block's outputs are to be at most, in millionths of each output's range.
+/// The greatest errors allowed for a block's outputs, in millionths of each output's range.
 #[derive(Drop)]
 pub enum Targets {
     /// One number for all outputs.
@@ -14,7 +14,7 @@ pub enum Targets {
 }
 
 impl Targets {
-    /// The number of each of so many outputs, in order.
+    /// The target of each output, in order, for a block with this number of outputs.
     pub(crate) fn numbers(&self, outputs: usize) -> ArrayVec<u32, 4>
         requires { outputs ≤ 4 }
         ensures { result.items ≡ numbers_of outputs self.now }
@@ -26,7 +26,7 @@ impl Targets {
     }
 }
 
-/// A number so many times.
+/// A number, repeated.
 fn repeated(number: u32, times: usize) -> ArrayVec<u32, 4>
     requires { times ≤ 4 }
     ensures { result.items ≡ replicate times number }
@@ -38,7 +38,7 @@ fn repeated(number: u32, times: usize) -> ArrayVec<u32, 4>
     numbers
 }
 
-/// The same numbers again.
+/// A copy of the numbers.
 fn copy_of(numbers: &ArrayVec<u32, 4>) -> ArrayVec<u32, 4>
     ensures { result.items ≡ numbers.now.items }
 {

@@ -1,7 +1,7 @@
-use Rattle.std.proofs.Common.{◌≡◌, ℕ, ◌≤◌, ◌+◌, ◌<◌, ◌∙◌, ap, sym, subst, List, length}
+use Rattle.std.proofs.Common.{ℕ, ◌≤◌, ◌+◌, ◌<◌, sym, subst, List, length}
 use Rattle.std.specs.Prelude.{IfSome, slice_index}
 use Rattle.fuzzy_meaning.specs.Blocks.{output_at}
-use Rattle.error_bound.specs.{declared.boxes.Interval.Interval, Boxes.IsBox, Matters.narrowed}
+use Rattle.error_bound.specs.{declared.boxes.Interval.Interval, Boxes.IsBox}
 use Rattle.cell_bounds.specs.CellBounds.{IsCellsBound, IsFirstCellAbove, cell_count}
 use Rattle.cell_bounds.specs.Walks.{AreAtMost}
 use Rattle.error_certifier.specs.Halving.{IsWidest}
