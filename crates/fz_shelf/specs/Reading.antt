@@ -1,9 +1,11 @@
 -- What a read and a write do to a shelf's bytes and counts.
 -- Beside the promise.
 use Rattle.std.specs.Prelude.{◌≡◌, ◌≤◌, ℕ, List, length, Result, Ok, Err}
-use Rattle.fz_shelf.specs.Faults.{Rose, faults_after, one_fault_more}
+use Rattle.fz_shelf.specs.Faults.{Rose, one_fault_more}
 use Rattle.fz_shelf.specs.{Files.File, Files.Holds, Files.IsLong, declared.errors.ReadError.ReadError}
 use Rattle.fz_shelf.specs.declared.errors.ReadError.TheVariants as error
+use Rattle.fz_shelf.specs.declared.errors.WriteError.{WriteError}
+use Rattle.fz_shelf.specs.declared.errors.WriteError.TheVariants as write
 use Rattle.fz_shelf.specs.Told.{Counts}
 
 -- what an answer to a read says of the file: a whole one is the file, and within the limit; too
@@ -24,10 +26,11 @@ ReadCounts old new (Err error.TooLong) =
 ReadCounts old new (Err error.Memory) = new ≡ old
 
 -- the counts after a write
-abbrev pub WriteCounts : {E : Type 0} → Counts → Counts → Result Unit E → Type 0
+abbrev pub WriteCounts : Counts → Counts → Result Unit WriteError → Type 0
 WriteCounts old new (Ok u) = new ≡ old
-WriteCounts old new (Err e) =
+WriteCounts old new (Err write.Failed) =
     (new ≡ record old { writes = new.writes }) × (old.writes ≤ new.writes) × Rose old.writes new.writes
+WriteCounts old new (Err write.Memory) = new ≡ old
 
 -- the counts after calls of a shelf that counts each fault once
 abbrev pub counts_after_read : Counts → Result Unit ReadError → Counts
@@ -36,5 +39,7 @@ counts_after_read old (Err error.Failed) = record old { reads = one_fault_more o
 counts_after_read old (Err error.TooLong) = record old { longs = one_fault_more old.longs }
 counts_after_read old (Err error.Memory) = old
 
-abbrev pub counts_after_write : {E : Type 0} → Counts → Result Unit E → Counts
-counts_after_write old result = record old { writes = faults_after old.writes result }
+abbrev pub counts_after_write : Counts → Result Unit WriteError → Counts
+counts_after_write old (Ok u) = old
+counts_after_write old (Err write.Failed) = record old { writes = one_fault_more old.writes }
+counts_after_write old (Err write.Memory) = old

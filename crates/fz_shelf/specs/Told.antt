@@ -1,5 +1,5 @@
 -- What a shelf and a sink tell: the bytes that a sink took and the room that is left, or nothing; counts of faults;
--- and the list of reads.
+-- and the list of reads and writes.
 -- Reached by the promise.
 use Rattle.std.specs.Prelude.{◌≡◌, ◌≢◌, ◌<◌, ◌≤◌, ◌-◌, ◌++◌, ℕ, List, [], length, take, Option, Some, None, Result, Ok}
 use Rattle.std.specs.Prelude.{Err}
@@ -56,7 +56,7 @@ pub record Counts : Type 0 where
   pub longs : ℕ
   pub writes : ℕ
 
--- the list of reads, each with the kind of its answer
+-- the list of reads and writes, each with the kind of its answer
 abbrev pub Log : Type 0
 Log = List (List ℕ × Answer)
 

@@ -1,10 +1,10 @@
-//! A shelf of real files, which tells nothing of them.
+//! A shelf of real files, of whose contents its model says nothing.
 ghost use Rattle.std.specs.Prelude.{◌≡◌, ◌≤◌, ◌<◌, [], length, IfSome, IsErrOf, OnOk, vec_len, vec_capacity};
 ghost use Rattle.std.specs.Prelude.{string_bytes};
 ghost use Rattle.fz_shelf.specs.{Files.untold, Log.asked_of, Log.asked_after};
 
 use crate::log::{entry_for, record};
-use crate::{Answer, Asked, Failed, MOST_BYTES, ReadError, Shelf};
+use crate::{Answer, Asked, MOST_BYTES, ReadError, Shelf, WriteError};
 use std::alloc::Global;
 use std::fs::File;
 use std::io::{ErrorKind, Read};
@@ -22,7 +22,7 @@ pub struct FileShelf<R: Files + Drop> {
 }
 
 impl<R: Files + Drop> FileShelf<R> {
-    /// The shelf of the files that the runtime gives, with no read and no fault yet.
+    /// A shelf over the runtime's files, with no call and no fault yet.
     pub fn new(alloc: Global, rt: R) -> FileShelf<R>
         ensures asked { ⟦<FileShelf<R> as Shelf>⟧.asked result ≡ [] }
         ensures counts { ⟦<FileShelf<R> as Shelf>⟧.counts result ≡ record { reads = 0; longs = 0; writes = 0 } }
@@ -38,7 +38,7 @@ impl<R: Files + Drop> FileShelf<R> {
     }
 }
 
-/// All that a reader gives, as far as one byte more than a file may have, in pieces of any size.
+/// All that a reader gives, in pieces of any size, up to one byte more than a file may have.
 fn read_whole<R: Read + Drop>(reader: R, into: &mut Vec<u8>) -> Result<(), ReadError>
     requires { into.old.items ≡ [] }
     ensures small { OnOk result (length into.new.items ≤ 1048576) }
@@ -65,7 +65,7 @@ fn read_file<R: Files>(rt: &R, name: &str, into: &mut Vec<u8>) -> Result<(), Rea
     }
 }
 
-/// Reads the file once, and adds that to the list of reads.
+/// Reads the file once, and adds an entry to the log.
 fn read_once<R: Files>(
     alloc: Global,
     rt: &R,
@@ -122,11 +122,17 @@ impl<R: Files + Drop> Shelf for FileShelf<R> {
         }
     }
 
-    fn write(&mut self, name: &str, bytes: &[u8]) -> Result<(), Failed> {
+    fn write(&mut self, name: &str, bytes: &[u8]) -> Result<(), WriteError> {
+        let entry = match entry_for(self.alloc, &mut self.asked, name) {
+            Ok(entry) => entry,
+            Err(_) => return Err(WriteError::Memory),
+        };
         if std::fs::write(&self.rt, name, bytes).is_err() {
+            record(&mut self.asked, entry, Answer::Unwritten);
             self.failed_writes = self.failed_writes.saturating_add(1);
-            return Err(Failed);
+            return Err(WriteError::Failed);
         }
+        record(&mut self.asked, entry, Answer::Written);
         Ok(())
     }
 }

@@ -1,14 +1,15 @@
 //! Where a program's bytes come from and where they go: a [`Shelf`] of files by name, and
 //! [`Sink`]s that take bytes, such as standard output, and [`Line`]s.
 //!
-//! Both traits say, by what a value tells of itself, what every call leaves: the files with
-//! their bytes and rooms, the list of the names that were read, the bytes taken so far, and
-//! counts of the faults, each raised by its own fault alone. [`MemShelf`] and [`MemSink`] tell
-//! everything and fail where they are told to; [`FileShelf`] and [`StdSink`] are the thin edge
-//! to the operating system, which tell nothing of contents.
+//! The contracts of both traits are about a model of the value: the files with their bytes and
+//! room, the log of reads and writes, the bytes taken so far, and a count for each kind of
+//! fault, which only that fault raises. The models of [`MemShelf`] and [`MemSink`] are complete,
+//! and they fail where a test lists it; [`FileShelf`] and [`StdSink`] are the thin edge to the
+//! operating system, and their models leave the contents open.
 //!
-//! The contract, in short: a read answers the whole file and no file above [`MOST_BYTES`], a
-//! put takes a nonempty prefix of what it is given, and no fault comes unless its count rose.
+//! The contract, in short: a read gives the whole file, and never one above [`MOST_BYTES`]; a
+//! put takes a nonempty prefix of what it is given; and no call fails unless the count of that
+//! fault has risen, or memory ran out.
 #![tactic(auto)]
 
 mod errors;
@@ -24,7 +25,7 @@ mod std_sink;
 mod stored;
 mod whole;
 
-pub use errors::{Failed, ReadError};
+pub use errors::{Failed, ReadError, WriteError};
 pub use file_shelf::FileShelf;
 pub use line::Line;
 pub use log::{Answer, Asked};

@@ -1,11 +1,11 @@
-//! Lines, each with its end.
+//! Lines, each with its line feed.
 ghost use Rattle.std.specs.Prelude.{◌≡◌, IfOk, string_bytes, true};
 ghost use Rattle.fz_shelf.specs.{Lines.IsLine, Lines.has_no_end, Parts.ended};
 
 use std::alloc::AllocError;
 use std::marker::Model;
 
-/// A line, which a contract sees as the list of its bytes. Its end is the last of them, and the only end in it.
+/// A line, which a contract sees as the list of its bytes. The last byte is the only line feed in it.
 #[derive(Drop)]
 pub struct Line {
     text: String,
@@ -23,7 +23,7 @@ impl Model for Line {
 }
 
 impl Line {
-    /// The line of a text, which gets its end here.
+    /// The line of a text, to which this adds the line feed.
     pub fn of(mut text: String) -> Result<Line, AllocError>
         requires { has_no_end (string_bytes text) ≡ true }
         ensures { IfOk result (λ line. line ≡ ended (string_bytes text)) }

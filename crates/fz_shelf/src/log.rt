@@ -1,28 +1,32 @@
-//! The list of the reads that a shelf was asked for.
+//! The log of a shelf's reads and writes.
 ghost use Rattle.std.specs.Prelude.{◌≡◌, ◌<◌, ◌++◌, ◌∷◌, [], OnOk, IfOk, vec_len, vec_capacity, string_bytes};
 ghost use Rattle.fz_shelf.specs.Log.{asked_of};
 
 use std::alloc::{AllocError, Global};
 
-/// What a read answered.
+/// How a read or a write ended.
 #[derive(Clone, Copy, Debug, PartialEq, Eq)]
 pub enum Answer {
-    /// The whole file.
+    /// The whole file was read.
     Whole,
-    /// The read failed, as it does for a file that is not there.
+    /// The read failed, for instance because there is no such file.
     Missed,
-    /// The file is too long.
+    /// The file to read is too long.
     Long,
+    /// The bytes were written.
+    Written,
+    /// The write failed.
+    Unwritten,
 }
 
-/// One read: the name that was asked for, and the kind of the answer.
+/// One read or write: the name of the file, and how the call ended.
 #[derive(Drop)]
 pub struct Asked {
     pub name: String,
     pub answer: Answer,
 }
 
-/// Makes room for the entry of a read, before anything is read.
+/// Reserves the log entry of a call, before anything is read or written.
 pub(crate) fn entry_for(
     alloc: Global,
     asked: &mut Vec<Asked>,
@@ -36,7 +40,7 @@ pub(crate) fn entry_for(
     String::from_str(alloc, name)
 }
 
-/// Adds the entry of a read at the end.
+/// Appends the log entry of a call.
 pub(crate) fn record(asked: &mut Vec<Asked>, name: String, answer: Answer)
     requires { vec_len asked.old < vec_capacity asked.old }
     ensures { asked_of asked.new.items ≡ asked_of asked.old.items ++ (string_bytes name, answer) ∷ [] }

@@ -1,15 +1,15 @@
 //! A shelf in memory.
-ghost use Rattle.std.specs.Prelude.{◌≡◌, ◌≢◌, ◌⊎◌, ◌↔◌, ◌≤◌, ◌<◌, [], ℕ, List, length, IfOk, IsErr, IsErrOf, IsOk};
+ghost use Rattle.std.specs.Prelude.{◌≡◌, ◌≢◌, ◌⊎◌, ◌↔◌, ◌≤◌, ◌<◌, [], ℕ, List, length, IfOk, IsErrOf};
 ghost use Rattle.std.specs.Prelude.{IsTrue, MatchOption, OnOk, false, position};
 ghost use Rattle.std.specs.List.{All};
-ghost use Rattle.fz_shelf.specs.{Calls.IsListed, Calls.one_more, Log.asked_after, Log.asked_of};
+ghost use Rattle.fz_shelf.specs.{Calls.IsListed, Calls.one_more, Log.asked_after, Log.asked_of, Log.asked_to_write};
 ghost use Rattle.fz_shelf.specs.Files.{Fits, IsThere, Written, absent};
 ghost use Rattle.fz_shelf.specs.Reading.{ReadCounts, ReadTells, WriteCounts, counts_after_read, counts_after_write};
 ghost use Rattle.fz_shelf.specs.MemFiles.{file_in, is_named, IsPlace};
 
 use crate::log::{entry_for, record};
 use crate::stored::Stored;
-use crate::{Answer, Asked, Failed, MOST_BYTES, ReadError, Shelf};
+use crate::{Answer, Asked, MOST_BYTES, ReadError, Shelf, WriteError};
 use fz_list::{List, Memory, Text};
 use std::alloc::Global;
 
@@ -18,13 +18,12 @@ use std::alloc::Global;
 pub struct MemFile {
     pub name: Text,
     pub bytes: List<u8>,
-    /// The greatest number of bytes that a write may put there. The bytes that the file begins
-    /// with may be more.
+    /// The greatest number of bytes that can be written to it. Its first contents may be longer.
     pub room: u64,
 }
 
-/// A shelf in memory. The first file of a name is the one that counts. Reads and writes are
-/// numbered from 1, each kind by itself, and those whose number is listed fail.
+/// A shelf in memory. Of several files with one name only the first is used. Reads and writes
+/// are numbered separately, each from 1, and those whose numbers are listed fail.
 #[derive(Drop)]
 pub struct MemShelf {
     alloc: Global,
@@ -39,7 +38,7 @@ pub struct MemShelf {
     failed_writes: u64,
 }
 
-/// Whether the call after so many is to fail.
+/// Whether the call after the first `made` ones is to fail.
 pub(crate) fn is_listed(failing: &[u32], made: u32) -> bool
     ensures listed { IsTrue result ↔ IsListed failing.now made }
     ensures past { All (λ n. n ≤ made) failing.now → result ≡ false }
@@ -59,7 +58,7 @@ fn place_of(files: &[Stored], name: &str) -> Option<usize>
     first_named(files, name)
 }
 
-/// Reserves the room of each file.
+/// Reserves the memory for the room of each file.
 fn store(alloc: Global, files: List<MemFile>) -> Result<Vec<Stored>, Memory>
     ensures { IfOk result (λ stored. stored.items ≡ files) }
 {
@@ -80,7 +79,7 @@ fn store(alloc: Global, files: List<MemFile>) -> Result<Vec<Stored>, Memory>
 impl MemShelf {
     ghost use Rattle.fz_shelf.specs.Fakes.{failing_reads_of, failing_writes_of, reads_of, writes_of};
 
-    /// A shelf with these files, whose reads and writes with these numbers fail.
+    /// A shelf with these files. The reads and writes with these numbers fail.
     pub fn new(
         alloc: Global,
         files: List<MemFile>,
@@ -115,7 +114,7 @@ impl MemShelf {
         })
     }
 
-    /// The reads so far, in order.
+    /// The reads and writes so far, in order.
     pub fn asked(&self) -> &[Asked]
         ensures { asked_of result.now ≡ ⟦<MemShelf as Shelf>⟧.asked self.now }
     {
@@ -134,7 +133,7 @@ impl Shelf for MemShelf {
 
     ghost reliable = { λ s. All (λ n. n ≤ s.reads) s.failing_reads × All (λ n. n ≤ s.writes) s.failing_writes };
 
-    /// A read that is listed fails, and no other of a file that is there.
+    /// Gives `Failed` only if the read is listed or there is no such file.
     fn read(&mut self, name: &str, into: &mut Vec<u8>) -> Result<(), ReadError>
         requires { into.old.items ≡ [] }
         ensures files { ⟦<MemShelf as Shelf>⟧.files self.new ≡ ⟦<MemShelf as Shelf>⟧.files self.old }
@@ -190,28 +189,38 @@ impl Shelf for MemShelf {
         }
     }
 
-    /// A write that is listed fails, and of the others those to a file that is not there and those
-    /// of more bytes than its room.
-    fn write(&mut self, name: &str, bytes: &[u8]) -> Result<(), Failed>
+    /// Fails if the write is listed, if there is no such file, or if the bytes are more than its
+    /// room.
+    fn write(&mut self, name: &str, bytes: &[u8]) -> Result<(), WriteError>
         ensures written { OnOk result (Written (⟦<MemShelf as Shelf>⟧.files self.old name.now) bytes.now
             (⟦<MemShelf as Shelf>⟧.files self.new name.now)) }
         ensures others { (other : List ℕ) → other ≢ name.now
             → ⟦<MemShelf as Shelf>⟧.files self.new other ≡ ⟦<MemShelf as Shelf>⟧.files self.old other }
+        ensures kept { IsErrOf result WriteError.Memory
+            → ⟦<MemShelf as Shelf>⟧.files self.new ≡ ⟦<MemShelf as Shelf>⟧.files self.old }
         ensures counts { WriteCounts (⟦<MemShelf as Shelf>⟧.counts self.old)
             (⟦<MemShelf as Shelf>⟧.counts self.new) result }
-        ensures asked { ⟦<MemShelf as Shelf>⟧.asked self.new ≡ ⟦<MemShelf as Shelf>⟧.asked self.old }
+        ensures asked { ⟦<MemShelf as Shelf>⟧.asked self.new
+            ≡ asked_to_write (⟦<MemShelf as Shelf>⟧.asked self.old) name.now result }
         ensures reliable { ⟦<MemShelf as Shelf>⟧.reliable self.old → ⟦<MemShelf as Shelf>⟧.reliable self.new }
         ensures steady { ⟦<MemShelf as Shelf>⟧.reliable self.old
-            → Fits (⟦<MemShelf as Shelf>⟧.files self.old name.now) (length bytes.now) → IsOk result }
+            → Fits (⟦<MemShelf as Shelf>⟧.files self.old name.now) (length bytes.now)
+            → IsErrOf result WriteError.Failed → ⊥ }
 
         ensures counted { ⟦<MemShelf as Shelf>⟧.counts self.new
             ≡ counts_after_write (⟦<MemShelf as Shelf>⟧.counts self.old) result }
-        ensures listed { IsListed (failing_writes_of self.old) (writes_of self.old) → IsErr result }
+        ensures listed { IsListed (failing_writes_of self.old) (writes_of self.old)
+            → IsErrOf result WriteError.Failed ⊎ IsErrOf result WriteError.Memory }
         ensures unlisted { (IsListed (failing_writes_of self.old) (writes_of self.old) → ⊥)
-            → Fits (⟦<MemShelf as Shelf>⟧.files self.old name.now) (length bytes.now) → IsOk result }
-        ensures numbered { writes_of self.new ≡ one_more (writes_of self.old) }
+            → Fits (⟦<MemShelf as Shelf>⟧.files self.old name.now) (length bytes.now)
+            → IsErrOf result WriteError.Failed → ⊥ }
+        ensures numbered { (IsErrOf result WriteError.Memory → ⊥) → writes_of self.new ≡ one_more (writes_of self.old) }
         ensures orders { AreKept self.old self.new × (reads_of self.new ≡ reads_of self.old) }
     {
+        let entry = match entry_for(self.alloc, &mut self.asked, name) {
+            Ok(entry) => entry,
+            Err(_) => return Err(WriteError::Memory),
+        };
         let is_listed = is_listed(self.failing_writes.as_slice(), self.writes);
         self.writes = self.writes.saturating_add(1);
         let place = place_of(&self.files, name);
@@ -219,11 +228,13 @@ impl Shelf for MemShelf {
             Some(i) if !is_listed && bytes.len() as u64 <= self.files[i].room() => {
                 let file = &mut self.files[i];
                 file.replace(bytes);
+                record(&mut self.asked, entry, Answer::Written);
                 Ok(())
             }
             _ => {
                 self.failed_writes = self.failed_writes.saturating_add(1);
-                Err(Failed)
+                record(&mut self.asked, entry, Answer::Unwritten);
+                Err(WriteError::Failed)
             }
         }
     }

@@ -10,9 +10,9 @@ use crate::{Failed, Sink};
 use fz_list::{List, Memory};
 use std::alloc::Global;
 
-/// A sink in memory with so much room. Puts are numbered from 1, and those whose number is
-/// listed fail, as does a put of a piece that is longer than the room left. A put takes at most
-/// so many bytes of its piece.
+/// A sink in memory with limited room. Puts are numbered from 1. A put fails if its number is
+/// listed, or if its piece is longer than the room left. The number of bytes that one put takes
+/// is limited too.
 #[derive(Drop)]
 pub struct MemSink {
     bytes: Vec<u8>,
@@ -27,7 +27,7 @@ pub struct MemSink {
 impl MemSink {
     ghost use Rattle.fz_shelf.specs.Fakes.{failing_puts_of, most_of, puts_of};
 
-    /// A sink that has taken nothing. One put takes at most `most` bytes, and 1 where `most`
+    /// A sink that has taken nothing yet. One put takes at most `most` bytes, or 1 if `most`
     /// is 0.
     pub fn new(
         alloc: Global,
@@ -73,7 +73,7 @@ impl Sink for MemSink {
 
     ghost reliable = { λ s. All (λ n. n ≤ s.puts) s.failing };
 
-    /// A put that is listed fails, and of the others those of a piece longer than the room left.
+    /// Fails if the put is listed, or if the piece is longer than the room left.
     fn put(&mut self, bytes: &[u8]) -> Result<usize, Failed>
         ensures part { IfOk result (λ n. IsPart n (length bytes.now)) }
         ensures fits { IfOk result (IsWithinRoom (⟦<MemSink as Sink>⟧.told self.old)) }

@@ -1,4 +1,4 @@
-//! Texts with numbers in them, put without taking memory.
+//! Texts with numbers in them, put without allocating memory.
 ghost use Rattle.std.specs.Prelude.{◌≡◌, ◌/◌, ◌%◌, [], ◌∷◌, length, OnOk, IsOk};
 ghost use Rattle.hex.specs.Hex.{encode_upper};
 ghost use Rattle.fz_shelf.specs.{Faults.HasCause, Told.gained, Told.GainedPart, Told.HasRoom};
@@ -12,7 +12,7 @@ use itoa::Buffer;
 /// A part of a text.
 #[derive(Clone, Copy)]
 pub enum Part<'a> {
-    /// The bytes as they stand.
+    /// The bytes as they are.
     Text(&'a [u8]),
     /// The number in decimal.
     Number(u64),
@@ -20,7 +20,7 @@ pub enum Part<'a> {
     Address(u16),
     /// The byte as two hexadecimal digits in upper case.
     Byte(u8),
-    /// The bytes in decimal, each behind a blank.
+    /// The bytes in decimal, each after a blank.
     Numbers(&'a [u8]),
 }
 

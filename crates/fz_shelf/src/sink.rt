@@ -5,19 +5,19 @@ ghost use Rattle.fz_shelf.specs.Told.{Taken, after_put, HasRoom, IsPart, IsWithi
 
 use crate::Failed;
 
-/// A place that takes bytes, one piece after the other.
+/// An output that takes bytes, one piece after the other.
 pub trait Sink {
-    /// The bytes taken so far and the room left, where the sink tells them.
+    /// The bytes taken so far and the room left, if they are known.
     ghost told: { Self → Option Taken };
 
-    /// How many puts failed. It never falls, and a put raises it only where it fails.
+    /// How many puts failed. It never falls, and only a put that fails raises it.
     ghost faults: { Self → ℕ };
 
-    /// While it holds, a put within the room left does not fail. Every call keeps it.
+    /// While it holds, a put within the room left does not fail. Every call preserves it.
     ghost reliable: { Self → Type 0 };
 
-    /// Takes a nonempty prefix of a piece that is not empty, no longer than the room left, and
-    /// answers its length. A put of an empty piece that is `Ok` answers 0. Takes no memory.
+    /// Takes a prefix of the piece, no longer than the room left, and returns its length. It is
+    /// 0 only for an empty piece. Allocates no memory.
     fn put(&mut self, bytes: &[u8]) -> Result<usize, Failed>
         ensures part { IfOk result (λ n. IsPart n (length bytes.now)) }
         ensures fits { IfOk result (IsWithinRoom (told self.old)) }

@@ -6,7 +6,7 @@ ghost use Rattle.fz_shelf.specs.{Faults.HasCause, Told.after_put, Told.HasRoom, 
 use crate::{Failed, Sink};
 use std::io::Write;
 
-/// A writer of the system, which tells nothing of what it took and is never reliable.
+/// A writer of the system. Its model does not say what it took, and it is never reliable.
 #[derive(Drop)]
 pub struct StdSink<W: Write + Drop> {
     writer: W,
@@ -22,7 +22,7 @@ impl<W: Write + Drop> StdSink<W> {
     }
 }
 
-/// How many bytes a writer takes of a piece in one write, at least one where there is one.
+/// The number of bytes that a writer takes of a piece in one write: at least one, unless the piece is empty.
 fn write_once<W: Write>(writer: &mut W, bytes: &[u8]) -> Result<usize, Failed>
     ensures part { IfOk result (λ n. IsPart n (length bytes.now)) }
     ensures given { WriteAppends (W.contents writer.old) (W.contents writer.new) result bytes.now }
@@ -43,7 +43,7 @@ impl<W: Write + Drop> Sink for StdSink<W> {
 
     ghost use Rattle.fz_shelf.specs.Writers.{writer_of};
 
-    /// One write. Where the writer's bytes are known, it has those that the answer tells, and no other.
+    /// One write. Where the writer's contents are known, they grow by as many bytes as are returned, and no others.
     fn put(&mut self, bytes: &[u8]) -> Result<usize, Failed>
         ensures part { IfOk result (λ n. IsPart n (length bytes.now)) }
         ensures fits { IfOk result (IsWithinRoom (⟦<StdSink<W> as Sink>⟧.told self.old)) }

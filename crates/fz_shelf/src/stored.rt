@@ -6,7 +6,7 @@ use fz_list::{List, Text};
 use std::alloc::AllocError;
 use std::marker::Model;
 
-/// A file whose bytes take no memory when they are written, which a contract sees as a
+/// A file that can be written without allocating memory, which a contract sees as a
 /// [`MemFile`].
 #[derive(Drop)]
 pub(crate) struct Stored {
@@ -27,7 +27,7 @@ impl Model for Stored {
 }
 
 impl Stored {
-    /// Reserves the room, so that a write takes no memory.
+    /// Reserves the room, so that writing the bytes allocates no memory.
     pub(crate) fn new(file: MemFile) -> Result<Stored, AllocError>
         ensures { IfOk result (λ s. s ≡ file) }
     {
@@ -56,7 +56,7 @@ impl Stored {
         self.room
     }
 
-    /// Puts these bytes in the place of the file's.
+    /// Replaces the file's bytes with these.
     pub(crate) fn replace(&mut self, bytes: &[u8])
         requires { length bytes.now ≤ self.old.room }
         ensures { self.new ≡ record self.old { bytes = bytes.now } }

@@ -1,4 +1,4 @@
-//! Whole texts into a sink that takes prefixes.
+//! Whole texts put into a sink that may take only a prefix at a time.
 ghost use Rattle.std.specs.Prelude.{◌≡◌, length, OnOk, OnErr, IsOk};
 ghost use Rattle.std.specs.List.{concat};
 ghost use Rattle.fz_shelf.specs.Faults.{HasCause};
@@ -7,7 +7,7 @@ ghost use Rattle.fz_shelf.specs.Lines.{GainedLines};
 
 use crate::{Failed, Line, Sink};
 
-/// Puts all the bytes. At `Err` the sink has taken a prefix of them.
+/// Puts all the bytes. On `Err` the sink has taken a prefix of them.
 pub fn put_all<S: Sink>(sink: &mut S, bytes: &[u8]) -> Result<(), Failed>
     ensures whole { OnOk result (S.told sink.new ≡ gained (S.told sink.old) bytes.now) }
     ensures part { GainedPart (S.told sink.old) (S.told sink.new) bytes.now }
@@ -24,7 +24,7 @@ pub fn put_all<S: Sink>(sink: &mut S, bytes: &[u8]) -> Result<(), Failed>
     Ok(())
 }
 
-/// Puts each line by itself.
+/// Puts the lines one by one.
 pub fn put_lines<S: Sink>(sink: &mut S, lines: &[Line]) -> Result<(), Failed>
     ensures whole { OnOk result (S.told sink.new ≡ gained (S.told sink.old) (concat lines.now)) }
     ensures part { OnErr result (GainedLines (S.told sink.old) (S.told sink.new) lines.now) }
