@@ -1,3 +1,4 @@
+pub mod JudgedLemmas
 pub mod RecordLemmas
 pub mod SettledLemmas
 pub mod WrittenLemmas

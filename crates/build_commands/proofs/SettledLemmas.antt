@@ -1,7 +1,7 @@
 -- What each command makes is settled.
 use Rattle.std.proofs.Common.{◌≡◌, ◌∙◌, ℕ, List, [], ◌∷◌, ap, refl, subst, sym}
 use Rattle.std.specs.Prelude.{Err, Ok, Some, codes, length}
-use Rattle.box_tree.specs.{Texts.lines_of, Trees.leaf_count, declared.cert.Cert.Cert}
+use Rattle.box_tree.specs.{Texts.lines_of, Trees.leaf_count}
 use Rattle.byte_scaling.specs.declared.width.Width.TheVariants.{Byte}
 use Rattle.cpu12_asm.specs.{Bytes.byte_at, Bytes.start_of, Giving.Given, Laws.AscendingBytesAreOne}
 use Rattle.cpu12_asm.specs.{Laws.SourcesGiveBytes, Sources.assembled, declared.image.Image.Image}
@@ -10,11 +10,13 @@ use Rattle.cpu12_emul.specs.{Run.RunsEndOnce, Step.reset_with}
 use Rattle.cpu12_emul.specs.declared.ends.RunEnd.{RunEnd}
 use Rattle.cpu12_emul.specs.declared.ends.RunEnd.TheVariants as end
 use Rattle.cpu12_parts.specs.State.{State}
-use Rattle.error_certifier.specs.Laws.{HalvingsAreWithinTheirTarget}
+use Rattle.error_certifier.specs.{Laws.HalvingsAreWithinTheirTargets, Targets.targets_of}
 use Rattle.eval_code.specs.Bounds.{instruction_bound, steps_by}
-use Rattle.srecord.specs.{Images.ImageText, Laws.ImageTextsAreOne, Laws.ImagesAreOne, Laws.ImagesHaveTexts}
+use Rattle.srecord.specs.{Images.ImageText, Laws.FaultsAreOne, Laws.ImageTextsAreOne, Laws.ImagesAreOne}
+use Rattle.srecord.specs.Laws.{ImagesHaveTexts}
 use Rattle.two_level_code.specs.{Images.fast_most, Standing.TwoStandBeside}
-use Rattle.fz_status.specs.{Refusals.Refuses, declared.status.Status.Status}
+use Rattle.fz_status.specs.{declared.status.Status.Status}
+use Rattle.fz_status.specs.declared.status.ImageFault.TheVariants as image
 use Rattle.fz_status.specs.declared.status.Status.TheVariants as status
 use Rattle.build_commands.specs.{Asm.AsmAccepts, Asm.AsmIsSettled, Asm.AsmMakes, Asm.source_refusals}
 use Rattle.build_commands.specs.Certify.{CertifyGives, CertifyIsSettled, certify_lines, certify_reading}
@@ -82,8 +84,18 @@ asm_settled texts written sources ascending source = record {
   no_fault = λ output s a w. apart output s a w;
   some = asm_made texts sources source;
   contents = λ s w. (w.0, tells s w.1);
+  one_fault = once;
 }
   where
+    once : (s t : Status) → AsmMakes source (Err s) → AsmMakes source (Err t) → s ≡ t
+    once (status.Asm f) (status.Asm g) v w =
+        let a : assembled source ≡ Err f = v.1 in
+        let b : assembled source ≡ Err g = w.1 in
+        let same : f ≡ g = cc in
+        ap status.Asm same
+    once (status.Asm f) t v w = absurd w.1
+    once s t v w = absurd v.1
+
     apart : (output : SeenOutput) (s : Status) → AsmMakes source (Ok output) → AsmMakes source (Err s) → ⊥
     apart output (status.Asm f) a w =
         let yes = a.assembles.assembled in
@@ -97,10 +109,10 @@ asm_settled texts written sources ascending source = record {
 
 -- ---- certify
 
-certify_made : HalvingsAreWithinTheirTarget → (certify : Certify) (text : List ℕ)
+certify_made : HalvingsAreWithinTheirTargets → (certify : Certify) (text : List ℕ)
     → GivesSome (certify_reading certify text) → (output : SeenOutput) × CertifyGives certify text output
 certify_made halvings certify text ((block, cert), (gives, halving)) =
-    let good = halvings certify.kind block _ certify.target cert gives.spelled.valid halving in (
+    let good = halvings certify.kind block _ (targets_of block certify.targets) cert gives.spelled.valid halving in (
       _,
       record {
         block = block;
@@ -123,10 +135,10 @@ certify_one certify text output other a b cert =
     ∙ (λ i. record { lines = certify_lines (cert i).claims (leaf_count (cert i).nodes); file = Some (4, out i) })
     ∙ sym b.output_is
 
-pub certify_settled : BlocksAreExact → HalvingsAreExact → HalvingsAreWithinTheirTarget → CertifyIsSettled
+pub certify_settled : BlocksAreExact → HalvingsAreExact → HalvingsAreWithinTheirTargets → CertifyIsSettled
 certify_settled blocks halvings within certify text =
     settled (certify_reading certify text) (CertifyGives certify text) (GivesSome (certify_reading certify text))
-    (blocks text, λ block gives. halvings certify.kind certify.width certify.target block gives.spelled.valid)
+    (blocks text, λ block gives. halvings certify.kind certify.width certify.targets block gives.spelled.valid)
     (λ output a. ((a.block, a.cert), (a.gives, a.halving)))
     (λ output other a b same. certify_one certify text output other a b (λ i. (same i).1))
     (certify_made within certify text)
@@ -205,14 +217,42 @@ module _ (images : ImagesAreOne) (loads : ImagesLoadAlike) (ends : RunsEndOnce) 
       let steps : a.steps ≡ b.steps = cc in
       a.output_is ∙ (λ i. only_lines (exec_line (one.1 i).regs (steps i) ∷ [])) ∙ sym b.output_is
 
-pub exec_settled : GivenRecordsHaveNoFault → ImagesAreOne → ImagesLoadAlike → RunsEndOnce → ExecIsSettled
-exec_settled records images loads ends exec text = record {
+-- the status of a run that ends so
+abbrev of_end : RunEnd → Status
+of_end (end.Arrived steps) = status.Ok
+of_end (end.Trap pc byte) = status.Trap pc byte
+of_end (end.Budget steps) = status.Budget steps
+
+pub exec_settled : FaultsAreOne → GivenRecordsHaveNoFault → ImagesAreOne → ImagesLoadAlike → RunsEndOnce
+    → ExecIsSettled
+exec_settled faults records images loads ends exec text = record {
   one = ends_once images loads ends exec text;
   no_fault = λ output s a w. apart output s a w;
   some = λ a. (_, record { steps = a.0; last = a.1; arrives = a.2; output_is = refl });
   contents = λ s w. (w.0, tells s w.1);
+  one_fault = once;
 }
   where
+    alike : (e f : RunEnd) → ((t : State) × Ends exec text e t) → ((u : State) × Ends exec text f u) → e ≡ f
+    alike e f (t, a) (u, b) = (ends_alike images loads ends exec text e f t u a b).0
+
+    once : (s t : Status) → ExecMakes exec text (Err s) → ExecMakes exec text (Err t) → s ≡ t
+    once (status.Image (image.Records f)) (status.Image (image.Records g)) v w =
+        ap (λ x. status.Image (image.Records x)) (faults text f g v.1 w.1)
+    once (status.Image f) (status.Trap pc byte) v w = absurd (records text w.1.1.image f w.1.1.spelled v.1)
+    once (status.Image f) (status.Budget n) v w = absurd (records text w.1.1.image f w.1.1.spelled v.1)
+    once (status.Trap pc byte) (status.Image f) v w = absurd (records text v.1.1.image f v.1.1.spelled w.1)
+    once (status.Budget n) (status.Image f) v w = absurd (records text v.1.1.image f v.1.1.spelled w.1)
+    once (status.Trap pc byte) (status.Trap at got) v w =
+        ap of_end (alike (end.Trap pc byte) (end.Trap at got) v.1 w.1)
+    once (status.Trap pc byte) (status.Budget n) v w = ap of_end (alike (end.Trap pc byte) (end.Budget n) v.1 w.1)
+    once (status.Budget n) (status.Trap pc byte) v w = ap of_end (alike (end.Budget n) (end.Trap pc byte) v.1 w.1)
+    once (status.Budget m) (status.Budget n) v w = ap of_end (alike (end.Budget m) (end.Budget n) v.1 w.1)
+    once (status.Image (image.Records f)) t v w = absurd w.1
+    once (status.Trap pc byte) t v w = absurd w.1
+    once (status.Budget n) t v w = absurd w.1
+    once s t v w = absurd v.1
+
     apart : (output : SeenOutput) (s : Status) → ExecMakes exec text (Ok output) → ExecMakes exec text (Err s) → ⊥
     apart output (status.Image f) a w = records text a.arrives.image f a.arrives.spelled w.1
     apart output (status.Trap pc byte) a (carries, (state, other)) =

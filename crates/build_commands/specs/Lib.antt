@@ -6,3 +6,4 @@ pub mod Exec
 pub mod Hcheck
 pub mod Lcompile
 pub mod Written
+pub mod Judged

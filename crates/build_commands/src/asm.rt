@@ -14,13 +14,13 @@ use fz_shelf::Line;
 use fz_status::Status;
 use std::alloc::{AllocError, Global};
 
-/// The word SRC.
+/// The index of the word SRC.
 pub static INPUTS: [u32; 1] = [2];
 
-/// The place of the word OUT.
+/// The index of the word OUT.
 const OUT: u32 = 3;
 
-/// Assembles the source, and writes down the records of its image and how many bytes that has.
+/// Assembles the source. The output has the records of its image, and the number of the image's bytes.
 pub fn work(alloc: Global, source: &Content) -> Result<Output, Status>
     ensures { IsResultOf (AsmMakes source.now) result }
 {
@@ -29,7 +29,7 @@ pub fn work(alloc: Global, source: &Content) -> Result<Output, Status>
     written_image(alloc, &image, OUT, lines)
 }
 
-/// How many bytes the image has.
+/// The line of the number of the image's bytes.
 fn lines(alloc: Global, image: &Image) -> Result<Vec<Line>, AllocError>
     ensures { IfOk result (λ lines. lines.items ≡ line (codes "bytes ") (length image.now.bytes) ∷ []) }
 {

@@ -12,29 +12,29 @@ use command_parts::contents::Content;
 use command_parts::firmware::laid_out_block_of;
 use command_parts::lines::{labelled, push_errors};
 use command_parts::output::Output;
-use command_parts::words::{Number, number_in};
+use command_parts::words::{TargetWord, targets_in};
 use fz_shelf::Line;
 use fz_status::{Status, word};
 use std::alloc::{AllocError, Global};
 
 /// `certify FCL TARGET OUT`, `tcertify ..` for tight certificates, and both with `16` for answers of 16 bits.
-#[derive(Clone, Copy)]
+#[derive(Drop)]
 pub struct Certify {
-    /// What the certificate's leaves say.
+    /// The kind of the certificate: plain or tight.
     kind: CertKind,
-    /// How wide the firmware's answers are.
+    /// The width of the firmware's answers.
     width: Width,
-    /// The error that no output is to pass, in millionths of its range.
-    target: Number,
+    /// The greatest error allowed for each output, in millionths of its range.
+    targets: TargetWord,
 }
 
-/// The word FCL.
+/// The index of the word FCL.
 pub static INPUTS: [u32; 1] = [2];
 
-/// The place of the word TARGET.
+/// The index of the word TARGET.
 const TARGET: u32 = 3;
 
-/// The place of the word OUT.
+/// The index of the word OUT.
 const OUT: u32 = 4;
 
 impl Certify {
@@ -42,22 +42,22 @@ impl Certify {
     pub fn of(kind: CertKind, width: Width, words: &[String]) -> Option<Certify>
         ensures { result ≡ certify_in kind width (texts_of words.now) }
     {
-        let target = number_in(word(words, TARGET))?;
+        let targets = targets_in(kind, word(words, TARGET))?;
         Some(Certify {
             kind,
             width,
-            target,
+            targets,
         })
     }
 
-    /// Halves the boxes of the text's block until each has a leaf within the target, and writes down
+    /// Halves the boxes of the text's block until each has a leaf within the targets. The output has
     /// the certificate, the error of each output and the number of leaves.
     pub fn work(self, alloc: Global, fcl: &Content) -> Result<Output, Status>
         ensures { IsResultOf (CertifyMakes self fcl.now) result }
     {
         let (kind, width) = (self.kind, self.width);
         let block = laid_out_block_of(alloc, fcl)?.block;
-        let cert = halved(alloc, kind, width, self.target.get(), &block)?;
+        let cert = halved(alloc, kind, width, self.targets.get(), &block)?;
         let text = write_for(alloc, &cert, kind, width)?;
         let lines = lines(alloc, &cert)?;
         Ok(Output {
@@ -80,7 +80,7 @@ fn count_of_leaves(nodes: &[Node]) -> u64
     count
 }
 
-/// The error of each output, and the number of leaves.
+/// The lines of the error of each output, and of the number of leaves.
 fn lines(alloc: Global, cert: &Cert) -> Result<Vec<Line>, AllocError>
     requires { leaf_count cert.now.nodes ≤ 4096 }
     ensures { IfOk result (λ lines. lines.items ≡

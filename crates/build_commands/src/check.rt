@@ -18,17 +18,17 @@ use std::alloc::{AllocError, Global};
 /// `check FCL CERT`, `tcheck ..` of tight certificates, and both with `16` for answers of 16 bits.
 #[derive(Clone, Copy)]
 pub struct Check {
-    /// What the certificate's leaves say.
+    /// The kind of the certificate: plain or tight.
     pub kind: CertKind,
-    /// How wide the firmware's answers are.
+    /// The width of the firmware's answers.
     pub width: Width,
 }
 
-/// The words FCL and CERT.
+/// The indices of the words FCL and CERT.
 pub static INPUTS: [u32; 2] = [2, 3];
 
 impl Check {
-    /// Checks the certificate against the text's block, and writes down the error of each output and
+    /// Checks the certificate against the text's block. The output has the error of each output and
     /// the bound on instructions.
     pub fn work(self, alloc: Global, fcl: &Content, cert: &Content) -> Result<Output, Status>
         ensures { IsResultOf (CheckMakes self fcl.now cert.now) result }
@@ -40,7 +40,7 @@ impl Check {
     }
 }
 
-/// The error of each output, and the bound on instructions.
+/// The lines of the error of each output, and of the bound on instructions.
 fn lines(alloc: Global, errors: &[u32], instructions: u32) -> Result<Vec<Line>, AllocError>
     ensures { IfOk result (λ lines. lines.items ≡ check_lines errors.now instructions) }
 {

@@ -13,15 +13,15 @@ use std::alloc::Global;
 /// watched tables.
 #[derive(Clone, Copy)]
 pub struct Compile {
-    /// What stands around EVAL.
+    /// The form of the firmware.
     pub form: Form,
 }
 
-/// The word FCL.
+/// The index of the word FCL.
 pub static INPUTS: [u32; 1] = [2];
 
 impl Compile {
-    /// Compiles the text, and writes down the records of the image and its bounds.
+    /// Compiles the text. The output has the records of the image, and its bounds.
     pub fn work(self, alloc: Global, fcl: &Content) -> Result<Output, Status>
         ensures { IsResultOf (CompileMakes self fcl.now) result }
     {

@@ -23,19 +23,19 @@ use std::fmt::Write;
 /// `exec IMAGE STEPS FLAGS`
 #[derive(Clone, Copy)]
 pub struct Exec {
-    /// The most steps that are taken.
+    /// The greatest number of steps to take.
     steps: u32,
-    /// The condition codes that the machine leaves open.
+    /// The byte from which the open flags are taken.
     flags: u8,
 }
 
-/// The word IMAGE.
+/// The index of the word IMAGE.
 pub static INPUTS: [u32; 1] = [2];
 
-/// The place of the word STEPS.
+/// The index of the word STEPS.
 const STEPS: u32 = 3;
 
-/// The place of the word FLAGS.
+/// The index of the word FLAGS.
 const FLAGS: u32 = 4;
 
 impl Exec {
@@ -48,7 +48,7 @@ impl Exec {
         Some(Exec { steps, flags })
     }
 
-    /// Runs the image from reset until it branches to itself, and writes down the registers.
+    /// Runs the image from reset until it branches to itself. The output has the registers.
     pub fn work(self, alloc: Global, records: &Content) -> Result<Output, Status>
         ensures { IsResultOf (ExecMakes self records.now) result }
     {
@@ -65,7 +65,7 @@ impl Exec {
     }
 }
 
-/// The line of registers, and of how many steps led to them.
+/// The line of the registers, and that of the number of steps taken.
 fn line_of(alloc: Global, regs: &Regs, steps: u32) -> Result<Line, AllocError>
     ensures { IfOk result (λ l. l ≡ exec_line regs.now steps) }
 {

@@ -13,10 +13,10 @@ use fz_status::Status;
 use handler_check::Handler;
 use std::alloc::{AllocError, Global};
 
-/// The word HANDLER.
+/// The index of the word HANDLER.
 pub static INPUTS: [u32; 1] = [2];
 
-/// Checks the handler that the records give, and writes down how many instructions its longest path has.
+/// Checks the handler that the records give. The output has the number of instructions on its longest path.
 pub fn work(alloc: Global, records: &Content) -> Result<Output, Status>
     ensures { IsResultOf (HcheckMakes records.now) result }
 {
@@ -25,7 +25,7 @@ pub fn work(alloc: Global, records: &Content) -> Result<Output, Status>
     Ok(Output { lines, file: None })
 }
 
-/// The greatest number of instructions on a path of the handler.
+/// The line of the number of instructions on the handler's longest path.
 fn lines(alloc: Global, handler: Handler) -> Result<Vec<Line>, AllocError>
     ensures { IfOk result (λ lines. lines.items ≡ line (codes "handler instructions ") handler.instrs ∷ []) }
 {

@@ -1,22 +1,25 @@
-//! What the contents of each command make: at most one output, one where they are accepted, and then no fault.
+//! The laws of each command's output: it is unique, contents that have one have no fault, and accepted ones have one.
 ghost use Rattle.build_commands.specs.{Asm.AsmIsSettled, Certify.CertifyIsSettled, Check.CheckIsSettled};
 ghost use Rattle.build_commands.specs.{Compile.CompileIsSettled, Exec.ExecIsSettled, Hcheck.HcheckIsSettled};
-ghost use Rattle.build_commands.specs.Lcompile.{LcompileIsSettled};
+ghost use Rattle.build_commands.specs.Judged.{AsmIsJudged};
+ghost use Rattle.build_commands.specs.Judged.{CertifyIsJudged, CheckIsJudged, CompileIsJudged, ExecIsJudged};
+ghost use Rattle.build_commands.specs.{Judged.HcheckIsJudged, Judged.LcompileIsJudged, Lcompile.LcompileIsSettled};
 
 use alone_code::laws::firmware_is_bytes;
 use command_parts::laws::{
-    blocks_are_exact, certs_are_exact, firmwares_are_exact, given_blocks_have_firmware,
-    given_blocks_have_twos, given_records_have_no_fault, halvings_are_exact, handlers_are_exact,
-    twos_are_exact,
+    blocks_are_exact, blocks_are_judged, certs_are_exact, certs_are_judged, firmwares_are_exact,
+    firmwares_are_judged, given_blocks_have_firmware, given_blocks_have_twos,
+    given_records_have_no_fault, halvings_are_exact, halvings_are_judged, handlers_are_exact,
+    handlers_are_judged, twos_are_exact, twos_are_judged,
 };
-use cpu12_asm::laws::{ascending_bytes_are_one, sources_give_bytes};
+use cpu12_asm::laws::{ascending_bytes_are_one, each_source_is_judged, sources_give_bytes};
 use cpu12_emul::laws::{holds_image, images_load_alike, runs_end_once};
-use error_certifier::laws::halvings_are_within_their_target;
-use srecord::laws::{image_texts_are_one, images_are_one, images_have_texts};
+use error_certifier::laws::halvings_are_within_their_targets;
+use srecord::laws::{faults_are_one, image_texts_are_one, images_are_one, images_have_texts};
 use two_level_code::laws::two_stand_beside;
 use watched_code::laws::watched_is_bytes;
 
-/// A source makes at most one output, and then no fault; and one where it is accepted.
+/// A source has at most one output, and none if it has a fault; if it is accepted it has one.
 pub fn asm_is_settled()
     ensures { AsmIsSettled }
 {
@@ -26,16 +29,16 @@ pub fn asm_is_settled()
     ascending_bytes_are_one()
 }
 
-/// A text makes at most one output, and then no fault; and one where halving its block ends.
+/// A text has at most one output, and none if there is a fault; if halving its block gives a certificate it has one.
 pub fn certify_is_settled()
     ensures { CertifyIsSettled }
 {
     blocks_are_exact();
     halvings_are_exact();
-    halvings_are_within_their_target()
+    halvings_are_within_their_targets()
 }
 
-/// Files make at most one output, and then no fault; and one where they are accepted.
+/// Files have at most one output, and none if one has a fault; if they are accepted they have one.
 pub fn check_is_settled()
     ensures { CheckIsSettled }
 {
@@ -44,7 +47,7 @@ pub fn check_is_settled()
     given_blocks_have_firmware()
 }
 
-/// A text makes at most one output, and then no fault; and one where it is accepted.
+/// A text has at most one output, and none if it has a fault; if it is accepted it has one.
 pub fn compile_is_settled()
     ensures { CompileIsSettled }
 {
@@ -57,24 +60,26 @@ pub fn compile_is_settled()
     watched_is_bytes()
 }
 
-/// Records make at most one output, and then no fault; and one where their run arrives.
+/// Records have at most one output, and none if there is a fault; if their run comes to a branch to itself they have
+/// one.
 pub fn exec_is_settled()
     ensures { ExecIsSettled }
 {
+    faults_are_one();
     given_records_have_no_fault();
     images_are_one();
     images_load_alike();
     runs_end_once()
 }
 
-/// Records make at most one output, and then no fault; and one where they give a handler.
+/// Records have at most one output, and none if there is a fault; if they give a handler they have one.
 pub fn hcheck_is_settled()
     ensures { HcheckIsSettled }
 {
     handlers_are_exact()
 }
 
-/// Texts make at most one output, and then no fault; and one where they are accepted.
+/// Texts have at most one output, and none if one has a fault; if they are accepted they have one.
 pub fn lcompile_is_settled()
     ensures { LcompileIsSettled }
 {
@@ -84,4 +89,61 @@ pub fn lcompile_is_settled()
     image_texts_are_one();
     holds_image();
     two_stand_beside()
+}
+
+/// A text makes an output, or it is refused, or halving its block stops.
+pub fn certify_is_judged()
+    ensures { CertifyIsJudged }
+{
+    blocks_are_judged();
+    halvings_are_judged();
+    certify_is_settled()
+}
+
+/// Files make an output, or they are refused.
+pub fn check_is_judged()
+    ensures { CheckIsJudged }
+{
+    firmwares_are_judged();
+    certs_are_judged();
+    check_is_settled()
+}
+
+/// A text makes an output, or it is refused.
+pub fn compile_is_judged()
+    ensures { CompileIsJudged }
+{
+    firmwares_are_judged();
+    compile_is_settled()
+}
+
+/// Records make an output, or they are refused, or their run ends elsewhere.
+pub fn exec_is_judged()
+    ensures { ExecIsJudged }
+{
+    srecord::laws::each_text_is_judged()
+}
+
+/// Records make an output, or they are refused.
+pub fn hcheck_is_judged()
+    ensures { HcheckIsJudged }
+{
+    handlers_are_judged();
+    hcheck_is_settled()
+}
+
+/// Texts make an output, or they are refused.
+pub fn lcompile_is_judged()
+    ensures { LcompileIsJudged }
+{
+    twos_are_judged();
+    lcompile_is_settled()
+}
+
+/// A source makes an output, or it is refused.
+pub fn asm_is_judged()
+    ensures { AsmIsJudged }
+{
+    each_source_is_judged();
+    asm_is_settled()
 }

@@ -16,14 +16,14 @@ use std::alloc::{AllocError, Global};
 use two_level_code::Two;
 use two_level_code::laws::alone_has_byte_bounds;
 
-/// The words SLOW and FAST.
+/// The indices of the words SLOW and FAST.
 pub static INPUTS: [u32; 2] = [2, 3];
 
-/// The place of the word OUT.
+/// The index of the word OUT.
 const OUT: u32 = 4;
 
-/// Compiles the fast block of one text into the interrupts of the slow one of another, and writes down the
-/// records of the image of both and their bounds.
+/// Compiles the slow block of one text, and the fast block of another to run inside its interrupts. The output
+/// has the records of the image of both, and their bounds.
 pub fn work(alloc: Global, slow: &Content, fast: &Content) -> Result<Output, Status>
     ensures { IsResultOf (LcompileMakes slow.now fast.now) result }
 {
@@ -33,7 +33,7 @@ pub fn work(alloc: Global, slow: &Content, fast: &Content) -> Result<Output, Sta
     written_image(alloc, &both.two.image, OUT, lines)
 }
 
-/// The bounds on instructions of the slow code and of the fast, and how many bytes the image has.
+/// The lines of the bounds on instructions of the slow code and of the fast, and of the number of the image's bytes.
 fn lines(alloc: Global, two: &Two) -> Result<Vec<Line>, AllocError>
     ensures { IfOk result (λ lines. lines.items ≡
         lcompile_lines two.now.slow.instr_bound (fast_most two.now.fast.instr_bound) (length two.now.image.bytes)) }

@@ -1,11 +1,11 @@
-//! The commands that make and check files, and run no block's firmware: `compile`, `asm`, `certify`,
+//! The commands that make or check files and run no block's firmware: `compile`, `asm`, `certify`,
 //! `check` and their variants, `hcheck` and `exec`.
 //!
-//! Each is one module, with the form of its words, the places of its files among them (`INPUTS`), and
-//! `work`, which makes of the files' contents what is to be written and put, or the status of their first fault.
+//! Each is one module, with the form of its words, the indices of those that name its files (`INPUTS`), and
+//! `work`, which makes the command's output from the files' contents, or gives the status of their first fault.
 //!
-//! Each command has a law that contents of which it makes something have no fault, and that of contents which are
-//! accepted it makes something.
+//! Each command has a law that contents with an output have no fault, and that contents that are accepted have
+//! an output.
 #![tactic(auto)]
 
 pub mod asm;

@@ -1,4 +1,4 @@
-//! What commands write of firmware and images: the records for OUT, and lines.
+//! The output of commands that make firmware and images: the records for OUT, and lines.
 ghost use Rattle.std.specs.Prelude.{◌≡◌, length, IfErr, IfOk};
 ghost use Rattle.command_parts.specs.SeenOutputs.{seen_output};
 ghost use Rattle.build_commands.specs.Written.{WritesImage, compile_lines};
@@ -11,10 +11,10 @@ use fz_shelf::Line;
 use fz_status::Status;
 use std::alloc::{AllocError, Global};
 
-/// The place of the word OUT behind one file.
+/// The index of the word OUT after the name of one file.
 const OUT: u32 = 3;
 
-/// The records of an image for the file of this word, and these lines.
+/// The records of an image, for the file that the word at this index names, and these lines.
 pub(crate) fn written_image(
     alloc: Global,
     image: &Image,
@@ -31,7 +31,7 @@ pub(crate) fn written_image(
     })
 }
 
-/// The records of the firmware's image, for OUT, and its lines.
+/// The records of the firmware's image, for OUT, and the firmware's lines.
 pub(crate) fn written_firmware(alloc: Global, firmware: &Firmware) -> Result<Output, Status>
     ensures writes { IfOk result (λ work. WritesImage firmware.now.image 3
         (compile_lines firmware.now.instr_bound firmware.now.step_bound (length firmware.now.image.bytes))
@@ -42,7 +42,7 @@ pub(crate) fn written_firmware(alloc: Global, firmware: &Firmware) -> Result<Out
     written_image(alloc, &firmware.image, OUT, lines)
 }
 
-/// The bounds on instructions and steps, and how many bytes the image has.
+/// The lines of the bounds on instructions and steps, and of the number of the image's bytes.
 fn lines(alloc: Global, firmware: &Firmware) -> Result<Vec<Line>, AllocError>
     ensures { IfOk result (λ lines. lines.items ≡
         compile_lines firmware.now.instr_bound firmware.now.step_bound (length firmware.now.image.bytes)) }

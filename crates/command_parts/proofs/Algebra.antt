@@ -1,6 +1,6 @@
 -- Lines of items that are counted, texts that are written part by part, refusals, and readings.
 use Rattle.std.proofs.Common.{refl, ◌≡◌, ◌<◌, ◌+◌, ℕ, true, List, [], ◌∷◌, ◌++◌, length, take, get_or, sym, subst}
-use Rattle.std.proofs.Common.{◌∙◌, ap}
+use Rattle.std.proofs.Common.{◌∙◌, ◌⊎◌, ap}
 use Rattle.std.proofs.Common.{arith, append_assoc, add-one, inl, inr}
 use Rattle.std.specs.Prelude.{All, codes, map, Result, Ok, Err, IfErr, IsErrAnd}
 use Rattle.std.proofs.Math.Seq.{take-suc}
@@ -12,7 +12,7 @@ use Rattle.fz_shelf.specs.{Lines.has_no_end, Parts.address_digits, Parts.byte_di
 use Rattle.fz_status.specs.Refusals.{CarriesNoMemory, IsRefusal, Refusals, Refuses, Tells, of_fast}
 use Rattle.fz_status.specs.declared.status.Status.{Status}
 use Rattle.fz_status.specs.declared.status.Status.TheVariants as status
-use Rattle.command_parts.specs.Lines.{counted, registers_told}
+use Rattle.command_parts.specs.{Judged.AreJudged, Judged.HasResult, Judged.IsJudged, Lines.counted, Lines.registers_told}
 use Rattle.command_parts.specs.Readings.{AreExact, Gives, GivesSome, IsExact, IsRefused, IsSettled, Reading, SeenOf}
 use Rattle.command_parts.specs.Readings.{Stage}
 use Rattle.command_parts.specs.Readings.{TellsContents, for_fast, last, made_of, refusals, seen_of, ◌then◌}
@@ -121,16 +121,61 @@ told_contents (last f) exact s w = exact.contents s w
 told_contents (first then next) exact s (inl w) = exact.0.contents s w
 told_contents (first then next) exact s (inr (d, h, w)) = told_contents (next (first.seen d)) (exact.1 d h) s w
 
--- a file that is refused by faults of one kind, which its status tells
+pub refused_once : {B : Type 0} (r : Reading B) → AreExact r → (s t : Status) → Refuses (refusals r) s
+    → Refuses (refusals r) t → s ≡ t
+refused_once (last f) exact s t v w = exact.refused_once s t v w
+refused_once (first then next) exact s t (c, inl v) (d, inl w) = exact.0.refused_once s t (c, v) (d, w)
+refused_once (first then next) exact s t (c, inl v) (d, inr (b, g, w)) = absurd (exact.0.apart b s g (c, v))
+refused_once (first then next) exact s t (c, inr (b, g, v)) (d, inl w) = absurd (exact.0.apart b t g (d, w))
+refused_once (first then next) exact s t (c, inr (b, g, v)) (d, inr (e, h, w)) =
+    refused_once (next (first.seen b)) (exact.1 b g) s t (c, v)
+    (d, subst (λ x. refusals (next x) t) (exact.0.one e b h g) w)
+
+-- ---- readings of files, each of which is judged
+
+pub judged_all : {B : Type 0} (r : Reading B) → AreJudged r → GivesSome r ⊎ ((s : Status) × Refuses (refusals r) s)
+judged_all (last f) judged = judged
+judged_all (first then next) judged = elim judged.0 [
+  | inr (s, refused) ↦ inr (s, (refused.0, inl refused.1))
+  | inl (b, gives) ↦ elim (judged_all (next (first.seen b)) (judged.1 b gives)) [
+    | inr (s, refused) ↦ inr (s, (refused.0, inr (b, gives, refused.1)))
+    | inl (d, rest) ↦ inl ((b, d), (gives, rest))
+  ]
+]
+
+-- so a command makes something of them, where it makes an output of files that give something
+pub result_of : {B : Type 0} (r : Reading B) (gives : SeenOutput → Type 0) → AreJudged r
+    → (GivesSome r → (output : SeenOutput) × gives output) → HasResult (made_of r gives)
+result_of r gives judged some = elim (judged_all r judged) [
+  | inl given ↦ (let output = some given in (Ok output.0, output.1))
+  | inr (s, refused) ↦ (Err s, refused)
+]
+
+fast_carries : (t : Status) → CarriesNoMemory t → CarriesNoMemory (of_fast t)
+fast_carries (status.Fcl f) c = c
+fast_carries (status.Cert f) c = c
+fast_carries (status.Trace f) c = c
+fast_carries s c = c
+
+pub judged_fast : {B : Type 0} (f : Stage B) → IsJudged f → IsJudged (for_fast f)
+judged_fast {B} f (inl given) = inl given
+judged_fast {B} f (inr (t, (carries, why))) = inr (of_fast t, (fast_carries t carries, (t, refl, why)))
+
+-- a file that is refused by one fault of one kind, which its status tells
 pub exact_of : {B F : Type 0} (f : Stage B) (tell : F → Status) (Has : F → Type 0)
     → ((x : F) → TellsContents (tell x)) → ((s : Status) → f.refuses s → (x : F) × (s ≡ tell x) × Has x)
     → ((b d : B) → f.gives b → f.gives d → f.seen b ≡ f.seen d)
-    → ((b : B) (x : F) → f.gives b → CarriesNoMemory (tell x) → Has x → ⊥) → IsExact f
-exact_of f tell Has contents has one none = record {
+    → ((b : B) (x : F) → f.gives b → CarriesNoMemory (tell x) → Has x → ⊥)
+    → ((x y : F) → CarriesNoMemory (tell x) → CarriesNoMemory (tell y) → Has x → Has y → x ≡ y) → IsExact f
+exact_of f tell Has contents has one none once = record {
   one = one;
   apart = λ b s g w. (let h = has s w.1 in
       none b h.0 g (subst (λ t. CarriesNoMemory t) h.1 w.0) h.2);
   contents = λ s w. (let h = has s w in subst (λ t. TellsContents t) (sym h.1) (contents h.0));
+  refused_once = λ s t v w. (let h = has s v.1 in
+      let k = has t w.1 in
+      h.1 ∙ ap tell (once h.0 k.0 (subst (λ u. CarriesNoMemory u) h.1 v.0)
+      (subst (λ u. CarriesNoMemory u) k.1 w.0) h.2 k.2) ∙ sym k.1);
 }
 
 carries_fast : (t : Status) → CarriesNoMemory (of_fast t) → CarriesNoMemory t
@@ -151,9 +196,18 @@ exact_fast f own = record {
   apart = λ b s g w. own.apart b w.1.0 g
       (carries_fast w.1.0 (subst (λ t. CarriesNoMemory t) w.1.1 w.0), w.1.2);
   contents = λ s w. subst (λ t. TellsContents t) (sym w.1) (tells_fast w.0 (own.contents w.0 w.2));
+  refused_once = λ s t v w. v.1.1
+      ∙ ap of_fast (own.refused_once v.1.0 w.1.0
+      (carries_fast v.1.0 (subst (λ u. CarriesNoMemory u) v.1.1 v.0), v.1.2)
+      (carries_fast w.1.0 (subst (λ u. CarriesNoMemory u) w.1.1 w.0), w.1.2))
+      ∙ sym w.1.1;
 }
 
 -- ---- what refuses files
+
+-- a file gives something, and then one behind it is refused
+pub behind : {A B : Type 0} {P Q : B → Type 0} (b : B) → P b → Q b → A ⊎ ((x : B) × P x × Q x)
+behind b gives refused = inr (b, gives, refused)
 
 pub refused_fast : {B : Type 0} (f : Stage B) (s : Status) → IsRefusal f.refuses s
     → IsRefusal (for_fast f).refuses (of_fast s)
@@ -198,9 +252,16 @@ settled r gives accepted exact given one some = record {
   no_fault = λ output s a w. (let p = given output a in not_refused r exact p.0 s p.1 w.0 w.1);
   some = some;
   contents = λ s w. (w.0, told_contents r exact s w.1);
+  one_fault = refused_once r exact;
 }
 
 -- and so where more is asked
 pub settled_with : {made : Result SeenOutput Status → Type 0} {accepted more : Type 0} → IsSettled made accepted
     → IsSettled made (more × accepted)
-settled_with s = record { one = s.one; no_fault = s.no_fault; some = λ a. s.some a.1; contents = s.contents }
+settled_with s = record {
+  one = s.one;
+  no_fault = s.no_fault;
+  some = λ a. s.some a.1;
+  contents = s.contents;
+  one_fault = s.one_fault;
+}

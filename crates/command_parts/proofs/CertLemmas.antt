@@ -1,5 +1,5 @@
 -- A certificate that a block accepts is not refused.
-use Rattle.std.proofs.Common.{◌≡◌, ◌≢◌, ℕ, List}
+use Rattle.std.proofs.Common.{◌≡◌, ◌≢◌, ℕ, List, ap}
 use Rattle.std.specs.Prelude.{Result, Ok, Err}
 use Rattle.fuzzy_meaning.specs.{Blocks.IsValid, declared.block.Block.Block}
 use Rattle.byte_scaling.specs.{Widths.parts, declared.width.Width.Width}
@@ -43,9 +43,26 @@ certs_apart answers kind width block text errors f valid accepts fault =
     accepts refused in
     cc
 
+-- and another has one refusal
+same_refusal : (f g : CertRefusal) → refusal_of f ≡ refusal_of g → f ≡ g
+same_refusal (told.Text x) (told.Text y) e = let is : x ≡ y = cc in ap told.Text is
+same_refusal (told.Check x) (told.Check y) e = let is : x ≡ y = cc in ap told.Check is
+same_refusal (told.Text x) (told.Check y) e = cc
+same_refusal (told.Check x) (told.Text y) e = cc
+
+pub refusals_are_one : TextAnswersAreOne → (kind : CertKind) (width : Width) (block : Block) (text : List ℕ)
+    (f g : CertRefusal) → IsValid block → HasCertFault kind width block text f → HasCertFault kind width block text g
+    → f ≡ g
+refusals_are_one answers kind width block text f g valid v w =
+    let x : Result (List ℕ) TheRefusal = Err (refusal_of f) in
+    let y : Result (List ℕ) TheRefusal = Err (refusal_of g) in
+    let same : x ≡ y = answers block (parts width) kind width text x y valid
+    (has_refusal kind width block text f v) (has_refusal kind width block text g w) in
+    same_refusal f g (let is : refusal_of f ≡ refusal_of g = cc in is)
+
 -- ---- a refusal is no want of memory
 
-text_carries : (k : CertKind) (v : Width) (text : List ℕ) (f : CertFault) → HasFault k v text f → f ≢ cert.Memory
+pub text_carries : (k : CertKind) (v : Width) (text : List ℕ) (f : CertFault) → HasFault k v text f → f ≢ cert.Memory
 text_carries k v text _ (bad_version some none) e = cc
 text_carries k v text _ _ e = cc
 
@@ -69,7 +86,7 @@ tree_carries : (b : Block) (h : ℕ) (nodes : List Node) (f : CheckFault) → Ha
 tree_carries b h nodes _ (bad_cut box i c rest r none) e = cc
 tree_carries b h nodes f (bad_leaf box form rest g r p) e = claim_carries b h _ p.output _ p.claim f p.is e
 
-check_carries : (b : Block) (h : ℕ) (c : Cert) (f : CheckFault) → HasCheckFault b h c f → f ≢ check.Memory
+pub check_carries : (b : Block) (h : ℕ) (c : Cert) (f : CheckFault) → HasCheckFault b h c f → f ≢ check.Memory
 check_carries b h c _ (outputs differ) e = cc
 check_carries b h c f (tree g count t) e = tree_carries b h c.nodes f t e
 check_carries b h c _ (claimed es k over count a) e = cc

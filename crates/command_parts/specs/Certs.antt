@@ -1,8 +1,8 @@
 -- Certificates of a text's block.
 -- Beside the promise.
 use Rattle.std.specs.Prelude.{ℕ, List}
-use Rattle.error_certifier.specs.{Halving.IsHalving, Halving.StopsAt, Laws.SaysOutOfReach}
-use Rattle.error_certifier.specs.declared.certifier.NotReached.{NotReached}
+use Rattle.error_certifier.specs.{Halving.IsHalvingFor, Halving.StopsFor, Laws.SaysOutOfReachFor, Targets.targets_of}
+use Rattle.error_certifier.specs.declared.{certifier.NotReached.NotReached, targets.Targets.Targets}
 use Rattle.box_tree.specs.{declared.cert.Cert.Cert, declared.cert.CertKind.CertKind}
 use Rattle.fuzzy_meaning.specs.{Blocks.IsValid, declared.block.Block.Block}
 use Rattle.byte_scaling.specs.{Widths.parts, declared.width.Width.Width}
@@ -43,25 +43,25 @@ CertsAreExact = (kind : CertKind) (width : Width) (block : Block) (cert : List �
 
 -- halving for this kind stops so, and for a cell no certificate that is accepted has a smaller error: for tight ones
 -- none at all, for those that name rules none that does
-pub record StopsHalving (kind : CertKind) (width : Width) (target : ℕ) (block : Block) (stop : NotReached)
+pub record StopsHalving (kind : CertKind) (width : Width) (targets : Targets) (block : Block) (stop : NotReached)
     : Type 0 where
-  pub stops : StopsAt kind block (parts width) target stop
-  pub out_of_reach : SaysOutOfReach kind block (parts width) target stop
+  pub stops : StopsFor kind block (parts width) (targets_of block targets) stop
+  pub out_of_reach : SaysOutOfReachFor kind block (parts width) (targets_of block targets) stop
 
 -- why halving ends without a certificate
-abbrev pub target_refusals : CertKind → Width → ℕ → Block → Refusals
-target_refusals kind width target block (status.NotReached stop) = StopsHalving kind width target block stop
-target_refusals kind width target block s = ⊥
+abbrev pub target_refusals : CertKind → Width → Targets → Block → Refusals
+target_refusals kind width targets block (status.NotReached stop) = StopsHalving kind width targets block stop
+target_refusals kind width targets block s = ⊥
 
--- the certificate of a block's halving within this target
-abbrev pub halving_in : CertKind → Width → ℕ → Block → Stage Cert
-halving_in kind width target block = record {
-  gives = IsHalving kind block (parts width) target;
+-- the certificate of a block's halving within these targets
+abbrev pub halving_in : CertKind → Width → Targets → Block → Stage Cert
+halving_in kind width targets block = record {
+  gives = IsHalvingFor kind block (parts width) (targets_of block targets);
   Seen = Cert;
   seen = λ cert. cert;
-  refuses = target_refusals kind width target block;
+  refuses = target_refusals kind width targets block;
 }
 
 abbrev pub HalvingsAreExact : Type 0
-HalvingsAreExact = (kind : CertKind) (width : Width) (target : ℕ) (block : Block) → IsValid block
-    → IsExact (halving_in kind width target block)
+HalvingsAreExact = (kind : CertKind) (width : Width) (targets : Targets) (block : Block) → IsValid block
+    → IsExact (halving_in kind width targets block)

@@ -11,7 +11,7 @@ use Rattle.fcl_check.specs.Texts.{SpellsBlock, HasLoadFault}
 use Rattle.command_parts.specs.Readings.{IsExact, Stage}
 use Rattle.command_parts.specs.declared.firmware.{Form.Form, Form.TheVariants.Alone, Form.TheVariants.Mailbox}
 use Rattle.command_parts.specs.declared.firmware.{Compiled.Compiled, Form.TheVariants.Watched}
-use Rattle.fz_status.specs.{Refusals.CarriesNoMemory, Refusals.Refusals, declared.status.FclFault.FclFault}
+use Rattle.fz_status.specs.{Refusals.Refusals, declared.status.FclFault.FclFault}
 use Rattle.fz_status.specs.declared.status.FclFault.TheVariants as fcl
 use Rattle.fz_status.specs.declared.status.Status.TheVariants as status
 

@@ -8,3 +8,4 @@ pub mod Readings
 pub mod SeenOutputs
 pub mod Twos
 pub mod Words
+pub mod Judged

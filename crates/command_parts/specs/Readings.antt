@@ -74,21 +74,23 @@ TellsContents (status.TooLong p) = ⊥
 TellsContents s = Unit {0}
 
 -- what a file gives is seen as one thing, a file that gives something is not refused, and what refuses it tells
--- contents
+-- contents, and is one
 pub record IsExact {B : Type 0} (f : Stage B) : Type 0 where
   pub one : (b d : B) → f.gives b → f.gives d → f.seen b ≡ f.seen d
   pub apart : (b : B) (s : Status) → f.gives b → Refuses f.refuses s → ⊥
   pub contents : (s : Status) → f.refuses s → TellsContents s
+  pub refused_once : (s t : Status) → Refuses f.refuses s → Refuses f.refuses t → s ≡ t
 
 -- so it is with each file
 abbrev pub AreExact : {B : Type 0} → Reading B → Type 0
 AreExact (last f) = IsExact f
 AreExact (first then next) = IsExact first × ((b : _) → first.gives b → AreExact (next (first.seen b)))
 
--- what a command makes: one output at most, and then no fault; one where this is so; and faults that tell contents, and
--- carry no want of memory
+-- what a command makes: one output at most, and then no fault; one where this is so; and one fault at most, which
+-- tells contents, and carries no want of memory
 pub record IsSettled (made : Result SeenOutput Status → Type 0) (accepted : Type 0) : Type 0 where
   pub one : OutputsAreOne made
   pub no_fault : OutputHasNoFault made
   pub some : accepted → HasOutput made
   pub contents : (s : Status) → made (Err s) → CarriesNoMemory s × TellsContents s
+  pub one_fault : (s t : Status) → made (Err s) → made (Err t) → s ≡ t

@@ -1,10 +1,11 @@
-//! Certificates of a block: the errors that one is accepted with, and the one that halving gives.
-ghost use Rattle.std.specs.Prelude.{◌≤◌, All, IfOk, IfErr};
+//! Certificates of a block: the errors that a given one is accepted with, and the one that halving finds.
+ghost use Rattle.std.specs.Prelude.{IfOk, IfErr};
 ghost use Rattle.box_tree.specs.Certificates.{IsCert};
-ghost use Rattle.error_certifier.specs.Halving.{IsHalving};
+ghost use Rattle.error_certifier.specs.{Halving.IsHalvingFor, Laws.AreWithin, Targets.targets_of};
 ghost use Rattle.fuzzy_meaning.specs.Blocks.{IsValid};
 ghost use Rattle.command_parts.specs.Certs.{AcceptsCert};
 ghost use Rattle.command_parts.specs.Certs.{cert_refusals, target_refusals};
+ghost use Rattle.command_parts.specs.Words.{AreMillionths};
 ghost use Rattle.byte_scaling.specs.Widths.{parts};
 ghost use Rattle.fz_status.specs.Refusals.{IsRefusal};
 
@@ -12,7 +13,7 @@ use crate::contents::Content;
 use box_tree::{Cert, CertKind};
 use byte_scaling::Width;
 use cert_check::check_text_for;
-use error_certifier::certify_for;
+use error_certifier::{Targets, certify_each};
 use fuzzy_meaning::Block;
 use fz_status::Status;
 use std::alloc::Global;
@@ -33,20 +34,20 @@ pub fn errors_under(
     Ok(check_text_for(alloc, block, cert.bytes(), kind, width)?)
 }
 
-/// The certificate of this kind of a block's halving, for answers of this width.
+/// The certificate of this kind that halving finds for a block and these targets, for answers of this width.
 pub fn halved(
     alloc: Global,
     kind: CertKind,
     width: Width,
-    target: u32,
+    targets: &Targets,
     block: &Block,
 ) -> Result<Cert, Status>
     requires block { IsValid block.now }
-    requires target { target ≤ 1000000 }
-    ensures halving { IfOk result (IsHalving kind block.now (parts width) target) }
-    ensures within { IfOk result (λ cert. All (λ error. error ≤ target) cert.claims) }
+    requires targets { AreMillionths targets.now }
+    ensures halving { IfOk result (IsHalvingFor kind block.now (parts width) (targets_of block.now targets.now)) }
+    ensures within { IfOk result (λ cert. AreWithin (targets_of block.now targets.now) cert.claims) }
     ensures cert { IfOk result (IsCert kind) }
-    ensures stops { IfErr result (IsRefusal (target_refusals kind width target block.now)) }
+    ensures stops { IfErr result (IsRefusal (target_refusals kind width targets.now block.now)) }
 {
-    Ok(certify_for(alloc, block, target, kind, width)?)
+    Ok(certify_each(alloc, block, targets, kind, width)?)
 }

@@ -5,7 +5,7 @@ ghost use Rattle.command_parts.specs.Contents.{bytes_of, content_at};
 
 use std::marker::Model;
 
-/// The content of a file, of at most 1048576 bytes, which a contract sees as these.
+/// The content of a file, at most 1048576 bytes, which a contract sees as the list of these.
 #[derive(Drop)]
 pub struct Content<'a> {
     bytes: &'a [u8],
@@ -22,7 +22,7 @@ impl<'a> Model for Content<'a> {
 }
 
 impl<'a> Content<'a> {
-    /// The content of the file at this place of the list, or nothing.
+    /// The content of the file at this index of the list, or the empty content if there is none.
     pub fn at(contents: &'a [Vec<u8>], place: usize) -> Content<'a>
         requires { All (λ c. length c.items ≤ 1048576) contents.now }
         ensures { result ≡ content_at (bytes_of contents.now) place }

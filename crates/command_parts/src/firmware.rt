@@ -26,7 +26,7 @@ pub struct Compiled {
     pub firmware: Firmware,
 }
 
-/// What stands around EVAL in a block's firmware.
+/// The form of a block's firmware: what is around EVAL in it.
 #[derive(Clone, Copy)]
 pub enum Form {
     /// The firmware stands alone, with answers of this width.
@@ -37,8 +37,8 @@ pub enum Form {
     Watched,
 }
 
-/// The block that the text spells, and that block's firmware of this form. The faults come in their
-/// order: of the grammar, of the block, of the layout.
+/// The block that the text spells, and its firmware of this form. Faults of the grammar come first,
+/// then those of the block, then those of the layout.
 pub fn firmware_of(alloc: Global, form: Form, text: &Content) -> Result<Compiled, Status>
     ensures gives { IfOk result (λ c. GivesFirmware form text.now c.block c.firmware) }
     ensures fault { IfErr result (IsRefusal (text_refusals text.now)) }
@@ -70,7 +70,7 @@ pub struct LaidOut {
     pub flat: Flat,
 }
 
-/// The block that the text spells, with its layout. The faults are the same.
+/// The block that the text spells, with its layout. The faults are those of `firmware_of`.
 pub fn laid_out_block_of(alloc: Global, text: &Content) -> Result<LaidOut, Status>
     ensures gives { IfOk result (λ l. GivesBlock text.now l.block) }
     ensures flat { IfOk result (λ l. l.flat ≡ flat_of l.block) }

@@ -15,12 +15,12 @@ use std::alloc::Global;
 pub struct AcceptedHandler {
     /// The image that the records give.
     pub image: Image,
-    /// What is known of its code.
+    /// What the check found out about its code.
     pub handler: Handler,
 }
 
-/// The handler that the records give. The faults come in their order: of the records, then the first
-/// of the handler.
+/// The handler that the records give. A fault of the records comes before the first fault of
+/// the handler.
 pub fn handler_of(alloc: Global, records: &Content) -> Result<AcceptedHandler, Status>
     ensures handler { IfOk result (λ a. GivesHandler records.now a.image a.handler.instrs) }
     ensures fault { IfErr result (IsRefusal (handler_refusals records.now)) }

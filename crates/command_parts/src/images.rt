@@ -18,8 +18,8 @@ pub fn image_of(alloc: Global, text: &Content) -> Result<Image, Status>
     Ok(srecord::read(alloc, text.bytes())?)
 }
 
-/// Whether a text of records gives this image: else the status of its first fault, of the first
-/// address where it has another byte, or of its start.
+/// Checks that a text of records gives this image. Otherwise the status is that of the first fault of
+/// the text, of the first address where the byte differs, or of the start.
 pub fn require_image(alloc: Global, text: &Content, wanted: &Image) -> Result<(), Status>
     ensures image { OnOk result (GivesImage text.now wanted.now) }
     ensures fault { IfErr result (IsRefusal (image_refusals text.now wanted.now)) }

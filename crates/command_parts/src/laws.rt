@@ -1,20 +1,25 @@
-//! What a text, an image, a handler and a certificate give: one thing at most, and then no fault.
+//! What a text, an image, a handler and a certificate give is unique, and what gives something has no fault.
 ghost use Rattle.command_parts.specs.Certs.{CertsAreExact, HalvingsAreExact};
 ghost use Rattle.command_parts.specs.Firmwares.{BlocksAreExact, FirmwaresAreExact, GivenBlocksHaveFirmware};
+ghost use Rattle.command_parts.specs.Judged.{BlocksAreJudged, CertsAreJudged, FirmwaresAreJudged, HalvingsAreJudged};
+ghost use Rattle.command_parts.specs.Judged.{HandlersAreJudged, ImagesAreJudged, TwosAreJudged};
 ghost use Rattle.command_parts.specs.{Handlers.HandlersAreExact, Images.GivenRecordsHaveNoFault, Images.ImagesAreExact};
 ghost use Rattle.command_parts.specs.{Twos.GivenBlocksHaveTwos, Twos.TwosAreExact};
 
 use alone_code::laws::{blocks_have_firmware, firmwares_are_one, mailboxes_are_one};
-use cert_check::laws::text_answers_are_one;
-use fcl_check::laws::{load_faults_are_one, spelled_blocks_are_one};
+use cert_check::laws::{each_cert_text_is_judged, text_answers_are_one};
+use error_certifier::laws::{
+    answers_for_targets_are_one, cells_are_out_of_reach, each_block_is_halved,
+};
+use fcl_check::laws::{each_text_is_judged, load_faults_are_one, spelled_blocks_are_one};
 use fcl_syntax::laws::first_faults_are_one;
-use handler_check::laws::{answers_are_one, handlers_have_no_fault};
+use handler_check::laws::{answers_are_one, each_image_is_judged, handlers_have_no_fault};
 use rule_layout::laws::limits_have_no_fault;
-use srecord::laws::images_are_one;
+use srecord::laws::{faults_are_one, images_are_one};
 use two_level_code::laws::{blocks_have_twos, twos_are_one};
 use watched_code::laws::{blocks_have_watched_firmware, watched_firmwares_are_one};
 
-/// A text that gives a block gives firmware of each form.
+/// A text that gives a block gives firmware of every form.
 pub fn given_blocks_have_firmware()
     ensures { GivenBlocksHaveFirmware }
 {
@@ -36,7 +41,7 @@ pub fn given_records_have_no_fault()
     images_are_one()
 }
 
-/// A text gives one block, or it is refused.
+/// A text gives exactly one block, or it is refused.
 pub fn blocks_are_exact()
     ensures { BlocksAreExact }
 {
@@ -46,7 +51,7 @@ pub fn blocks_are_exact()
     limits_have_no_fault()
 }
 
-/// A text gives one block with one firmware of a form, or it is refused.
+/// A text gives exactly one block with one firmware of a form, or it is refused.
 pub fn firmwares_are_exact()
     ensures { FirmwaresAreExact }
 {
@@ -56,7 +61,7 @@ pub fn firmwares_are_exact()
     watched_firmwares_are_one()
 }
 
-/// Two texts give two blocks with one firmware of both, or one of them is refused.
+/// Two texts give exactly one block each and one firmware of both, or one of the texts is refused.
 pub fn twos_are_exact()
     ensures { TwosAreExact }
 {
@@ -64,33 +69,88 @@ pub fn twos_are_exact()
     twos_are_one()
 }
 
-/// A text gives an image, or it is refused for it.
+/// A text gives an image, or it is refused.
 pub fn images_are_exact()
     ensures { ImagesAreExact }
 {
+    faults_are_one();
     images_are_one()
 }
 
-/// Records give a handler with one list of bytes, or they are refused.
+/// Records give a handler whose bytes are unique, or they are refused.
 pub fn handlers_are_exact()
     ensures { HandlersAreExact }
 {
+    faults_are_one();
     images_are_one();
     given_records_have_no_fault();
     handlers_have_no_fault();
     answers_are_one()
 }
 
-/// A certificate is accepted with one list of errors, or it is refused.
+/// A certificate is accepted with a unique list of errors, or it is refused.
 pub fn certs_are_exact()
     ensures { CertsAreExact }
 {
     text_answers_are_one()
 }
 
-/// Halving ends with one certificate of a block, or it stops.
+/// Halving finds a unique certificate of a block within its targets, or it stops.
 pub fn halvings_are_exact()
     ensures { HalvingsAreExact }
 {
-    error_certifier::laws::answers_are_one()
+    answers_for_targets_are_one()
+}
+
+/// A text of at most 1048576 bytes gives a block, or it is refused.
+pub fn blocks_are_judged()
+    ensures { BlocksAreJudged }
+{
+    each_text_is_judged()
+}
+
+/// And so with a block and its firmware.
+pub fn firmwares_are_judged()
+    ensures { FirmwaresAreJudged }
+{
+    blocks_are_judged();
+    given_blocks_have_firmware()
+}
+
+/// And with two blocks and the firmware of both.
+pub fn twos_are_judged()
+    ensures { TwosAreJudged }
+{
+    blocks_are_judged();
+    given_blocks_have_twos()
+}
+
+/// Records give the image that they are to give, or they are refused.
+pub fn images_are_judged()
+    ensures { ImagesAreJudged }
+{
+    srecord::laws::each_text_is_judged()
+}
+
+/// Records give a handler, or they are refused.
+pub fn handlers_are_judged()
+    ensures { HandlersAreJudged }
+{
+    srecord::laws::each_text_is_judged();
+    each_image_is_judged()
+}
+
+/// A certificate is accepted, or it is refused.
+pub fn certs_are_judged()
+    ensures { CertsAreJudged }
+{
+    each_cert_text_is_judged()
+}
+
+/// Halving ends with a certificate, or it stops.
+pub fn halvings_are_judged()
+    ensures { HalvingsAreJudged }
+{
+    each_block_is_halved();
+    cells_are_out_of_reach()
 }

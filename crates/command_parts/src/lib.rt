@@ -1,9 +1,9 @@
-//! What the commands of the program share: the contents of files ([`contents`]), from texts to blocks and their firmware
-//! ([`firmware`], [`twos`]), images and handlers ([`images`], [`handlers`]), certificates ([`certs`]), lines ([`lines`]),
-//! the forms of words ([`words`]), and what a command leaves to be written and put ([`output::Output`]).
+//! What the commands of the program share: the contents of files ([`contents`]), from texts to blocks and their
+//! firmware ([`firmware`], [`twos`]), images and handlers ([`images`], [`handlers`]), certificates ([`certs`]),
+//! lines ([`lines`]), the forms of words ([`words`]), and a command's output ([`output::Output`]).
 //!
-//! Each call that reads a text answers what the text gives, or the status of its first fault. Beside it stands a law that
-//! a text which gives something has no fault, and gives one thing.
+//! Each function that reads a text returns what the text gives, or the status of its first fault. For each there is
+//! a law that a text that gives a result has no fault, and that this result is unique.
 #![tactic(auto)]
 
 pub mod certs;

@@ -1,4 +1,4 @@
-//! Lines on out.
+//! Lines put to out.
 ghost use Rattle.std.specs.Prelude.{◌≡◌, ◌++◌, IfOk, OnOk, string_bytes, true};
 ghost use Rattle.fz_shelf.specs.{Lines.has_no_end, Parts.address_digits, Parts.byte_digits};
 ghost use Rattle.command_parts.specs.Lines.{error_line, error_lines, line, registers_told};
@@ -18,7 +18,7 @@ pub fn labelled(alloc: Global, label: &str, n: u128) -> Result<Line, AllocError>
     Line::of(text)
 }
 
-/// The error of each output, behind a label.
+/// The error of each output, after a label.
 pub fn push_errors(
     alloc: Global,
     lines: &mut Vec<Line>,

@@ -2,11 +2,11 @@
 
 use fz_shelf::Line;
 
-/// The lines for out, and the word of the file to write with its bytes.
+/// The lines for out, and the file to write, if there is one.
 #[derive(Drop)]
 pub struct Output {
-    /// The lines, each put by itself.
+    /// The lines, which are put one by one.
     pub lines: Vec<Line>,
-    /// The place of the word that names the file, and what the file is to hold.
+    /// The index of the word that names the file, and what the file is to hold.
     pub file: Option<(u32, Vec<u8>)>,
 }

@@ -21,8 +21,8 @@ pub struct CompiledTwo {
     pub two: Two,
 }
 
-/// The blocks that the texts spell, and the firmware of both. The faults are those of the first text, and
-/// then those of the second, told of the fast block's file.
+/// The blocks that the texts spell, and the firmware of both. Faults of the first text come first, and
+/// then those of the second, as faults of the fast block's file.
 pub fn two_of(alloc: Global, slow: &Content, fast: &Content) -> Result<CompiledTwo, Status>
     ensures gives { IfOk result (λ c. GivesTwo slow.now fast.now c.slow c.fast c.two) }
     ensures fault { IfErr result (IsRefusal (two_refusals slow.now fast.now)) }

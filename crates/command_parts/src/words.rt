@@ -1,10 +1,14 @@
 //! The forms that words may have.
-ghost use Rattle.std.specs.Prelude.{◌≡◌, ◌≤◌};
+ghost use Rattle.std.specs.Prelude.{◌≡◌, ◌≤◌, All, IfSome, option_map};
 ghost use Rattle.std.specs.Char.{is_ascii_digit};
 ghost use Rattle.std.specs.List.{list_all};
 ghost use Rattle.fz_status.specs.Words.{flags_of};
 ghost use Rattle.command_parts.specs.Words.{number_of, number_up_to};
+ghost use Rattle.command_parts.specs.Words.{AreMillionths, numbers_in, targets_in, targets_with};
 
+use arrayvec::ArrayVec;
+use box_tree::CertKind;
+use error_certifier::Targets;
 use std::marker::Model;
 
 /// Two hexadecimal digits, in either case.
@@ -18,10 +22,10 @@ pub fn flags(text: &str) -> Option<u8>
     }
 }
 
-/// The greatest number that words may ask for.
+/// The greatest [`Number`].
 const MOST: u32 = 1_000_000;
 
-/// A number up to 1000000, which a contract sees as that number.
+/// A number up to 1000000.
 #[derive(Clone, Copy)]
 pub struct Number {
     number: u32,
@@ -75,4 +79,70 @@ pub fn number_in(text: &str) -> Option<Number>
         Some(number) if number <= MOST => Some(Number { number }),
         _ => None,
     }
+}
+
+/// The targets that the word TARGET gives, each at most 1000000.
+#[derive(Drop)]
+pub struct TargetWord {
+    targets: Targets,
+}
+
+impl Model for TargetWord {
+    ghost use Rattle.error_certifier.specs.declared.targets.Targets.{Targets};
+    ghost use Rattle.command_parts.specs.Words.{AreMillionths};
+
+    ghost Value = { Targets };
+
+    ghost view = { λ word. word.targets };
+
+    ghost invariant = { λ word. AreMillionths word.targets };
+}
+
+impl TargetWord {
+    pub fn get(&self) -> &Targets
+        ensures value { result.now ≡ self.now }
+        ensures millionths { AreMillionths result.now }
+    {
+        &self.targets
+    }
+}
+
+/// One to four numbers up to 1000000, separated by commas.
+fn numbers_in(text: &str) -> Option<ArrayVec<u32, 4>>
+    ensures value { option_map (λ numbers. numbers.items) result ≡ numbers_in 4 text.now }
+    ensures millionths { IfSome result (λ numbers. All (λ n. n ≤ 1000000) numbers.items) }
+{
+    let mut numbers = ArrayVec::new();
+    for part in text.split(',') {
+        let number = number_in(part)?.get();
+        if numbers.is_full() {
+            return None;
+        }
+        numbers.push(number);
+    }
+    Some(numbers)
+}
+
+/// One number for all outputs, or one for each.
+fn targets_with(numbers: ArrayVec<u32, 4>) -> Targets
+    requires { All (λ n. n ≤ 1000000) numbers.items }
+    ensures value { result ≡ targets_with numbers.items }
+    ensures millionths { AreMillionths result }
+{
+    match numbers.as_slice() {
+        [number] => Targets::All(*number),
+        _ => Targets::Each(numbers),
+    }
+}
+
+/// The targets of a certificate of this kind: a number up to 1000000, or, for a tight one, also two to
+/// four separated by commas.
+pub fn targets_in(kind: CertKind, text: &str) -> Option<TargetWord>
+    ensures { result ≡ targets_in kind text.now }
+{
+    let targets = match kind {
+        CertKind::Named => Targets::All(number_in(text)?.get()),
+        CertKind::Tight => targets_with(numbers_in(text)?),
+    };
+    Some(TargetWord { targets })
 }

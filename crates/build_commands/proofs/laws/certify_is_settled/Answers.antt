@@ -3,4 +3,4 @@ use Rattle.build_commands.proofs.laws.certify_is_settled.Goals as goal
 
 pub returns : goal.returns
 returns c = certify_settled c.blocks_are_exact.ensures c.halvings_are_exact.ensures
-    c.halvings_are_within_their_target.ensures
+    c.halvings_are_within_their_targets.ensures
