@@ -13,19 +13,19 @@ use Rattle.fz_shelf.specs.Lines.{has_no_end}
 use Rattle.run_reports.proofs.Algebra.{bare-answers}
 
 -- the errors and the bounds
-pub begun_written : (none errors fast bounded lines : List (List ℕ)) (one two : List ℕ)
-    (es fes : List ℕ) (bound fast_bound : ℕ)
+pub begun_written : (none errors fast bounded lines : List (List ℕ)) (es fes : List ℕ) (bound fast_bound : ℕ)
     → none ≡ [] → errors ≡ none ++ error_lines (codes "error ") es
     → fast ≡ errors ++ error_lines (codes "fast error ") fes
-    → bounded ≡ fast ++ one ∷ [] → one ≡ line (codes "instructions ") bound
-    → lines ≡ bounded ++ two ∷ [] → two ≡ line (codes "fast instructions ") fast_bound
+    → bounded ≡ fast ++ line (codes "instructions ") bound ∷ []
+    → lines ≡ bounded ++ line (codes "fast instructions ") fast_bound ∷ []
     → lines ≡ level_begun_lines es fes bound fast_bound
-begun_written none errors fast bounded lines one two es fes bound fast_bound start of_errors of_fast a1 is1 a2 is2 =
+begun_written none errors fast bounded lines es fes bound fast_bound start of_errors of_fast a1 a2 =
     let e = error_lines (codes "error ") es in
     let f = error_lines (codes "fast error ") fes in
+    let one = line (codes "instructions ") bound in
+    let two = line (codes "fast instructions ") fast_bound in
     a2 ∙ made_with fast (one ∷ []) (two ∷ []) bounded a1 ∙ made_with errors f (one ∷ two ∷ []) fast of_fast
     ∙ ap (λ ls. ls ++ (f ++ one ∷ two ∷ [])) (of_errors ∙ ap (λ ls. ls ++ e) start)
-    ∙ (λ i. e ++ (f ++ is1 i ∷ is2 i ∷ []))
 
 -- the line of a fast run
 module _ (number instrs steps resumed : ℕ) (answers : List ℕ) where

@@ -1,3 +1,4 @@
+pub mod FormLemmas
 pub mod HandledLemmas
 pub mod LevelLemmas
 pub mod LevelLines

@@ -1,35 +1,31 @@
 -- What a run under posts gives.
-use Rattle.form_commands.proofs.Words.{[], ◌++◌, ◌+◌, ◌-◌, ◌∙◌, ◌∷◌, ◌≡◌, ◌≤◌, AcceptsCert, All, All-cons, All-head}
+use Rattle.form_commands.proofs.Words.{[], ◌++◌, ◌+◌, ◌-◌, ◌∙◌, ◌∷◌, ◌≡◌, ◌≤◌, All, All-cons, All-head}
 use Rattle.form_commands.proofs.Words.{All-tail, answer_line, answer_seen, AnswersKeepTheBound, ap, ap₂, AreAnswersOf}
-use Rattle.form_commands.proofs.Words.{arith, begun_lines, Block, boundary_seen, Byte, bytes_of, codes, counted}
-use Rattle.form_commands.proofs.Words.{CertKind, Compiled, counted-map, Firmware, Frame, frames_seen, GivesFirmware}
-use Rattle.form_commands.proofs.Words.{input_bytes, IsOneOf, length, length-map, line, List, made_with}
-use Rattle.form_commands.proofs.Words.{◌<◌, ◌^◌, Mailbox, mailbox_bound, map, map-map, mrun_lines, of_seen, Reading}
-use Rattle.form_commands.proofs.Words.{only_lines}
+use Rattle.form_commands.proofs.Words.{arith, begun_lines, boundary_seen, Byte, bytes_of, counted}
+use Rattle.form_commands.proofs.Words.{CertKind, Compiled, counted-map, Firmware, Frame, frames_seen}
+use Rattle.form_commands.proofs.Words.{input_bytes, IsOneOf, length, length-map, line, List, made_with, codes}
+use Rattle.form_commands.proofs.Words.{◌<◌, ◌^◌, Mailbox, mailbox_bound, map, map-map, mrun_lines, of_seen}
 use Rattle.form_commands.proofs.Words.{posted_report, PostedAnswersAreNear, PostedFiles, refl, run_of}
-use Rattle.form_commands.proofs.Words.{run_under_posts, Sample, SpelledBytesFit, SpellsTrace, Status, subst, sym}
+use Rattle.form_commands.proofs.Words.{run_under_posts, Sample, SpelledBytesFit, Status, subst, sym}
 use Rattle.form_commands.proofs.Words.{true, ℕ}
+use Rattle.form_commands.proofs.FormLemmas.{settled_report}
+use Rattle.form_commands.specs.Mrun.{MrunIsSettled, posted_run, taken_line}
 use Rattle.mailbox_runs.specs.Runs.{AnswerSeen, RunSeen, arrival, steps_of}
-use Rattle.form_commands.specs.Mrun.{MrunGives, MrunIsSettled, taken_line}
-use Rattle.form_commands.specs.declared.mrun.Mrun.{Mrun}
-use Rattle.run_reports.specs.PostedRun.{AcceptsPosted, PostedReport, PostedRun, answered_samples, posted_reading}
+use Rattle.run_reports.specs.PostedRun.{PostedReport, PostedRun, answered_samples, posted_reading}
 use Rattle.run_reports.specs.PostedRun.{posts_in, posts_refusals}
 use Rattle.run_reports.specs.Inputs.{TracesAreExact}
-use Rattle.command_parts.proofs.Algebra.{exact_of, settled}
+use Rattle.command_parts.proofs.Algebra.{exact_of}
 use Rattle.command_parts.specs.{Certs.CertsAreExact, Firmwares.FirmwaresAreExact, Images.ImagesAreExact}
-use Rattle.command_parts.specs.Readings.{AreExact, GivesSome, IsExact, seen_of}
-use Rattle.command_parts.specs.SeenOutputs.{SeenOutput}
+use Rattle.command_parts.specs.Readings.{AreExact, Gives, IsExact, seen_of}
 use Rattle.std.proofs.{Common.◌≢◌, Common.Bool, Common.false}
 use Rattle.std.specs.{Prelude.if◌then◌else◌, Prelude.nat_le, Prelude.◌==◌}
-use Rattle.cpu12_emul.specs.{Take.FrameSeen}
 use Rattle.byte_scaling.specs.declared.width.Width.{Width}
 use Rattle.std.proofs.lemmas.Bool.Decides.{nat_tests}
 use Rattle.cpu12_parts.specs.State.{State}
-use Rattle.interrupt_plan.specs.{Posts.AreGoodPosts, Posts.PostsHaveFault, Posts.SpellsPosts, declared.Post.Post}
+use Rattle.interrupt_plan.specs.{Posts.AreGoodPosts, Posts.PostsHaveFault, declared.Post.Post}
 use Rattle.interrupt_plan.specs.declared.PlanFault.{PlanFault}
-use Rattle.interrupt_plan.specs.OneReading.{SpelledPostsAreOne, SpelledPostsHaveNoFault}
-use Rattle.mailbox_runs.specs.Answering.{AnswersItsPosts, AnswersUnderAllPosts, AnswersUnderPosts, answer_in, ended}
-use Rattle.mailbox_runs.specs.Answering.{run_of_turns}
+use Rattle.interrupt_plan.specs.OneReading.{PostFaultsAreOne, SpelledPostsAreOne, SpelledPostsHaveNoFault}
+use Rattle.mailbox_runs.specs.Answering.{AnswersUnderAllPosts, AnswersUnderPosts, answer_in, ended, run_of_turns}
 use Rattle.mailbox_runs.specs.Turns.{AreTurns, LastIsAnswered, Turn, behind, over, idle, answers, samples_of, up_to}
 use Rattle.mailbox_runs.specs.Turns.{waiting}
 use Rattle.mailbox_runs.specs.declared.run.Answer as declared
@@ -114,117 +110,103 @@ module _ (flags : ℕ) (f : Firmware) (bytes : List (List ℕ)) where
       with_answer (t.sample == 0) _ (run_of_turns flags f bytes ts (ended flags f bytes t s)).answers t.sample
       (samples_of ts) refl (answers_turns ts (ended flags f bytes t s))
 
--- what it answers of accepted files is the run of them
+-- accepted files have the run of them
 module _ (keep : AnswersKeepTheBound) (fit : SpelledBytesFit) (near : PostedAnswersAreNear) (lasts : LastIsAnswered)
-    (kind : CertKind) (flags : ℕ) (files : PostedFiles) (block : Block)
-    (firmware : Firmware) (errors : List ℕ) (samples : List Sample) (posts : List Post)
-    (a : AcceptsPosted kind files block firmware errors samples posts) (told : List AnswerSeen)
-    (frames : List (ℕ × FrameSeen)) (resumed : ℕ)
-    (told_are : told ≡ (run_under_posts firmware (map input_bytes samples) posts flags).answers)
-    (frames_are : frames ≡ (run_under_posts firmware (map input_bytes samples) posts flags).frames)
-    (resumed_is : resumed ≡ (run_under_posts firmware (map input_bytes samples) posts flags).resumed)
-    (all : AnswersItsPosts firmware flags (map input_bytes samples) posts
-    (run_under_posts firmware (map input_bytes samples) posts flags)) where
-  compiled : GivesFirmware Mailbox files.fcl block firmware
-  compiled = a.0
-
-  accepted : AcceptsCert kind Byte block files.cert errors
-  accepted = a.1.1.0
-
-  in_range : SpellsTrace block.inputs files.trace samples
-  in_range = a.1.1.1.0
-
-  good_posts : SpellsPosts (length samples) files.posts posts
-  good_posts = a.1.1.1.1
-
+    (law : AnswersUnderAllPosts) (kind : CertKind) (flags : ℕ) (byte : flags < 2 ^ 8) (files : PostedFiles)
+    (c : Compiled) (errors : List ℕ) (samples : List Sample) (posts : List Post)
+    (a : Gives (posted_reading kind files) (c, (tt, (errors, (samples, posts))))) where
   abbrev bytes : List (List ℕ)
   bytes = map input_bytes samples
 
   abbrev report : PostedReport
-  report = posted_report errors firmware.instr_bound told frames resumed
+  report = posted_run flags c errors samples posts
 
-  defined : AnswersUnderPosts block firmware flags bytes posts (run_under_posts firmware bytes posts flags)
-  defined = all block compiled.spelled.valid compiled.limits compiled.compiled.0
-      (fit block files.trace samples in_range)
+  defined : AnswersUnderPosts c.block c.firmware flags bytes posts (run_under_posts c.firmware bytes posts flags)
+  defined =
+      let good : AreGoodPosts (length bytes) posts =
+      subst (λ (n : ℕ). AreGoodPosts n posts) (sym (length-map samples input_bytes)) a.1.1.1.1.good in
+      law c.firmware flags bytes posts byte good c.block a.0.spelled.valid a.0.limits a.0.compiled.0
+      (fit c.block files.trace samples a.1.1.1.0)
 
-  ran : run_of report ≡ run_under_posts firmware bytes posts flags
+  ran : run_of report ≡ run_under_posts c.firmware bytes posts flags
   ran =
-      let arrived : (run_under_posts firmware bytes posts flags).arrived ≡ true =
+      let run = run_under_posts c.firmware bytes posts flags in
+      let arrived : run.arrived ≡ true =
       ap (λ (r : RunSeen). r.arrived) defined.run_is
-      ∙ comes_to_end flags firmware bytes defined.turns (arrival firmware bytes flags).state in
+      ∙ comes_to_end flags c.firmware bytes defined.turns (arrival c.firmware bytes flags).state in
       (λ i. record {
         arrived = (sym arrived) i;
-        answers = told_are i;
-        frames = frames_are i;
-        resumed = resumed_is i;
+        answers = run.answers;
+        frames = run.frames;
+        resumed = run.resumed;
       })
 
-  under : AnswersUnderPosts block firmware flags bytes posts (run_of report)
-  under = subst (λ (r : RunSeen). AnswersUnderPosts block firmware flags bytes posts r) (sym ran) defined
+  under : AnswersUnderPosts c.block c.firmware flags bytes posts (run_of report)
+  under = subst (λ (r : RunSeen). AnswersUnderPosts c.block c.firmware flags bytes posts r) (sym ran) defined
 
-  width : firmware.width ≡ Byte
-  width = compiled.compiled.1
+  width : c.firmware.width ≡ Byte
+  width = a.0.compiled.1
 
   of_turns : answered_samples report ≡ samples_of under.turns
   of_turns =
       ap (λ (r : RunSeen). map (λ (x : AnswerSeen). x.sample) r.answers) under.run_is
-      ∙ answers_turns flags firmware bytes under.turns (arrival firmware bytes flags).state
+      ∙ answers_turns flags c.firmware bytes under.turns (arrival c.firmware bytes flags).state
 
   last : waiting 0 posts ≢ 0 → (before : List ℕ) × (answered_samples report ≡ before ++ waiting 0 posts ∷ [])
   last some =
-      let at_end = lasts firmware.inputs (steps_of flags firmware bytes) 0 0 [] posts under.turns
+      let at_end = lasts c.firmware.inputs (steps_of flags c.firmware bytes) 0 0 [] posts under.turns
       under.turns_are some in
       (at_end.0, of_turns ∙ at_end.1)
 
-  of_block : AreAnswersOf Byte block firmware.instr_bound (λ o. 0) (map (bytes_of bytes) (answered_samples report))
-      (map answer_in told)
+  of_block : AreAnswersOf Byte c.block report.bound (λ o. 0) (map (bytes_of bytes) (answered_samples report))
+      (map answer_in report.answers)
   of_block =
-      subst (λ (ks : List ℕ). AreAnswersOf Byte block firmware.instr_bound (λ o. 0) (map (bytes_of bytes) ks)
-      (map answer_in told)) (sym of_turns)
-      (subst (λ (w : Width). AreAnswersOf w block firmware.instr_bound (λ o. 0)
-      (map (bytes_of bytes) (samples_of under.turns)) (map answer_in told)) width under.of_block)
+      subst (λ (ks : List ℕ). AreAnswersOf Byte c.block report.bound (λ o. 0) (map (bytes_of bytes) ks)
+      (map answer_in report.answers)) (sym of_turns)
+      (subst (λ (w : Width). AreAnswersOf w c.block report.bound (λ o. 0)
+      (map (bytes_of bytes) (samples_of under.turns)) (map answer_in report.answers)) width under.of_block)
 
   posted : All (IsOneOf (length samples)) (answered_samples report)
   posted =
-      let good = good_posts.good.posts_are in
+      let good = a.1.1.1.1.good.posts_are in
       subst (λ (ks : List ℕ). All (IsOneOf (length samples)) ks) (sym of_turns)
-      (answered_of (length samples) firmware.inputs (steps_of flags firmware bytes) 0 0 [] posts under.turns
-      under.turns_are (omega arith)
-      (λ d k lt. (good d k lt).sample_to))
+      (answered_of (length samples) c.firmware.inputs (steps_of flags c.firmware bytes) 0 0 [] posts under.turns
+      under.turns_are (omega arith) (λ d k lt. (good d k lt).sample_to))
 
   pub posts_run : PostedRun kind flags files report
   posts_run = record {
-    block = block;
-    firmware = firmware;
+    block = c.block;
+    firmware = c.firmware;
     samples = samples;
     posts = posts;
     accepts = a;
     ran = ran;
     follows = under;
     last = last;
-    bound = compiled.compiled.0.instructions ∙ ap (λ (w : Width). mailbox_bound w block) width;
-    instructions = of_seen (λ q. q.instructions ≤ firmware.instr_bound) answer_in told
-        (keep Byte block firmware.instr_bound (λ o. 0) (map (bytes_of bytes) (answered_samples report))
-        (map answer_in told) of_block);
-    within = near Byte block firmware.instr_bound accepted.cert errors files.trace samples (answered_samples report)
-        (map answer_in told) compiled.spelled.valid in_range posted of_block accepted.accepted;
+    bound = a.0.compiled.0.instructions ∙ ap (λ (w : Width). mailbox_bound w c.block) width;
+    instructions = of_seen (λ q. q.instructions ≤ report.bound) answer_in report.answers
+        (keep Byte c.block report.bound (λ o. 0) (map (bytes_of bytes) (answered_samples report))
+        (map answer_in report.answers) of_block);
+    within = near Byte c.block report.bound a.1.1.0.cert errors files.trace samples (answered_samples report)
+        (map answer_in report.answers) a.0.spelled.valid a.1.1.1.0 posted of_block a.1.1.0.accepted;
   }
 
 -- ---- its lines
 
-pub posted_written : (begun told taken lines : List (List ℕ)) (final : List ℕ) (es : List ℕ) (bound resumed : ℕ)
+pub posted_written : (begun told taken lines : List (List ℕ)) (es : List ℕ) (bound resumed : ℕ)
     (xs : List declared.Answer) (frames : List (ℕ × Frame)) → begun ≡ begun_lines es bound
     → told ≡ begun ++ counted (λ k x. answer_line k (answer_seen x) ∷ []) 1 xs
     → taken ≡ told ++ map (λ f. taken_line (boundary_seen f)) frames
-    → lines ≡ taken ++ final ∷ [] → final ≡ line (codes "resumed ") resumed
+    → lines ≡ taken ++ line (codes "resumed ") resumed ∷ []
     → lines ≡ mrun_lines (posted_report es bound (map answer_seen xs) (frames_seen frames) resumed)
-posted_written begun told taken lines final es bound resumed xs frames begun_so told_so taken_so added is =
+posted_written begun told taken lines es bound resumed xs frames begun_so told_so taken_so added =
+    let final = line (codes "resumed ") resumed in
     let answers = counted-map (λ k a. answer_line k a ∷ []) answer_seen 1 xs in
     let d = map-map taken_line boundary_seen frames in
     added ∙ made_with told (map (λ f. taken_line (boundary_seen f)) frames) (final ∷ []) taken taken_so
     ∙ made_with begun (counted (λ k x. answer_line k (answer_seen x) ∷ []) 1 xs)
     (map (λ f. taken_line (boundary_seen f)) frames ++ final ∷ []) told told_so
-    ∙ (λ i. begun_so i ++ ((sym answers) i ++ ((sym d) i ++ is i ∷ [])))
+    ∙ (λ i. begun_so i ++ ((sym answers) i ++ ((sym d) i ++ final ∷ [])))
 
 -- ---- what it makes of its files
 
@@ -234,8 +216,9 @@ posts_has samples text (status.Plan f) w = (f, refl, w)
 posts_has samples text s w = absurd w
 
 pub posted_exact : FirmwaresAreExact → ImagesAreExact → CertsAreExact → TracesAreExact → SpelledPostsAreOne
-    → SpelledPostsHaveNoFault → (kind : CertKind) (files : PostedFiles) → AreExact (posted_reading kind files)
-posted_exact firmwares images certs traces one stand kind files = (
+    → SpelledPostsHaveNoFault → PostFaultsAreOne → (kind : CertKind) (files : PostedFiles)
+    → AreExact (posted_reading kind files)
+posted_exact firmwares images certs traces one stand faults kind files = (
   firmwares Mailbox files.fcl,
   λ c compiled. (
     images files.image c.firmware.image,
@@ -251,58 +234,36 @@ posted_exact firmwares images certs traces one stand kind files = (
         exact_of (posts_in samples files.posts) status.Plan (PostsHaveFault samples files.posts) (λ f. tt)
         (posts_has samples files.posts) (one samples files.posts)
         (λ ps f a carries w. stand samples files.posts ps f a w)
+        (λ f g c d v w. faults samples files.posts f g v w)
 
-module _ (mrun : Mrun) (files : PostedFiles) where
-  abbrev reading : Reading (Compiled × (Unit {0} × (List ℕ × (List Sample × List Post))))
-  reading = posted_reading mrun.kind files
+abbrev Given : Type 0
+Given = Compiled × (Unit {0} × (List ℕ × (List Sample × List Post)))
 
-  abbrev posted_given : (output : SeenOutput) → MrunGives mrun files output → GivesSome reading
-  posted_given output a =
-      let p = a.posted in (
-        (record { block = p.block; firmware = p.firmware }, (tt, (a.report.errors, (p.samples, p.posts)))),
+abbrev report_of : ℕ → Given → PostedReport
+report_of flags (c, (held, (errors, (samples, posts)))) = posted_run flags c errors samples posts
+
+module _ (kind : CertKind) (flags : ℕ) (files : PostedFiles) where
+  given : (told : PostedReport) → PostedRun kind flags files told
+      → (b : Given) × Gives (posted_reading kind files) b × (told ≡ report_of flags b)
+  given told p =
+      let alone = p.accepts.0.compiled in
+      let bound : told.bound ≡ p.firmware.instr_bound =
+      p.bound ∙ ap (λ w. mailbox_bound w p.block) (sym alone.1) ∙ sym alone.0.instructions in (
+        (record { block = p.block; firmware = p.firmware }, (tt, (told.errors, (p.samples, p.posts)))),
         p.accepts,
+        (λ i. posted_report told.errors (bound i) (p.ran i).answers (p.ran i).frames (p.ran i).resumed),
       )
 
-  -- its output is one, where what is seen of the files is
-  posted_one : (output other : SeenOutput) (a : MrunGives mrun files output) (b : MrunGives mrun files other)
-      → seen_of reading (posted_given output a).0 ≡ seen_of reading (posted_given other b).0 → output ≡ other
-  posted_one output other a b same =
-      let p = a.posted in
-      let q = b.posted in
-      let run : run_of a.report ≡ run_of b.report =
-      p.ran ∙ (λ i. run_under_posts (same i).0.firmware (same i).1.1.1.0.1 (same i).1.1.1.1 mrun.flags) ∙ sym q.ran in
-      let bound : a.report.bound ≡ b.report.bound =
-      p.bound ∙ (λ i. mailbox_bound Byte (same i).0.block) ∙ sym q.bound in
-      a.output_is
-      ∙ (λ i. only_lines (mrun_lines (record {
-        errors = (same i).1.1.0;
-        bound = bound i;
-        answers = (run i).answers;
-        frames = (run i).frames;
-        resumed = (run i).resumed;
-      })))
-      ∙ sym b.output_is
+  same : (b d : Given) → seen_of (posted_reading kind files) b ≡ seen_of (posted_reading kind files) d
+      → report_of flags b ≡ report_of flags d
+  same b d seen = λ i. (let c = (seen i).0 in
+      let run = run_under_posts c.firmware (seen i).1.1.1.0.1 (seen i).1.1.1.1 flags in
+      posted_report (seen i).1.1.0 c.firmware.instr_bound run.answers run.frames run.resumed)
 
--- accepted files make an output
 pub mrun_settled : ((kind : CertKind) (files : PostedFiles) → AreExact (posted_reading kind files))
     → AnswersKeepTheBound → SpelledBytesFit → PostedAnswersAreNear → LastIsAnswered → AnswersUnderAllPosts
     → MrunIsSettled
-mrun_settled exact keep fit near lasts under mrun files =
-    settled (reading mrun files) (MrunGives mrun files) ((mrun.flags < 2 ^ 8) × GivesSome (reading mrun files))
-    (exact mrun.kind files) (posted_given mrun files) (posted_one mrun files) some
-  where
-    some : (mrun.flags < 2 ^ 8) × GivesSome (reading mrun files) → (output : SeenOutput) × MrunGives mrun files output
-    some (byte, ((c, (held, (errors, (samples, posts)))), a)) =
-        let bytes = map input_bytes samples in
-        let run = run_under_posts c.firmware bytes posts mrun.flags in
-        let spelled : SpellsPosts (length samples) files.posts posts = a.1.1.1.1 in
-        let good : AreGoodPosts (length bytes) posts =
-        subst (λ (n : ℕ). AreGoodPosts n posts) (sym (length-map samples input_bytes)) spelled.good in (
-          _,
-          record {
-            report = posted_report errors c.firmware.instr_bound run.answers run.frames run.resumed;
-            posted = posts_run keep fit near lasts mrun.kind mrun.flags files c.block c.firmware errors samples posts a
-                run.answers run.frames run.resumed refl refl refl (under c.firmware mrun.flags bytes posts byte good);
-            output_is = refl;
-          },
-        )
+mrun_settled exact keep fit near lasts law run files =
+    settled_report (posted_reading run.kind files) run.flags (PostedRun run.kind run.flags files) mrun_lines
+    (report_of run.flags) (exact run.kind files) (given run.kind run.flags files) (same run.kind run.flags files)
+    (λ b byte a. posts_run keep fit near lasts law run.kind run.flags byte files b.0 b.1.1.0 b.1.1.1.0 b.1.1.1.1 a)

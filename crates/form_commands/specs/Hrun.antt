@@ -1,24 +1,17 @@
 -- The commands `hrun FCL HANDLER CERT TRACE PLAN FLAGS`, and `thrun ..` under tight certificates.
 -- Beside the promise.
-use Rattle.std.specs.Prelude.{◌≡◌, ◌<◌, ◌^◌, ℕ, List, [], ◌∷◌, ◌++◌, codes, Option, option_map, Result}
-use Rattle.handled_runs.specs.Forms.{HandledSeen}
-use Rattle.command_parts.specs.{Contents.content_at, Lines.counted}
-use Rattle.box_tree.specs.declared.cert.CertKind.{CertKind}
-use Rattle.command_parts.specs.Readings.{GivesSome, IsSettled, made_of}
-use Rattle.command_parts.specs.SeenOutputs.{SeenOutput, only_lines}
-use Rattle.fz_status.specs.{Words.flags_of, declared.status.Status.Status}
-use Rattle.fz_status.specs.{Words.Text, Words.word_at}
+use Rattle.std.specs.Prelude.{ℕ, List, [], ◌∷◌, ◌++◌, codes, map, Result}
+use Rattle.command_parts.specs.{Contents.content_at, Lines.counted, SeenOutputs.SeenOutput}
+use Rattle.command_parts.specs.declared.{firmware.Compiled.Compiled, handlers.AcceptedHandler.AcceptedHandler}
+use Rattle.fz_status.specs.declared.status.Status.{Status}
+use Rattle.handled_runs.specs.Forms.{HandledSeen, handled_seen}
+use Rattle.interrupt_plan.specs.declared.Request.{Request}
 use Rattle.run_reports.specs.{RowLines.begun_lines, RowLines.labelled_row_lines}
 use Rattle.run_reports.specs.HandledRun.{HandledReport, HandledRun, handled_reading}
 use Rattle.run_reports.specs.declared.files.HandledFiles.{HandledFiles}
-use Rattle.form_commands.specs.declared.hrun.Hrun.{Hrun}
-
-abbrev pub hrun_with : CertKind → ℕ → Hrun
-hrun_with kind flags = record { kind = kind; flags = flags }
-
--- the command of the words, where the last is of the form of FLAGS
-abbrev pub hrun_in : CertKind → List Text → Option Hrun
-hrun_in kind words = option_map (hrun_with kind) (flags_of (word_at words 7))
+use Rattle.trace_io.specs.{Traces.input_bytes, declared.sample.Sample.Sample}
+use Rattle.form_commands.specs.Forms.{AreSettled, made_by}
+use Rattle.form_commands.specs.declared.form_run.FormRun.{FormRun}
 
 -- FCL, HANDLER, CERT, TRACE and PLAN
 abbrev pub hrun_inputs : List ℕ
@@ -41,21 +34,19 @@ handled_row_lines k r = labelled_row_lines (codes " handler ") k r.row r.handler
 abbrev pub hrun_lines : HandledReport → List (List ℕ)
 hrun_lines r = begun_lines r.errors r.bound ++ counted handled_row_lines 1 r.rows
 
-abbrev pub handled_report : List ℕ → ℕ → List HandledSeen → HandledReport
-handled_report errors bound rows = record { errors = errors; bound = bound; rows = rows }
-
 -- ---- what it makes of its files
 
--- the handler's run is certified, and the lines are those of its report
-pub record HrunGives (hrun : Hrun) (files : HandledFiles) (output : SeenOutput) : Type 0 where
-  pub report : HandledReport
-  pub certified : HandledRun hrun.kind hrun.flags files report
-  pub output_is : output ≡ only_lines (hrun_lines report)
+-- the report of the run of what the files give
+abbrev pub handled_report : ℕ → Compiled → AcceptedHandler → List ℕ → List Sample → List Request → HandledReport
+handled_report flags c handler errors samples plan = record {
+  errors = errors;
+  bound = c.firmware.instr_bound;
+  rows = handled_seen c.firmware handler.image.bytes (map input_bytes samples) plan flags;
+}
 
-abbrev pub HrunMakes : Hrun → HandledFiles → Result SeenOutput Status → Type 0
-HrunMakes hrun files = made_of (handled_reading hrun.kind files) (HrunGives hrun files)
+abbrev pub HrunMakes : FormRun → HandledFiles → Result SeenOutput Status → Type 0
+HrunMakes = made_by handled_reading HandledRun hrun_lines
 
--- files make at most one output, and then no fault; and one where they are accepted
 abbrev pub HrunIsSettled : Type 0
-HrunIsSettled = (hrun : Hrun) (files : HandledFiles)
-    → IsSettled (HrunMakes hrun files) ((hrun.flags < 2 ^ 8) × GivesSome (handled_reading hrun.kind files))
+HrunIsSettled = AreSettled handled_reading HandledRun hrun_lines
+    (λ flags b. handled_report flags b.0 b.1.0 b.1.1.0 b.1.1.1.0 b.1.1.1.1)

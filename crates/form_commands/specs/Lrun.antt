@@ -1,32 +1,23 @@
 -- The commands `lrun SLOW FAST IMAGE SCERT FCERT STRACE FTRACE LEVELS FLAGS`,
 -- and `tlrun ..` under tight certificates.
 -- Beside the promise.
-use Rattle.std.specs.Prelude.{◌≡◌, ◌<◌, ◌^◌, ℕ, ◌-◌, List, [], ◌∷◌, ◌++◌, codes, decimal, Option, Some}
-use Rattle.std.specs.Prelude.{map}
-use Rattle.std.specs.Prelude.{None, option_map, Result}
+use Rattle.std.specs.Prelude.{ℕ, ◌-◌, List, [], ◌∷◌, ◌++◌, codes, decimal, Option, Some, None, map, Result}
 use Rattle.std.specs.List.{slice_index_or}
-use Rattle.cpu12_emul.specs.Take.{FrameSeen}
-use Rattle.two_level_runs.specs.{Rows.TwoSeen, Runs.FastSeen}
-use Rattle.fz_shelf.specs.Parts.{ended}
-use Rattle.fz_status.specs.{Words.Text, Words.word_at}
-use Rattle.fz_status.specs.declared.status.Status.{Status}
-use Rattle.command_parts.specs.{Contents.content_at}
-use Rattle.box_tree.specs.declared.cert.CertKind.{CertKind}
-use Rattle.command_parts.specs.Readings.{GivesSome, IsSettled, made_of}
-use Rattle.command_parts.specs.SeenOutputs.{SeenOutput, only_lines}
+use Rattle.command_parts.specs.{Contents.content_at, SeenOutputs.SeenOutput}
 use Rattle.command_parts.specs.Lines.{counted, error_lines, line}
-use Rattle.fz_status.specs.Words.{flags_of}
+use Rattle.command_parts.specs.declared.twos.CompiledTwo.{CompiledTwo}
+use Rattle.cpu12_emul.specs.Take.{FrameSeen}
+use Rattle.fz_shelf.specs.Parts.{ended}
+use Rattle.fz_status.specs.declared.status.Status.{Status}
+use Rattle.interrupt_plan.specs.declared.levels.Level.{Level}
 use Rattle.run_reports.specs.LevelRun.{LevelReport, LevelRun, level_reading}
 use Rattle.run_reports.specs.RowLines.{answers_told, frame_line, frame_told, sample_told}
 use Rattle.run_reports.specs.declared.files.LevelFiles.{LevelFiles}
-use Rattle.form_commands.specs.declared.lrun.Lrun.{Lrun}
-
-abbrev pub lrun_with : CertKind → ℕ → Lrun
-lrun_with kind flags = record { kind = kind; flags = flags }
-
--- the command of the words, where the last is of the form of FLAGS
-abbrev pub lrun_in : CertKind → List Text → Option Lrun
-lrun_in kind words = option_map (lrun_with kind) (flags_of (word_at words 10))
+use Rattle.trace_io.specs.{Traces.input_bytes, declared.sample.Sample.Sample}
+use Rattle.two_level_code.specs.Images.{fast_most}
+use Rattle.two_level_runs.specs.{Rows.TwoSeen, Rows.two_seen, Runs.FastSeen}
+use Rattle.form_commands.specs.Forms.{AreSettled, made_by}
+use Rattle.form_commands.specs.declared.form_run.FormRun.{FormRun}
 
 -- SLOW, FAST, IMAGE, SCERT, FCERT, STRACE, FTRACE and LEVELS
 abbrev pub lrun_inputs : List ℕ
@@ -85,16 +76,15 @@ level_report errors fast_errors bound fast_bound rows =
 
 -- ---- what it makes of its files
 
--- the run is one of the files, and the lines are those of its report
-pub record LrunGives (lrun : Lrun) (files : LevelFiles) (output : SeenOutput) : Type 0 where
-  pub report : LevelReport
-  pub at_levels : LevelRun lrun.kind lrun.flags files report
-  pub output_is : output ≡ only_lines (lrun_lines report)
+-- the report of the run of what the files give
+abbrev pub level_run : ℕ → CompiledTwo → List ℕ → List ℕ → List Sample → List Sample → List Level → LevelReport
+level_run flags c errors fast_errors samples fast_samples levels =
+    level_report errors fast_errors c.two.slow.instr_bound (fast_most c.two.fast.instr_bound)
+    (two_seen c.two (map input_bytes samples) (map input_bytes fast_samples) levels flags)
 
-abbrev pub LrunMakes : Lrun → LevelFiles → Result SeenOutput Status → Type 0
-LrunMakes lrun files = made_of (level_reading lrun.kind files) (LrunGives lrun files)
+abbrev pub LrunMakes : FormRun → LevelFiles → Result SeenOutput Status → Type 0
+LrunMakes = made_by level_reading LevelRun lrun_lines
 
--- files make at most one output, and then no fault; and one where they are accepted
 abbrev pub LrunIsSettled : Type 0
-LrunIsSettled = (lrun : Lrun) (files : LevelFiles)
-    → IsSettled (LrunMakes lrun files) ((lrun.flags < 2 ^ 8) × GivesSome (level_reading lrun.kind files))
+LrunIsSettled = AreSettled level_reading LevelRun lrun_lines
+    (λ flags b. level_run flags b.0 b.1.1.0 b.1.1.1.0 b.1.1.1.1.0 b.1.1.1.1.1.0 b.1.1.1.1.1.1)

@@ -1,27 +1,19 @@
 -- The commands `mrun FCL IMAGE CERT TRACE POSTS FLAGS`, and `tmrun ..` under tight certificates.
 -- Beside the promise.
-use Rattle.std.specs.Prelude.{◌≡◌, ◌<◌, ◌^◌, ℕ, List, [], ◌∷◌, ◌++◌, codes, decimal, map, Option, option_map, Result}
+use Rattle.std.specs.Prelude.{ℕ, List, [], ◌∷◌, ◌++◌, codes, decimal, map, Result}
+use Rattle.command_parts.specs.{Contents.content_at, Lines.counted, Lines.line, SeenOutputs.SeenOutput}
+use Rattle.command_parts.specs.declared.firmware.Compiled.{Compiled}
 use Rattle.cpu12_emul.specs.Take.{FrameSeen}
-use Rattle.mailbox_runs.specs.Runs.{AnswerSeen}
 use Rattle.fz_shelf.specs.Parts.{ended}
-use Rattle.fz_status.specs.{Words.Text, Words.word_at}
 use Rattle.fz_status.specs.declared.status.Status.{Status}
-use Rattle.command_parts.specs.{Contents.content_at, Lines.counted, Lines.line}
-use Rattle.box_tree.specs.declared.cert.CertKind.{CertKind}
-use Rattle.command_parts.specs.Readings.{GivesSome, IsSettled, made_of}
-use Rattle.command_parts.specs.SeenOutputs.{SeenOutput, only_lines}
-use Rattle.fz_status.specs.Words.{flags_of}
+use Rattle.interrupt_plan.specs.declared.Post.{Post}
+use Rattle.mailbox_runs.specs.Runs.{AnswerSeen, run_under_posts}
 use Rattle.run_reports.specs.PostedRun.{PostedReport, PostedRun, posted_reading}
 use Rattle.run_reports.specs.RowLines.{answered, begun_lines, frame_told}
 use Rattle.run_reports.specs.declared.files.PostedFiles.{PostedFiles}
-use Rattle.form_commands.specs.declared.mrun.Mrun.{Mrun}
-
-abbrev pub mrun_with : CertKind → ℕ → Mrun
-mrun_with kind flags = record { kind = kind; flags = flags }
-
--- the command of the words, where the last is of the form of FLAGS
-abbrev pub mrun_in : CertKind → List Text → Option Mrun
-mrun_in kind words = option_map (mrun_with kind) (flags_of (word_at words 7))
+use Rattle.trace_io.specs.{Traces.input_bytes, declared.sample.Sample.Sample}
+use Rattle.form_commands.specs.Forms.{AreSettled, made_by}
+use Rattle.form_commands.specs.declared.form_run.FormRun.{FormRun}
 
 -- FCL, IMAGE, CERT, TRACE and POSTS
 abbrev pub mrun_inputs : List ℕ
@@ -64,16 +56,15 @@ mrun_lines r = begun_lines r.errors r.bound ++ (counted (λ k a. answer_line k a
 
 -- ---- what it makes of its files
 
--- the run is one of the files, and the lines are those of its report
-pub record MrunGives (mrun : Mrun) (files : PostedFiles) (output : SeenOutput) : Type 0 where
-  pub report : PostedReport
-  pub posted : PostedRun mrun.kind mrun.flags files report
-  pub output_is : output ≡ only_lines (mrun_lines report)
+-- the report of the run of what the files give
+abbrev pub posted_run : ℕ → Compiled → List ℕ → List Sample → List Post → PostedReport
+posted_run flags c errors samples posts =
+    let run = run_under_posts c.firmware (map input_bytes samples) posts flags in
+    posted_report errors c.firmware.instr_bound run.answers run.frames run.resumed
 
-abbrev pub MrunMakes : Mrun → PostedFiles → Result SeenOutput Status → Type 0
-MrunMakes mrun files = made_of (posted_reading mrun.kind files) (MrunGives mrun files)
+abbrev pub MrunMakes : FormRun → PostedFiles → Result SeenOutput Status → Type 0
+MrunMakes = made_by posted_reading PostedRun mrun_lines
 
--- files make at most one output, and then no fault; and one where they are accepted
 abbrev pub MrunIsSettled : Type 0
-MrunIsSettled = (mrun : Mrun) (files : PostedFiles)
-    → IsSettled (MrunMakes mrun files) ((mrun.flags < 2 ^ 8) × GivesSome (posted_reading mrun.kind files))
+MrunIsSettled = AreSettled posted_reading PostedRun mrun_lines
+    (λ flags b. posted_run flags b.0 b.1.1.0 b.1.1.1.0 b.1.1.1.1)

@@ -2,48 +2,37 @@
 //! handler's code.
 ghost use Rattle.std.specs.Prelude.{◌≡◌, ◌≤◌, ◌++◌, length, IfOk, IfErr};
 ghost use Rattle.std.specs.List.{All};
-ghost use Rattle.fz_status.specs.Words.{texts_of};
 ghost use Rattle.command_parts.specs.{Contents.bytes_of, Lines.counted, Readings.IsRefused};
 ghost use Rattle.command_parts.specs.SeenOutputs.{IsResultOf};
 ghost use Rattle.run_reports.specs.{HandledRun.AcceptsHandled, HandledRun.handled_reading, RowLines.begun_lines};
-ghost use Rattle.run_reports.specs.declared.files.HandledFiles.{HandledFiles};
-ghost use Rattle.form_commands.specs.Hrun.{HrunMakes, handled_files, handled_row_lines, hrun_in};
+ghost use Rattle.run_reports.specs.{Settled.PutsLines, declared.files.HandledFiles.HandledFiles};
+ghost use Rattle.interrupt_plan.specs.Plans.{IsGood};
+ghost use Rattle.form_commands.specs.Hrun.{HrunMakes, handled_files, handled_report, handled_row_lines, hrun_lines};
 ghost use Rattle.handled_runs.specs.Forms.{row_seen};
 
+use crate::form_run::FormRun;
 use crate::laws::hrun_is_settled;
-use alone_runs::laws::answers_under_plans;
 use box_tree::CertKind;
 use byte_scaling::Width;
 use command_parts::contents::Content;
 use command_parts::firmware::{Compiled, Form, firmware_of};
 use command_parts::handlers::{AcceptedHandler, handler_of};
 use command_parts::output::Output;
-use command_parts::words::flags;
 use fz_shelf::Line;
-use fz_status::{Status, word};
+use fz_status::Status;
 use handled_runs::{HandledRow, run_handler};
 use run_reports::files::{HandledFiles, InputFiles};
 use run_reports::inputs::{Inputs, inputs_of};
-use run_reports::laws::{answers_are_reported, spelled_bytes_fit};
 use run_reports::row_lines::{begun, push_labelled_row};
 use std::alloc::{AllocError, Global};
 
-/// `hrun FCL HANDLER CERT TRACE PLAN FLAGS`, and `thrun ..` under tight certificates
-#[derive(Clone, Copy)]
-pub struct Hrun {
-    /// What the certificate's leaves say.
-    kind: CertKind,
-    /// The condition codes that the machine leaves open.
-    flags: u8,
-}
-
-/// The words FCL, HANDLER, CERT, TRACE and PLAN.
+/// The indices of the words FCL, HANDLER, CERT, TRACE and PLAN.
 pub static INPUTS: [u32; 5] = [2, 3, 4, 5, 6];
 
-/// The place of the word FLAGS.
-const FLAGS: u32 = 7;
+/// The index of the word FLAGS.
+pub const FLAGS: u32 = 7;
 
-/// Their contents.
+/// The contents of the files of [`INPUTS`], by name.
 pub fn files_of(contents: &[Vec<u8>]) -> HandledFiles<'_>
     requires { All (λ c. length c.items ≤ 1048576) contents.now }
     ensures { result ≡ handled_files (bytes_of contents.now) }
@@ -59,7 +48,7 @@ pub fn files_of(contents: &[Vec<u8>]) -> HandledFiles<'_>
     }
 }
 
-/// What the files give, where all of them are accepted.
+/// What the files give, if all of them are accepted.
 #[derive(Drop)]
 struct Accepted {
     compiled: Compiled,
@@ -84,42 +73,39 @@ impl Accepted {
             inputs,
         })
     }
-}
 
-impl Hrun {
-    /// The command of these words.
-    pub fn of(kind: CertKind, words: &[String]) -> Option<Hrun>
-        ensures { result ≡ hrun_in kind (texts_of words.now) }
+    /// The lines of the run.
+    fn output(&self, alloc: Global, flags: u8) -> Result<Output, Status>
+        requires outputs { self.now.compiled.firmware.outputs ≤ 4 }
+        requires plan { IsGood self.now.inputs.plan }
+        ensures { PutsLines (hrun_lines (handled_report flags self.now.compiled self.now.handler
+            self.now.inputs.errors.items self.now.inputs.samples.items self.now.inputs.plan)) result }
     {
-        let flags = flags(word(words, FLAGS))?;
-        Some(Hrun { kind, flags })
-    }
-
-    /// Runs the samples of the trace under the plan, each interrupt by the handler's code, once all files
-    /// are accepted, and writes down what came of them.
-    pub fn work(self, alloc: Global, files: &HandledFiles) -> Result<Output, Status>
-        ensures { IsResultOf (HrunMakes self files.now) result }
-    {
-        answers_are_reported();
-        answers_under_plans();
-        spelled_bytes_fit();
-        hrun_is_settled();
-        let accepted = Accepted::of(alloc, self.kind, files)?;
-        let firmware = &accepted.compiled.firmware;
+        let firmware = &self.compiled.firmware;
         let rows = run_handler(
             alloc,
             firmware,
-            &accepted.handler.image,
-            &accepted.inputs.samples,
-            &accepted.inputs.plan,
-            self.flags,
+            &self.handler.image,
+            &self.inputs.samples,
+            &self.inputs.plan,
+            flags,
         )?;
-        let lines = lines(alloc, &accepted.inputs.errors, firmware.instr_bound, &rows)?;
+        let lines = lines(alloc, &self.inputs.errors, firmware.instr_bound, &rows)?;
         Ok(Output { lines, file: None })
     }
 }
 
-/// The errors, the bound on instructions, and each sample with its frames.
+/// Checks all files, then runs the samples of the trace under the plan, whose interrupts run the handler's code.
+/// The output has the lines of the run.
+pub fn work(alloc: Global, run: FormRun, files: &HandledFiles) -> Result<Output, Status>
+    ensures { IsResultOf (HrunMakes run files.now) result }
+{
+    hrun_is_settled();
+    let accepted = Accepted::of(alloc, run.kind, files)?;
+    accepted.output(alloc, run.flags)
+}
+
+/// The lines of the errors, the bound on instructions, and each sample with its frames.
 fn lines(
     alloc: Global,
     errors: &[u32],

@@ -8,17 +8,17 @@ ghost use Rattle.command_parts.specs.Lines.{counted};
 ghost use Rattle.form_commands.specs.Lrun.{fast_line, fast_lines, inner_line, level_begun_lines};
 ghost use Rattle.form_commands.specs.Lrun.{level_report, level_row_lines, lrun_lines, outer_lines};
 
-use command_parts::lines::{labelled, push_errors};
+use command_parts::lines::push_errors;
 use fz_shelf::Line;
 use run_reports::row_lines::{
-    labelled_frame, line_of_frame, push_answers, push_count, told_sample,
+    labelled_frame, line_of_frame, push_answers, push_count, push_labelled, told_sample,
 };
 use std::alloc::{AllocError, Global};
 use std::fmt::Write;
 use two_level_code::Two;
 use two_level_runs::{FastRow, InnerFrame, TwoRow};
 
-/// The errors and the bounds of both blocks, and each slow sample with its frames and the fast runs in them.
+/// The lines of the errors and bounds of both blocks, and of each slow sample with its frames and fast runs.
 pub(crate) fn lines(
     alloc: Global,
     errors: &[u32],
@@ -34,7 +34,7 @@ pub(crate) fn lines(
     Ok(lines)
 }
 
-/// The errors and the bounds on instructions, with which they begin.
+/// The lines at the beginning: the errors and the bounds on instructions.
 fn begun(
     alloc: Global,
     errors: &[u32],
@@ -47,12 +47,14 @@ fn begun(
     let mut lines = Vec::new(alloc);
     push_errors(alloc, &mut lines, "error ", errors)?;
     push_errors(alloc, &mut lines, "fast error ", fast_errors)?;
-    lines.push(labelled(alloc, "instructions ", u128::from(two.slow.instr_bound))?)?;
-    lines.push(labelled(alloc, "fast instructions ", u128::from(two.fast_bound()))?)?;
+    let bound = u128::from(two.slow.instr_bound);
+    let fast_bound = u128::from(two.fast_bound());
+    push_labelled(alloc, &mut lines, "instructions ", bound)?;
+    push_labelled(alloc, &mut lines, "fast instructions ", fast_bound)?;
     Ok(lines)
 }
 
-/// Each slow sample with its frames and the fast runs in them.
+/// The lines of each slow sample with its frames and the fast runs in them.
 fn push_rows(alloc: Global, lines: &mut Vec<Line>, rows: &[TwoRow]) -> Result<(), AllocError>
     ensures { OnOk result (lines.new.items ≡ lines.old.items
         ++ counted (λ k r. level_row_lines k (row_seen r)) 1 rows.now) }
@@ -63,7 +65,7 @@ fn push_rows(alloc: Global, lines: &mut Vec<Line>, rows: &[TwoRow]) -> Result<()
     Ok(())
 }
 
-/// The k-th slow sample.
+/// The lines of the k-th slow sample.
 fn push_row(alloc: Global, lines: &mut Vec<Line>, k: usize, row: &TwoRow) -> Result<(), AllocError>
     ensures { OnOk result (lines.new.items
         ≡ lines.old.items ++ level_row_lines k (row_seen row.now)) }
@@ -73,7 +75,7 @@ fn push_row(alloc: Global, lines: &mut Vec<Line>, k: usize, row: &TwoRow) -> Res
     Ok(())
 }
 
-/// The frames of the k-th slow sample, each before the fast run in its interrupt.
+/// The lines of the k-th slow sample's frames, each followed by the fast run in its interrupt.
 fn push_outer(
     alloc: Global,
     lines: &mut Vec<Line>,
@@ -91,7 +93,7 @@ fn push_outer(
     Ok(())
 }
 
-/// The fast run in the interrupt of this place, if there is one.
+/// The lines of the fast run in the interrupt at this index, if there is one.
 fn push_fast(
     alloc: Global,
     lines: &mut Vec<Line>,
@@ -107,7 +109,7 @@ fn push_fast(
     }
 }
 
-/// A fast run with its frames.
+/// The lines of a fast run with its frames.
 fn push_run(alloc: Global, lines: &mut Vec<Line>, fast: &FastRow) -> Result<(), AllocError>
     ensures { OnOk result (lines.new.items
         ≡ lines.old.items ++ fast_lines (Some (fast_seen fast.now))) }
@@ -117,7 +119,7 @@ fn push_run(alloc: Global, lines: &mut Vec<Line>, fast: &FastRow) -> Result<(), 
     Ok(())
 }
 
-/// The frames of a fast run.
+/// The lines of a fast run's frames.
 fn push_inner(alloc: Global, lines: &mut Vec<Line>, frames: &[InnerFrame]) -> Result<(), AllocError>
     ensures { OnOk result (lines.new.items
         ≡ lines.old.items ++ map (λ f. inner_line (inner_seen f)) frames.now) }

@@ -1,12 +1,13 @@
-//! The commands that run the further forms of firmware and of handlers: `hrun`, whose interrupts run a handler's code
-//! (`HandledRun`), `lrun`, of two blocks at two levels (`LevelRun`), `mrun`, of the mailbox form under posts
-//! (`PostedRun`), and `srun`, of watched tables under upsets (`WatchedRun`).
+//! The commands that run the other forms of firmware: `hrun`, whose interrupts run a handler's code (`HandledRun`),
+//! `lrun`, of two blocks at two levels (`LevelRun`), `mrun`, of the mailbox form under posts (`PostedRun`), and
+//! `srun`, of watched tables under upsets (`WatchedRun`).
 //!
-//! Each is one module, with the form of its words, the places of its files among them (`INPUTS`), and
-//! `work`, which makes of the files' contents the lines to put, or the status of their first fault.
-//! Each has a law that contents of which it makes something have no fault.
+//! Each is one module, with the indices of its words (`INPUTS` and `FLAGS`), which give a [`form_run::FormRun`], and
+//! `work`, which makes the lines to put from the files' contents, or gives the status of their first fault.
+//! Each has a law that contents with an output have no fault, and that accepted contents have one.
 #![tactic(auto)]
 
+pub mod form_run;
 pub mod hrun;
 pub mod laws;
 mod level_lines;

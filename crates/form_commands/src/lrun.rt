@@ -3,21 +3,21 @@
 ghost use Rattle.std.specs.Prelude.{◌≡◌, ◌≤◌, length, IfOk, IfErr};
 ghost use Rattle.std.specs.List.{All};
 ghost use Rattle.fuzzy_meaning.specs.Blocks.{IsValid};
-ghost use Rattle.interrupt_plan.specs.Levels.{SpellsLevels};
-ghost use Rattle.fz_status.specs.{Refusals.IsRefusal, Words.texts_of};
+ghost use Rattle.interrupt_plan.specs.Levels.{AreGoodLevels, SpellsLevels};
+ghost use Rattle.fz_status.specs.{Refusals.IsRefusal};
 ghost use Rattle.command_parts.specs.Contents.{bytes_of};
 ghost use Rattle.command_parts.specs.SeenOutputs.{IsResultOf};
 ghost use Rattle.byte_scaling.specs.declared.width.Width.TheVariants.{Byte};
 ghost use Rattle.trace_io.specs.Traces.{Spells as SpellsTrace};
 ghost use Rattle.command_parts.specs.{Certs.AcceptsCert, Certs.cert_in, Readings.IsRefused, Readings.for_fast};
-ghost use Rattle.run_reports.specs.{Inputs.trace_in, LevelRun.AcceptsLevels, LevelRun.level_reading};
+ghost use Rattle.run_reports.specs.{Inputs.trace_in, LevelRun.AcceptsLevelInputs, LevelRun.level_inputs};
 ghost use Rattle.run_reports.specs.LevelRun.{levels_refusals};
-ghost use Rattle.run_reports.specs.declared.files.LevelFiles.{LevelFiles};
-ghost use Rattle.form_commands.specs.Lrun.{LrunMakes, level_files, lrun_in};
+ghost use Rattle.run_reports.specs.{Settled.PutsLines, declared.files.LevelFiles.LevelFiles};
+ghost use Rattle.form_commands.specs.Lrun.{LrunMakes, level_files, level_run, lrun_lines};
 
+use crate::form_run::FormRun;
 use crate::laws::lrun_is_settled;
 use crate::level_lines::lines;
-use alone_runs::laws::answers_under_plans;
 use box_tree::CertKind;
 use byte_scaling::Width;
 use command_parts::certs::errors_under;
@@ -25,38 +25,23 @@ use command_parts::contents::Content;
 use command_parts::images::require_image;
 use command_parts::output::Output;
 use command_parts::twos::{CompiledTwo, two_of};
-use command_parts::words::flags;
 use fuzzy_meaning::Block;
-use fz_status::{Status, word};
+use fz_status::Status;
 use interrupt_plan::{Levels, read_levels};
 use run_reports::files::LevelFiles;
 use run_reports::inputs::samples_of;
-use run_reports::laws::{
-    answers_are_reported, answers_keep_the_bound, posted_answers_are_near, spelled_bytes_fit,
-    spelled_traces_are_short,
-};
+use run_reports::laws::spelled_traces_are_short;
 use std::alloc::Global;
 use trace_io::Sample;
-use two_level_code::laws::alone_has_byte_bounds;
-use two_level_runs::laws::{levels_make_a_plan, rows_are_seen};
 use two_level_runs::run_two;
 
-/// `lrun SLOW FAST IMAGE SCERT FCERT STRACE FTRACE LEVELS FLAGS`, and `tlrun ..` under tight certificates
-#[derive(Clone, Copy)]
-pub struct Lrun {
-    /// What the leaves of both certificates say.
-    kind: CertKind,
-    /// The condition codes that the machine leaves open.
-    flags: u8,
-}
-
-/// The words SLOW, FAST, IMAGE, SCERT, FCERT, STRACE, FTRACE and LEVELS.
+/// The indices of the words SLOW, FAST, IMAGE, SCERT, FCERT, STRACE, FTRACE and LEVELS.
 pub static INPUTS: [u32; 8] = [2, 3, 4, 5, 6, 7, 8, 9];
 
-/// The place of the word FLAGS.
-const FLAGS: u32 = 10;
+/// The index of the word FLAGS.
+pub const FLAGS: u32 = 10;
 
-/// Their contents.
+/// The contents of the files of [`INPUTS`], by name.
 pub fn files_of(contents: &[Vec<u8>]) -> LevelFiles<'_>
     requires { All (λ c. length c.items ≤ 1048576) contents.now }
     ensures { result ≡ level_files (bytes_of contents.now) }
@@ -73,10 +58,9 @@ pub fn files_of(contents: &[Vec<u8>]) -> LevelFiles<'_>
     }
 }
 
-/// What the files give, where all of them are accepted.
+/// What the files besides SLOW and FAST give, if all of them are accepted.
 #[derive(Drop)]
 struct Accepted {
-    compiled: CompiledTwo,
     errors: Vec<u32>,
     fast_errors: Vec<u32>,
     samples: Vec<Sample>,
@@ -85,15 +69,20 @@ struct Accepted {
 }
 
 impl Accepted {
-    /// What the files give, or the first fault in their order.
-    fn of(alloc: Global, kind: CertKind, files: &LevelFiles) -> Result<Accepted, Status>
-        ensures accepted { IfOk result (λ a. AcceptsLevels kind files.now
-            a.compiled.slow a.compiled.fast a.compiled.two a.errors.items a.fast_errors.items
-            a.samples.items a.fast_samples.items a.levels) }
-        ensures fault { IfErr result (IsRefused (level_reading kind files.now)) }
+    /// What they give, or the first fault in their order.
+    fn of(
+        alloc: Global,
+        kind: CertKind,
+        compiled: &CompiledTwo,
+        files: &LevelFiles,
+    ) -> Result<Accepted, Status>
+        requires slow { IsValid compiled.now.slow }
+        requires fast { IsValid compiled.now.fast }
+        ensures accepted { IfOk result (λ a. AcceptsLevelInputs kind files.now compiled.now
+            a.errors.items a.fast_errors.items a.samples.items a.fast_samples.items a.levels) }
+        ensures fault { IfErr result (IsRefused (level_inputs kind files.now compiled.now)) }
     {
         spelled_traces_are_short();
-        let compiled = two_of(alloc, &files.slow, &files.fast)?;
         require_image(alloc, &files.image, &compiled.two.image)?;
         let errors = errors_under(alloc, kind, Width::Byte, &compiled.slow, &files.slow_cert)?;
         let fast_errors = fast_errors_of(alloc, kind, &compiled.fast, &files.fast_cert)?;
@@ -101,7 +90,6 @@ impl Accepted {
         let fast_samples = fast_samples_of(alloc, &compiled.fast, &files.fast_trace)?;
         let levels = levels_of(alloc, &files.levels, &fast_samples)?;
         Ok(Accepted {
-            compiled,
             errors,
             fast_errors,
             samples,
@@ -109,47 +97,40 @@ impl Accepted {
             levels,
         })
     }
-}
 
-impl Lrun {
-    /// The command of these words.
-    pub fn of(kind: CertKind, words: &[String]) -> Option<Lrun>
-        ensures { result ≡ lrun_in kind (texts_of words.now) }
+    /// The lines of the run.
+    fn output(&self, alloc: Global, compiled: &CompiledTwo, flags: u8) -> Result<Output, Status>
+        requires outputs { (compiled.now.two.slow.outputs ≤ 4) × (compiled.now.two.fast.outputs ≤ 4) }
+        requires levels { AreGoodLevels (length self.now.fast_samples.items) self.now.levels }
+        ensures { PutsLines (lrun_lines (level_run flags compiled.now self.now.errors.items
+            self.now.fast_errors.items self.now.samples.items self.now.fast_samples.items self.now.levels)) result }
     {
-        let flags = flags(word(words, FLAGS))?;
-        Some(Lrun { kind, flags })
-    }
-
-    /// Runs the slow samples under the levels, once all files are accepted, and writes down what came of
-    /// them and of the fast runs.
-    pub fn work(self, alloc: Global, files: &LevelFiles) -> Result<Output, Status>
-        ensures { IsResultOf (LrunMakes self files.now) result }
-    {
-        answers_are_reported();
-        answers_keep_the_bound();
-        posted_answers_are_near();
-        answers_under_plans();
-        levels_make_a_plan();
-        rows_are_seen();
-        alone_has_byte_bounds();
-        spelled_bytes_fit();
-        lrun_is_settled();
-        let accepted = Accepted::of(alloc, self.kind, files)?;
-        let two = &accepted.compiled.two;
+        let two = &compiled.two;
         let rows = run_two(
             alloc,
             two,
-            &accepted.samples,
-            &accepted.fast_samples,
-            &accepted.levels,
-            self.flags,
+            &self.samples,
+            &self.fast_samples,
+            &self.levels,
+            flags,
         )?;
-        let lines = lines(alloc, &accepted.errors, &accepted.fast_errors, two, &rows)?;
+        let lines = lines(alloc, &self.errors, &self.fast_errors, two, &rows)?;
         Ok(Output { lines, file: None })
     }
 }
 
-/// The errors that FCERT is accepted with.
+/// Checks all files, then runs the slow samples under the levels. The output has the lines of the samples and of
+/// the fast runs.
+pub fn work(alloc: Global, run: FormRun, files: &LevelFiles) -> Result<Output, Status>
+    ensures { IsResultOf (LrunMakes run files.now) result }
+{
+    lrun_is_settled();
+    let compiled = two_of(alloc, &files.slow, &files.fast)?;
+    let accepted = Accepted::of(alloc, run.kind, &compiled, files)?;
+    accepted.output(alloc, &compiled, run.flags)
+}
+
+/// The errors with which FCERT is accepted.
 fn fast_errors_of(
     alloc: Global,
     kind: CertKind,

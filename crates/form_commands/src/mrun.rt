@@ -1,16 +1,17 @@
 //! The commands `mrun FCL IMAGE CERT TRACE POSTS FLAGS` and `tmrun ..`: the run of a firmware in the mailbox form, to
 //! which interrupts post samples.
-ghost use Rattle.std.specs.Prelude.{◌≡◌, ◌≤◌, length, IfOk, IfErr};
+ghost use Rattle.std.specs.Prelude.{◌≡◌, ◌+◌, ◌^◌, ◌<◌, ◌≤◌, length, IfOk, IfErr};
 ghost use Rattle.std.specs.List.{All};
-ghost use Rattle.interrupt_plan.specs.Posts.{SpellsPosts};
-ghost use Rattle.fz_status.specs.{Refusals.IsRefusal, Words.texts_of};
+ghost use Rattle.interrupt_plan.specs.Posts.{AreGoodPosts, SpellsPosts};
+ghost use Rattle.fz_status.specs.{Refusals.IsRefusal};
 ghost use Rattle.command_parts.specs.Contents.{bytes_of};
 ghost use Rattle.command_parts.specs.SeenOutputs.{IsResultOf};
 ghost use Rattle.command_parts.specs.Readings.{IsRefused};
-ghost use Rattle.form_commands.specs.Mrun.{MrunMakes, mrun_in, posted_files};
+ghost use Rattle.form_commands.specs.Mrun.{MrunMakes, mrun_lines, posted_files, posted_run};
 ghost use Rattle.run_reports.specs.PostedRun.{AcceptsPosted, posted_reading, posts_refusals};
-ghost use Rattle.run_reports.specs.{declared.files.PostedFiles.PostedFiles};
+ghost use Rattle.run_reports.specs.{Settled.PutsLines, declared.files.PostedFiles.PostedFiles};
 
+use crate::form_run::FormRun;
 use crate::laws::mrun_is_settled;
 use crate::posted_lines::lines;
 use box_tree::CertKind;
@@ -20,35 +21,22 @@ use command_parts::contents::Content;
 use command_parts::firmware::{Compiled, Form, firmware_of};
 use command_parts::images::require_image;
 use command_parts::output::Output;
-use command_parts::words::flags;
-use fz_status::{Status, word};
+use fz_status::Status;
 use interrupt_plan::{Posts, read_posts};
-use mailbox_runs::laws::last_is_answered;
 use mailbox_runs::run_posts;
 use run_reports::files::PostedFiles;
 use run_reports::inputs::samples_of;
-use run_reports::laws::{
-    answers_keep_the_bound, posted_answers_are_near, spelled_bytes_fit, spelled_traces_are_short,
-};
+use run_reports::laws::spelled_traces_are_short;
 use std::alloc::Global;
 use trace_io::Sample;
 
-/// `mrun FCL IMAGE CERT TRACE POSTS FLAGS`, and `tmrun ..` under tight certificates
-#[derive(Clone, Copy)]
-pub struct Mrun {
-    /// What the certificate's leaves say.
-    kind: CertKind,
-    /// The condition codes that the machine leaves open.
-    flags: u8,
-}
-
-/// The words FCL, IMAGE, CERT, TRACE and POSTS.
+/// The indices of the words FCL, IMAGE, CERT, TRACE and POSTS.
 pub static INPUTS: [u32; 5] = [2, 3, 4, 5, 6];
 
-/// The place of the word FLAGS.
-const FLAGS: u32 = 7;
+/// The index of the word FLAGS.
+pub const FLAGS: u32 = 7;
 
-/// Their contents.
+/// The contents of the files of [`INPUTS`], by name.
 pub fn files_of(contents: &[Vec<u8>]) -> PostedFiles<'_>
     requires { All (λ c. length c.items ≤ 1048576) contents.now }
     ensures { result ≡ posted_files (bytes_of contents.now) }
@@ -62,7 +50,7 @@ pub fn files_of(contents: &[Vec<u8>]) -> PostedFiles<'_>
     }
 }
 
-/// What the files give, where all of them are accepted.
+/// What the files give, if all of them are accepted.
 #[derive(Drop)]
 struct Accepted {
     compiled: Compiled,
@@ -91,38 +79,29 @@ impl Accepted {
             posts,
         })
     }
-}
 
-impl Mrun {
-    /// The command of these words.
-    pub fn of(kind: CertKind, words: &[String]) -> Option<Mrun>
-        ensures { result ≡ mrun_in kind (texts_of words.now) }
+    /// The lines of the run.
+    fn output(&self, alloc: Global, flags: u8) -> Result<Output, Status>
+        requires outputs { (self.now.compiled.firmware.outputs ≤ 4)
+            × (self.now.compiled.firmware.memory_map.outputs + 8 < 2 ^ 16) }
+        requires posts { AreGoodPosts (length self.now.samples.items) self.now.posts }
+        ensures { PutsLines (mrun_lines (posted_run flags self.now.compiled self.now.errors.items
+            self.now.samples.items self.now.posts)) result }
     {
-        let flags = flags(word(words, FLAGS))?;
-        Some(Mrun { kind, flags })
-    }
-
-    /// Runs the firmware under the posts, once all files are accepted, and writes down what came of them.
-    pub fn work(self, alloc: Global, files: &PostedFiles) -> Result<Output, Status>
-        ensures { IsResultOf (MrunMakes self files.now) result }
-    {
-        answers_keep_the_bound();
-        spelled_bytes_fit();
-        posted_answers_are_near();
-        last_is_answered();
-        mrun_is_settled();
-        let accepted = Accepted::of(alloc, self.kind, files)?;
-        let firmware = &accepted.compiled.firmware;
-        let told = run_posts(
-            alloc,
-            firmware,
-            &accepted.samples,
-            &accepted.posts,
-            self.flags,
-        )?;
-        let lines = lines(alloc, &accepted.errors, firmware.instr_bound, &told)?;
+        let firmware = &self.compiled.firmware;
+        let told = run_posts(alloc, firmware, &self.samples, &self.posts, flags)?;
+        let lines = lines(alloc, &self.errors, firmware.instr_bound, &told)?;
         Ok(Output { lines, file: None })
     }
+}
+
+/// Checks all files, then runs the firmware under the posts. The output has the lines of the run.
+pub fn work(alloc: Global, run: FormRun, files: &PostedFiles) -> Result<Output, Status>
+    ensures { IsResultOf (MrunMakes run files.now) result }
+{
+    mrun_is_settled();
+    let accepted = Accepted::of(alloc, run.kind, files)?;
+    accepted.output(alloc, run.flags)
 }
 
 /// The posts of these samples that a text spells.

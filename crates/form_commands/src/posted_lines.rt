@@ -5,14 +5,13 @@ ghost use Rattle.mailbox_runs.specs.Runs.{answer_seen};
 ghost use Rattle.command_parts.specs.Lines.{counted};
 ghost use Rattle.form_commands.specs.Mrun.{answer_line, mrun_lines, posted_report};
 
-use command_parts::lines::labelled;
 use fz_shelf::Line;
 use mailbox_runs::{Answer, PostRun};
-use run_reports::row_lines::{begun, push_answered, push_labelled_frames};
+use run_reports::row_lines::{begun, push_answered, push_labelled, push_labelled_frames};
 use std::alloc::{AllocError, Global};
 use std::fmt::Write;
 
-/// The errors, the bound on instructions, each answer, each frame, and the number of resumed boundaries.
+/// The lines of the errors, the bound on instructions, each answer, each frame, and the number of resumed boundaries.
 pub(crate) fn lines(
     alloc: Global,
     errors: &[u32],
@@ -25,11 +24,11 @@ pub(crate) fn lines(
     let mut lines = begun(alloc, errors, bound)?;
     push_answers(alloc, &mut lines, &run.answers)?;
     push_labelled_frames(alloc, &mut lines, "frame ", &run.frames)?;
-    lines.push(labelled(alloc, "resumed ", u128::from(run.resumed))?)?;
+    push_labelled(alloc, &mut lines, "resumed ", u128::from(run.resumed))?;
     Ok(lines)
 }
 
-/// Each answer.
+/// The line of each answer.
 fn push_answers(alloc: Global, lines: &mut Vec<Line>, answers: &[Answer]) -> Result<(), AllocError>
     ensures { OnOk result (lines.new.items ≡ lines.old.items
         ++ counted (λ k a. answer_line k (answer_seen a) ∷ []) 1 answers.now) }

@@ -10,7 +10,7 @@ use Rattle.command_parts.proofs.Algebra.{settled}
 use Rattle.command_parts.specs.{Certs.HalvingsAreExact, Firmwares.GivenBlocksHaveFirmware, Lines.error_lines}
 use Rattle.command_parts.specs.{Readings.GivesSome, SeenOutputs.SeenOutput, SeenOutputs.only_lines}
 use Rattle.command_parts.specs.declared.firmware.Form.TheVariants.{Alone}
-use Rattle.error_certifier.specs.Halving.{IsHalving}
+use Rattle.error_certifier.specs.{Halving.IsHalvingFor, Targets.targets_of}
 use Rattle.eval_code.specs.Bounds.{instruction_bound}
 use Rattle.run_reports.proofs.Algebra.{rows_ran}
 use Rattle.workload.specs.{Blocks.drawn_block, Draws.draw, Laws.DrawnBlocksAreWithinLimits, Laws.NumbersHaveWorkloads}
@@ -84,7 +84,7 @@ generate_settled halvings once firmwares reported under workloads limits given g
     (halvings Named Byte generated_target (drawn_block (draw number 0 5)) drawn.5.spelled.valid)
     (λ output a. (
       a.cert,
-      subst (λ (b : Block). IsHalving Named b (parts Byte) generated_target a.cert)
+      subst (λ (b : Block). IsHalvingFor Named b (parts Byte) (targets_of b generated_target) a.cert)
           a.workload.block_is a.halving,
     ))
     (λ output other a b same. generate_one once firmwares number output other a b same)
@@ -93,21 +93,20 @@ generate_settled halvings once firmwares reported under workloads limits given g
 -- ---- its lines
 
 pub generate_written : (number bound : ℕ) (es : List ℕ) (rows : List (RowSeen (List ℕ)))
-    (l0 l1 l2 l3 l4 l5 l6 l7 : List (List ℕ)) (s1 s3 s4 s5 s6 s7 : List ℕ)
-    → l0 ≡ [] → l1 ≡ l0 ++ s1 ∷ [] → s1 ≡ line (codes "gen ") number
-    → l2 ≡ l1 ++ error_lines (codes "error ") es
-    → l3 ≡ l2 ++ s3 ∷ [] → s3 ≡ line (codes "instructions ") bound
-    → l4 ≡ l3 ++ s4 ∷ [] → s4 ≡ line (codes "samples ") (length rows)
-    → l5 ≡ l4 ++ s5 ∷ [] → s5 ≡ line (codes "frames ") (frames_of rows)
-    → l6 ≡ l5 ++ s6 ∷ [] → s6 ≡ line (codes "resumed ") (resumed_of rows)
-    → l7 ≡ l6 ++ s7 ∷ [] → s7 ≡ line (codes "sum ") (answers_of rows)
+    (l0 l1 l2 l3 l4 l5 l6 l7 : List (List ℕ)) → l0 ≡ [] → l1 ≡ l0 ++ line (codes "gen ") number ∷ []
+    → l2 ≡ l1 ++ error_lines (codes "error ") es → l3 ≡ l2 ++ line (codes "instructions ") bound ∷ []
+    → l4 ≡ l3 ++ line (codes "samples ") (length rows) ∷ [] → l5 ≡ l4 ++ line (codes "frames ") (frames_of rows) ∷ []
+    → l6 ≡ l5 ++ line (codes "resumed ") (resumed_of rows) ∷ [] → l7 ≡ l6 ++ line (codes "sum ") (answers_of rows) ∷ []
     → l7 ≡ generate_lines number es bound rows
-generate_written number bound es rows l0 l1 l2 l3 l4 l5 l6 l7 s1 s3 s4 s5 s6 s7 start a1 is1 errors a3 is3 a4 is4 a5 is5
-    a6 is6 a7 is7 =
+generate_written number bound es rows l0 l1 l2 l3 l4 l5 l6 l7 start a1 errors a3 a4 a5 a6 a7 =
     let e = error_lines (codes "error ") es in
-    let all : l7 ≡ s1 ∷ (e ++ s3 ∷ s4 ∷ s5 ∷ s6 ∷ s7 ∷ []) =
+    let s1 = line (codes "gen ") number in
+    let s3 = line (codes "instructions ") bound in
+    let s4 = line (codes "samples ") (length rows) in
+    let s5 = line (codes "frames ") (frames_of rows) in
+    let s6 = line (codes "resumed ") (resumed_of rows) in
+    let s7 = line (codes "sum ") (answers_of rows) in
     a7 ∙ made_with l5 (s6 ∷ []) (s7 ∷ []) l6 a6 ∙ made_with l4 (s5 ∷ []) (s6 ∷ s7 ∷ []) l5 a5
     ∙ made_with l3 (s4 ∷ []) (s5 ∷ s6 ∷ s7 ∷ []) l4 a4 ∙ made_with l2 (s3 ∷ []) (s4 ∷ s5 ∷ s6 ∷ s7 ∷ []) l3 a3
     ∙ made_with l1 e (s3 ∷ s4 ∷ s5 ∷ s6 ∷ s7 ∷ []) l2 errors
-    ∙ ap (λ ls. ls ++ (e ++ s3 ∷ s4 ∷ s5 ∷ s6 ∷ s7 ∷ [])) (a1 ∙ ap (λ ls. ls ++ s1 ∷ []) start) in
-    all ∙ (λ i. is1 i ∷ (e ++ is3 i ∷ is4 i ∷ is5 i ∷ is6 i ∷ is7 i ∷ []))
+    ∙ ap (λ ls. ls ++ (e ++ s3 ∷ s4 ∷ s5 ∷ s6 ∷ s7 ∷ [])) (a1 ∙ ap (λ ls. ls ++ s1 ∷ []) start)

@@ -1,6 +1,6 @@
 -- The command `debug FCL IMAGE TRACE PLAN FLAGS SCRIPT`.
 -- Beside the promise.
-use Rattle.std.specs.Prelude.{◌≡◌, ◌<◌, ◌^◌, ℕ, List, [], ◌∷◌, ◌++◌, codes, decimal, map, Option, option_map}
+use Rattle.std.specs.Prelude.{◌≡◌, ℕ, List, [], ◌∷◌, ◌++◌, codes, decimal, map, Option, option_map}
 use Rattle.std.specs.Prelude.{Result, Ok, Err}
 use Rattle.std.specs.List.{flat_map}
 use Rattle.fuzzy_meaning.specs.declared.block.Block.{Block}
@@ -18,12 +18,12 @@ use Rattle.debug_script.specs.declared.{order.Order.Order, shown.Shown.Shown}
 use Rattle.debug_script.specs.declared.shown.Shown.TheVariants.{Stop, Registers, Bytes}
 use Rattle.command_parts.specs.{Contents.content_at, Firmwares.firmware_in, Images.image_in, Lines.counted}
 use Rattle.command_parts.specs.{Lines.registers_told, SeenOutputs.SeenOutput}
-use Rattle.command_parts.specs.Readings.{Gives, GivesSome, IsSettled, Reading, Stage, last, made_of, ◌then◌}
+use Rattle.command_parts.specs.Readings.{Gives, Reading, Stage, last, made_of, ◌then◌}
 use Rattle.command_parts.specs.SeenOutputs.{only_lines}
 use Rattle.command_parts.specs.declared.firmware.{Compiled.Compiled, Form.TheVariants.Alone}
 use Rattle.fz_status.specs.{Words.flags_of, Words.Text, Words.word_at, Refusals.Refusals}
 use Rattle.fz_status.specs.declared.status.Status.{Status}
-use Rattle.run_reports.specs.{Inputs.plan_in, Inputs.trace_in, RowLines.row_lines}
+use Rattle.run_reports.specs.{Inputs.plan_in, Inputs.trace_in, RowLines.row_lines, Settled.IsSettledRun}
 use Rattle.run_commands.specs.declared.debug.{DebugFiles.DebugFiles, DebugRun.DebugRun}
 use Rattle.fz_status.specs.declared.status.Status.TheVariants as status
 
@@ -117,7 +117,13 @@ pub record DebugGives (debug : DebugRun) (files : DebugFiles) (output : SeenOutp
 abbrev pub DebugMakes : DebugRun → DebugFiles → Result SeenOutput Status → Type 0
 DebugMakes debug files = made_of (debug_reading files) (DebugGives debug files)
 
--- files make at most one output, and then no fault; and one where they are accepted
+-- the lines of the run of what the files give
+abbrev pub debug_told : ℕ → Compiled → List Sample → List Request → List Order → List (List ℕ)
+debug_told flags c samples plan script =
+    debug_lines (shown script (run_positions c.firmware flags samples plan))
+    (firmware_rows c.firmware (map input_bytes samples) plan flags).rows
+
 abbrev pub DebugIsSettled : Type 0
 DebugIsSettled = (debug : DebugRun) (files : DebugFiles)
-    → IsSettled (DebugMakes debug files) ((debug.flags < 2 ^ 8) × GivesSome (debug_reading files))
+    → IsSettledRun (debug_reading files) debug.flags (DebugGives debug files)
+    (λ b. debug_told debug.flags b.0 b.1.1.0 b.1.1.1.0 b.1.1.1.1)

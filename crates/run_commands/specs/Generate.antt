@@ -6,7 +6,8 @@ use Rattle.fuzzy_meaning.specs.declared.block.Block.{Block}
 use Rattle.byte_scaling.specs.{Widths.parts, declared.width.Width.TheVariants.Byte}
 use Rattle.alone_code.specs.declared.firmware.Firmware.{Firmware}
 use Rattle.box_tree.specs.declared.{cert.Cert.Cert, cert.CertKind.TheVariants.Named}
-use Rattle.error_certifier.specs.Halving.{IsHalving}
+use Rattle.error_certifier.specs.{Halving.IsHalvingFor, Targets.targets_of, declared.targets.Targets.Targets}
+use Rattle.error_certifier.specs.declared.targets.Targets.TheVariants.{All}
 use Rattle.interrupt_plan.specs.declared.Request.{Request}
 use Rattle.trace_io.specs.declared.sample.Sample.{Sample}
 use Rattle.run_law.specs.Forms.{RowSeen}
@@ -56,8 +57,8 @@ generate_lines number errors bound rows =
 -- ---- what it makes of the number
 
 -- the error that the certificate is not to pass, in millionths of the output's range
-abbrev pub generated_target : ℕ
-generated_target = 400000
+abbrev pub generated_target : Targets
+generated_target = All 400000
 
 -- The texts spell what the number draws: a block, samples and interrupts. The block has this firmware, whose answers
 -- have a byte, and the certificate is that of its halving, accepted with its claims as errors. The report is of the
@@ -74,7 +75,7 @@ pub record GenerateGives (number : ℕ) (output : SeenOutput) : Type 0 where
   pub firmware : Firmware
   pub gives : GivesFirmware (Alone Byte) text block firmware
   pub cert : Cert
-  pub halving : IsHalving Named block (parts Byte) generated_target cert
+  pub halving : IsHalvingFor Named block (parts Byte) (targets_of block generated_target) cert
   pub report : Report
   pub errors : report.errors ≡ cert.claims
   pub reported : IsReportOf Byte 0 block firmware samples requests report

@@ -1,3 +1,4 @@
 pub mod Debug
 pub mod Generate
 pub mod Run
+pub mod Judged

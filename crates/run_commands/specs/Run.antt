@@ -1,18 +1,19 @@
 -- The commands `run FCL IMAGE CERT TRACE PLAN FLAGS`, `run16 ..` with answers of 16 bits, and `trun ..` and `trun16 ..`
 -- under tight certificates.
 -- Beside the promise.
-use Rattle.std.specs.Prelude.{◌≡◌, ◌<◌, ◌^◌, ℕ, List, [], ◌∷◌, Option, option_map, Result}
+use Rattle.std.specs.Prelude.{◌≡◌, ◌<◌, ◌^◌, ℕ, List, [], ◌∷◌, map, Option, option_map, Result}
 use Rattle.fuzzy_meaning.specs.declared.block.Block.{Block}
 use Rattle.alone_code.specs.declared.firmware.Firmware.{Firmware}
+use Rattle.alone_runs.specs.Rows.{firmware_rows}
 use Rattle.box_tree.specs.declared.cert.CertKind.{CertKind}
 use Rattle.byte_scaling.specs.declared.width.Width.{Width}
 use Rattle.interrupt_plan.specs.declared.Request.{Request}
-use Rattle.trace_io.specs.declared.sample.Sample.{Sample}
+use Rattle.trace_io.specs.{Traces.input_bytes, declared.sample.Sample.Sample}
 use Rattle.command_parts.specs.{Contents.content_at, SeenOutputs.SeenOutput, SeenOutputs.only_lines}
-use Rattle.command_parts.specs.Readings.{GivesSome, IsSettled, made_of}
+use Rattle.command_parts.specs.{Readings.made_of, declared.firmware.Compiled.Compiled}
 use Rattle.fz_status.specs.{Words.flags_of, declared.status.Status.Status}
 use Rattle.fz_status.specs.{Words.Text, Words.word_at}
-use Rattle.run_reports.specs.Reports.{Report}
+use Rattle.run_reports.specs.{Reports.Report, Reports.left_of, Reports.report_of, Settled.IsSettledRun}
 use Rattle.run_reports.specs.CertifiedRun.{AcceptsRun, CertifiedRun, run_reading}
 use Rattle.run_reports.specs.declared.files.RunFiles.{RunFiles}
 use Rattle.run_commands.specs.declared.run.Run.{Run}
@@ -54,7 +55,13 @@ AcceptedRunsMakeOutput = (run : Run) (files : RunFiles) (block : Block) (firmwar
     → AcceptsRun run.kind run.width files block firmware errors samples plan
     → (output : SeenOutput) × (gives : RunGives run files output) × (gives.report.errors ≡ errors)
 
--- files make at most one output, and then no fault; and one where they are accepted
+-- the lines of the run of what the files give
+abbrev pub run_told : ℕ → Compiled → List ℕ → List Sample → List Request → List (List ℕ)
+run_told flags c errors samples plan =
+    let all = firmware_rows c.firmware (map input_bytes samples) plan flags in
+    run_lines (report_of errors c.firmware.instr_bound all.rows) (left_of all.state.mem)
+
 abbrev pub RunIsSettled : Type 0
 RunIsSettled = (run : Run) (files : RunFiles)
-    → IsSettled (RunMakes run files) ((run.flags < 2 ^ 8) × GivesSome (run_reading run.kind run.width files))
+    → IsSettledRun (run_reading run.kind run.width files) run.flags (RunGives run files)
+    (λ b. run_told run.flags b.0 b.1.1.0 b.1.1.1.0 b.1.1.1.1)

@@ -7,7 +7,9 @@ ghost use Rattle.command_parts.specs.SeenOutputs.{IsResultOf};
 ghost use Rattle.command_parts.specs.Readings.{IsRefused};
 ghost use Rattle.debug_script.specs.Scripts.{script_of as script_in};
 ghost use Rattle.run_commands.specs.Debug.{DebugMakes, Debugs, debug_files, debug_in};
-ghost use Rattle.run_commands.specs.Debug.{debug_reading, script_refusals};
+ghost use Rattle.run_commands.specs.Debug.{debug_reading, debug_told, script_refusals};
+ghost use Rattle.run_reports.specs.Settled.{PutsLines};
+ghost use Rattle.interrupt_plan.specs.Plans.{IsGood};
 
 use crate::laws::debug_is_settled;
 use crate::shown_lines::lines;
@@ -21,24 +23,24 @@ use debug_script::{Script, ScriptFault, debug, read_script};
 use fz_status::{Status, word};
 use interrupt_plan::Plan;
 use run_reports::inputs::{plan_of, samples_of};
-use run_reports::laws::{spelled_bytes_fit, spelled_traces_are_short};
+use run_reports::laws::spelled_traces_are_short;
 use std::alloc::Global;
 use trace_io::Sample;
 
 /// `debug FCL IMAGE TRACE PLAN FLAGS SCRIPT`
 #[derive(Clone, Copy)]
 pub struct DebugRun {
-    /// The condition codes that the machine leaves open.
+    /// The byte from which the open flags are taken.
     flags: u8,
 }
 
-/// The words FCL, IMAGE, TRACE, PLAN and SCRIPT.
+/// The indices of the words FCL, IMAGE, TRACE, PLAN and SCRIPT.
 pub static INPUTS: [u32; 5] = [2, 3, 4, 5, 7];
 
-/// The place of the word FLAGS.
+/// The index of the word FLAGS.
 const FLAGS: u32 = 6;
 
-/// The files of a run that a script is obeyed over.
+/// The files of a run under a script.
 #[derive(Drop)]
 pub struct DebugFiles<'a> {
     pub fcl: Content<'a>,
@@ -48,7 +50,7 @@ pub struct DebugFiles<'a> {
     pub script: Content<'a>,
 }
 
-/// The contents of [`INPUTS`].
+/// The contents of the files of [`INPUTS`], by name.
 pub fn files_of(contents: &[Vec<u8>]) -> DebugFiles<'_>
     requires { All (λ c. length c.items ≤ 1048576) contents.now }
     ensures { result ≡ debug_files (bytes_of contents.now) }
@@ -62,7 +64,7 @@ pub fn files_of(contents: &[Vec<u8>]) -> DebugFiles<'_>
     }
 }
 
-/// What the files give, where all of them are accepted.
+/// What the files give, if all of them are accepted.
 #[derive(Drop)]
 struct Accepted {
     compiled: Compiled,
@@ -90,6 +92,26 @@ impl Accepted {
             script,
         })
     }
+
+    /// The lines of what the script shows of the run, and those of the run.
+    fn output(&self, alloc: Global, flags: u8) -> Result<Output, Status>
+        requires outputs { self.now.compiled.firmware.outputs ≤ 4 }
+        requires plan { IsGood self.now.plan }
+        requires samples { length self.now.samples.items ≤ 10000 }
+        ensures { PutsLines (debug_told flags self.now.compiled self.now.samples.items self.now.plan
+            self.now.script) result }
+    {
+        let (shown, rows) = debug(
+            alloc,
+            &self.compiled.firmware,
+            &self.samples,
+            &self.plan,
+            flags,
+            self.script.as_slice(),
+        )?;
+        let lines = lines(alloc, &shown, &rows)?;
+        Ok(Output { lines, file: None })
+    }
 }
 
 impl DebugRun {
@@ -101,25 +123,15 @@ impl DebugRun {
         Some(DebugRun { flags })
     }
 
-    /// Runs the samples of the trace under the plan and obeys the script on the way, once all files
-    /// are accepted, and writes down what the script shows and what came of the samples.
+    /// Checks all files, then runs the samples of the trace under the plan and does the script's orders
+    /// on the way. The output has what the script shows, and the lines of the samples.
     pub fn work(self, alloc: Global, files: &DebugFiles) -> Result<Output, Status>
         ensures { IsResultOf (DebugMakes self files.now) result }
     {
-        spelled_bytes_fit();
         spelled_traces_are_short();
         debug_is_settled();
         let accepted = Accepted::of(alloc, files)?;
-        let (shown, rows) = debug(
-            alloc,
-            &accepted.compiled.firmware,
-            &accepted.samples,
-            &accepted.plan,
-            self.flags,
-            accepted.script.as_slice(),
-        )?;
-        let lines = lines(alloc, &shown, &rows)?;
-        Ok(Output { lines, file: None })
+        accepted.output(alloc, self.flags)
     }
 }
 

@@ -1,5 +1,5 @@
-//! The command `gen NUMBER`: a run of a workload, made of its number and certified, that is large enough to
-//! measure by.
+//! The command `gen NUMBER`: the certified run of the workload that a number draws, large enough for
+//! measurements.
 ghost use Rattle.std.specs.Prelude.{◌≡◌, ◌≤◌, length, map, sum, IfOk};
 ghost use Rattle.fuzzy_meaning.specs.Blocks.{IsValid};
 ghost use Rattle.byte_scaling.specs.declared.width.Width.TheVariants.{Byte};
@@ -10,22 +10,26 @@ ghost use Rattle.fz_status.specs.Words.{texts_of};
 ghost use Rattle.command_parts.specs.SeenOutputs.{IsResultOf};
 ghost use Rattle.run_commands.specs.Generate.{GenerateMakes, generate_in, generate_lines};
 ghost use Rattle.run_commands.specs.Generate.{frames_of, resumed_of, answers_of};
+ghost use Rattle.workload.specs.Workloads.{IsWorkload};
 
 use alone_code::{Firmware, compile};
 use alone_runs::{Row, run};
 use box_tree::CertKind;
 use byte_scaling::Width;
 use command_parts::certs::halved;
-use command_parts::lines::{labelled, push_errors};
+use command_parts::lines::push_errors;
 use command_parts::output::Output;
 use command_parts::words::number32_in;
+use error_certifier::Targets;
 use fuzzy_meaning::Block;
 use fz_shelf::Line;
 use fz_status::{Status, word};
 use rule_layout::LayoutFault;
 use rule_layout::laws::limits_have_no_fault;
 use run_reports::laws::answers_are_reported;
+use run_reports::row_lines::push_labelled;
 use std::alloc::{AllocError, Global};
+use workload::Workload;
 use workload::laws::drawn_blocks_are_within_limits;
 
 /// `gen NUMBER`.
@@ -37,16 +41,16 @@ pub struct Generate {
 /// It reads no file.
 pub static INPUTS: [u32; 0] = [];
 
-/// The place of the word NUMBER.
+/// The index of the word NUMBER.
 const NUMBER: u32 = 2;
 
-/// The error that the certificate is not to pass, in millionths of the output's range.
+/// The greatest error allowed for an output, in millionths of its range.
 const TARGET: u32 = 400_000;
 
-/// The condition codes that the machine leaves open.
+/// The byte from which the open flags are taken.
 const FLAGS: u8 = 0;
 
-/// Sums over all rows. They are wide enough for any number of rows.
+/// Sums over all rows. Their type is wide enough for any number of rows.
 #[derive(Clone, Copy)]
 struct Sums {
     frames: u128,
@@ -63,17 +67,27 @@ impl Generate {
         Some(Generate { number })
     }
 
-    /// Makes the workload of the number and its block's certificate, runs its samples under its
-    /// interrupts, and writes down what came of them.
+    /// Draws the workload of the number, finds its block's certificate, and runs its samples under its
+    /// interrupts. The output has the sums of the run.
     pub fn work(self, alloc: Global) -> Result<Output, Status>
+        ensures { IsResultOf (GenerateMakes self) result }
+    {
+        let workload = workload::generate(alloc, self.number)?;
+        self.output(alloc, &workload)
+    }
+
+    /// The output of the workload's run, or why halving its block stops.
+    fn output(self, alloc: Global, workload: &Workload) -> Result<Output, Status>
+        requires { IsWorkload self.number workload.now.text.items workload.now.trace.items
+            workload.now.plan.items workload.now.block workload.now.samples.items workload.now.requests }
         ensures { IsResultOf (GenerateMakes self) result }
     {
         answers_are_reported();
         drawn_blocks_are_within_limits();
-        let workload = workload::generate(alloc, self.number)?;
         let block = &workload.block;
         let firmware = compiled(alloc, block)?;
-        let cert = halved(alloc, CertKind::Named, Width::Byte, TARGET, block)?;
+        let target = Targets::All(TARGET);
+        let cert = halved(alloc, CertKind::Named, Width::Byte, &target, block)?;
         let samples = workload.samples.as_slice();
         let rows = run(alloc, &firmware, samples, &workload.requests, FLAGS)?;
         let errors = cert.claims.as_slice();
@@ -132,7 +146,7 @@ fn sum_of(answers: &[u16]) -> u32
     sum
 }
 
-/// The number, the errors, the bound on instructions, the number of samples, and the sums.
+/// The lines of the number, the errors, the bound on instructions, the number of samples, and the sums.
 fn lines(
     alloc: Global,
     number: u32,
@@ -145,12 +159,12 @@ fn lines(
 {
     let sums = Sums::over(rows);
     let mut lines = Vec::new(alloc);
-    lines.push(labelled(alloc, "gen ", u128::from(number))?)?;
+    push_labelled(alloc, &mut lines, "gen ", u128::from(number))?;
     push_errors(alloc, &mut lines, "error ", errors)?;
-    lines.push(labelled(alloc, "instructions ", u128::from(bound))?)?;
-    lines.push(labelled(alloc, "samples ", rows.len() as u128)?)?;
-    lines.push(labelled(alloc, "frames ", sums.frames)?)?;
-    lines.push(labelled(alloc, "resumed ", sums.resumed)?)?;
-    lines.push(labelled(alloc, "sum ", sums.answers)?)?;
+    push_labelled(alloc, &mut lines, "instructions ", u128::from(bound))?;
+    push_labelled(alloc, &mut lines, "samples ", rows.len() as u128)?;
+    push_labelled(alloc, &mut lines, "frames ", sums.frames)?;
+    push_labelled(alloc, &mut lines, "resumed ", sums.resumed)?;
+    push_labelled(alloc, &mut lines, "sum ", sums.answers)?;
     Ok(lines)
 }

@@ -8,7 +8,9 @@ ghost use Rattle.command_parts.specs.SeenOutputs.{IsResultOf};
 ghost use Rattle.run_reports.specs.{CertifiedRun.AcceptsRun, CertifiedRun.run_reading, Reports.report_of};
 ghost use Rattle.run_reports.specs.{Reports.left_of, RowLines.run_lines};
 ghost use Rattle.run_reports.specs.declared.files.RunFiles.{RunFiles};
-ghost use Rattle.run_commands.specs.Run.{RunMakes, files_in, run_in};
+ghost use Rattle.run_reports.specs.Settled.{PutsLines};
+ghost use Rattle.interrupt_plan.specs.Plans.{IsGood};
+ghost use Rattle.run_commands.specs.Run.{RunMakes, files_in, run_in, run_told};
 
 use crate::laws::run_is_settled;
 use alone_runs::{Row, run_on};
@@ -17,7 +19,6 @@ use byte_scaling::Width;
 use command_parts::contents::Content;
 use command_parts::firmware::{Compiled, Form, firmware_of};
 use command_parts::images::require_image;
-use command_parts::lines::labelled;
 use command_parts::output::Output;
 use command_parts::words::flags;
 use cpu12_isa::mem::Mem;
@@ -26,29 +27,28 @@ use fz_shelf::Line;
 use fz_status::{Status, word};
 use run_reports::files::{InputFiles, RunFiles};
 use run_reports::inputs::{Inputs, inputs_of};
-use run_reports::laws::answers_are_reported;
-use run_reports::row_lines::{begun, push_rows};
+use run_reports::row_lines::{begun, push_labelled, push_rows};
 use std::alloc::{AllocError, Global};
 
 /// `run FCL IMAGE CERT TRACE PLAN FLAGS`, `trun ..` under tight certificates, and both with `16` for answers
 /// of 16 bits.
 #[derive(Clone, Copy)]
 pub struct Run {
-    /// What the certificate's leaves say.
+    /// The kind of the certificate: plain or tight.
     kind: CertKind,
-    /// How wide the firmware's answers are.
+    /// The width of the firmware's answers.
     width: Width,
-    /// The condition codes that the machine leaves open.
+    /// The byte from which the open flags are taken.
     flags: u8,
 }
 
-/// The words FCL, IMAGE, CERT, TRACE and PLAN.
+/// The indices of the words FCL, IMAGE, CERT, TRACE and PLAN.
 pub static INPUTS: [u32; 5] = [2, 3, 4, 5, 6];
 
-/// The place of the word FLAGS.
+/// The index of the word FLAGS.
 const FLAGS: u32 = 7;
 
-/// Their contents.
+/// The contents of the files of [`INPUTS`], by name.
 pub fn files_of(contents: &[Vec<u8>]) -> RunFiles<'_>
     requires { All (λ c. length c.items ≤ 1048576) contents.now }
     ensures { result ≡ files_in (bytes_of contents.now) }
@@ -64,7 +64,7 @@ pub fn files_of(contents: &[Vec<u8>]) -> RunFiles<'_>
     }
 }
 
-/// What the files give, where all of them are accepted.
+/// What the files give, if all of them are accepted.
 #[derive(Drop)]
 struct Accepted {
     compiled: Compiled,
@@ -83,6 +83,27 @@ impl Accepted {
         let inputs = inputs_of(alloc, run.kind, run.width, &compiled.block, &files.inputs)?;
         Ok(Accepted { compiled, inputs })
     }
+
+    /// The lines of the run.
+    fn output(&self, alloc: Global, flags: u8) -> Result<Output, Status>
+        requires outputs { self.now.compiled.firmware.outputs ≤ 4 }
+        requires plan { IsGood self.now.inputs.plan }
+        ensures { PutsLines (run_told flags self.now.compiled self.now.inputs.errors.items
+            self.now.inputs.samples.items self.now.inputs.plan) result }
+    {
+        let firmware = &self.compiled.firmware;
+        let (rows, memory) = run_on::<PageMem>(
+            alloc,
+            firmware,
+            &self.inputs.samples,
+            &self.inputs.plan,
+            flags,
+        )?;
+        let bound = firmware.instr_bound;
+        let left = left_in(&memory);
+        let lines = lines(alloc, &self.inputs.errors, bound, &rows, left)?;
+        Ok(Output { lines, file: None })
+    }
 }
 
 impl Run {
@@ -94,35 +115,18 @@ impl Run {
         Some(Run { kind, width, flags })
     }
 
-    /// Runs the samples of the trace under the plan, once all files are accepted, and writes down what
-    /// came of them.
+    /// Checks all files, then runs the samples of the trace under the plan. The output has the lines of
+    /// the run.
     pub fn work(self, alloc: Global, files: &RunFiles) -> Result<Output, Status>
         ensures { IsResultOf (RunMakes self files.now) result }
     {
-        answers_are_reported();
         run_is_settled();
         let accepted = Accepted::of(alloc, self, files)?;
-        let firmware = &accepted.compiled.firmware;
-        let (rows, memory) = run_on::<PageMem>(
-            alloc,
-            firmware,
-            &accepted.inputs.samples,
-            &accepted.inputs.plan,
-            self.flags,
-        )?;
-        let bound = firmware.instr_bound;
-        let lines = lines(
-            alloc,
-            &accepted.inputs.errors,
-            bound,
-            &rows,
-            left_in(&memory),
-        )?;
-        Ok(Output { lines, file: None })
+        accepted.output(alloc, self.flags)
     }
 }
 
-/// The errors, the bound on instructions, each sample with its frames, and the sum.
+/// The lines of the errors, the bound on instructions, each sample with its frames, and the sum.
 fn lines(
     alloc: Global,
     errors: &[u32],
@@ -135,7 +139,7 @@ fn lines(
 {
     let mut lines = begun(alloc, errors, bound)?;
     push_rows(alloc, &mut lines, rows)?;
-    lines.push(labelled(alloc, "left ", u128::from(left))?)?;
+    push_labelled(alloc, &mut lines, "left ", u128::from(left))?;
     Ok(lines)
 }
 

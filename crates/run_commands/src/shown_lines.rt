@@ -1,4 +1,4 @@
-//! The lines of what a script shows.
+//! The lines that a script shows.
 ghost use Rattle.std.specs.Prelude.{◌≡◌, ◌++◌, map, string_bytes, IfOk, OnOk};
 ghost use Rattle.std.specs.List.{flat_map};
 ghost use Rattle.alone_runs.specs.Rows.{row_seen};
@@ -13,7 +13,7 @@ use run_reports::row_lines::push_rows;
 use std::alloc::{AllocError, Global};
 use std::fmt::Write;
 
-/// What a script shows, and each sample with its frames.
+/// The lines of what a script shows, and of each sample with its frames.
 pub(crate) fn lines(alloc: Global, shown: &[Shown], rows: &[Row]) -> Result<Vec<Line>, AllocError>
     ensures { IfOk result (λ lines. lines.items ≡ debug_lines shown.now (map row_seen rows.now)) }
 {
@@ -23,7 +23,7 @@ pub(crate) fn lines(alloc: Global, shown: &[Shown], rows: &[Row]) -> Result<Vec<
     Ok(lines)
 }
 
-/// What a script shows, a line each.
+/// What a script shows, one line for each item.
 fn push_shown(alloc: Global, lines: &mut Vec<Line>, shown: &[Shown]) -> Result<(), AllocError>
     ensures { OnOk result (lines.new.items ≡ lines.old.items ++ map shown_line shown.now) }
 {
@@ -43,7 +43,7 @@ fn line_of(alloc: Global, item: &Shown) -> Result<Line, AllocError>
     }
 }
 
-/// The line of where a run stands.
+/// The line of a run's position.
 fn line_of_stop(alloc: Global, sample: u32, moment: u32, pc: u16) -> Result<Line, AllocError>
     ensures { IfOk result (λ l. l ≡ shown_line (seen.Stop sample moment pc)) }
 {
@@ -63,7 +63,7 @@ fn line_of_bytes(alloc: Global, at: u16, bytes: &[u8]) -> Result<Line, AllocErro
     Line::of(text)
 }
 
-/// Bytes as two digits each, with a blank before each.
+/// Bytes as two hexadecimal digits each, with a blank before each.
 fn push_bytes(alloc: Global, text: &mut String, bytes: &[u8]) -> Result<(), AllocError>
     ensures { OnOk result (string_bytes text.new ≡ string_bytes text.old ++ flat_map behind_blank bytes.now) }
 {

@@ -1,7 +1,7 @@
--- The lines that all runs tell, and their rows.
-use Rattle.std.proofs.Common.{◌≡◌, ◌<◌, ◌+◌, ℕ, List, [], ◌∷◌, ◌++◌, length, take, get_or, true, refl, sym, ◌∙◌, ap}
-use Rattle.std.proofs.Common.{append_assoc, add-one}
-use Rattle.std.specs.Prelude.{codes, decimal, map}
+-- The lines that all runs tell, their rows, and what the commands make of them.
+use Rattle.std.proofs.Common.{◌≡◌, ◌<◌, ◌+◌, ◌^◌, ℕ, List, [], ◌∷◌, ◌++◌, length, take, get_or, true, refl, sym}
+use Rattle.std.proofs.Common.{◌∙◌, add-one, ap, append_assoc, subst}
+use Rattle.std.specs.Prelude.{codes, decimal, map, Result, Ok, Err}
 use Rattle.std.proofs.Math.Seq.{take-suc}
 use Rattle.std.proofs.lemmas.List.{append-nil}
 use Rattle.std.proofs.lemmas.Simd.{map-map}
@@ -14,8 +14,13 @@ use Rattle.fuzzy_meaning.specs.declared.block.Block.{Block}
 use Rattle.alone_code.specs.declared.firmware.Firmware.{Firmware}
 use Rattle.alone_runs.specs.{Answering.AnswersUnder, Rows.firmware_rows}
 use Rattle.interrupt_plan.specs.declared.Request.{Request}
-use Rattle.command_parts.proofs.Algebra.{made_next, made_with}
+use Rattle.command_parts.proofs.Algebra.{faulted, made_next, made_with, settled}
+use Rattle.command_parts.specs.Readings.{AreExact, Gives, GivesSome, IsRefused, Reading, made_of, seen_of}
+use Rattle.command_parts.specs.SeenOutputs.{IsFaultOf, IsResultOf, SeenOutput, only_lines}
+use Rattle.command_parts.specs.declared.output.Output.{Output}
+use Rattle.fz_status.specs.declared.status.Status.{Status}
 use Rattle.run_reports.specs.RowLines.{answered, answers_told, frame_line, frame_told, numbers, sample_told}
+use Rattle.run_reports.specs.Settled.{IsSettledRun, PutsLines}
 
 numbers-snoc : (ns : List ℕ) (n : ℕ) → numbers (ns ++ n ∷ []) ≡ numbers ns ++ (codes " " ++ decimal n)
 numbers-snoc [] n = ap (λ (l : List ℕ). codes " " ++ l) (append-nil (decimal n))
@@ -116,3 +121,38 @@ pub rows_ran : {b : Block} {f : Firmware} {flags : ℕ} {samples : List (List �
     {rows : List (RowSeen (List ℕ))} → AnswersUnder b f flags samples plan rows
     → rows ≡ (firmware_rows f samples plan flags).rows
 rows_ran a = a.rows_are ∙ sym a.follows.rows_are
+
+-- ---- what commands make of their files
+
+-- the lines that accepted files make, or want of memory
+pub put : {B : Type 0} (r : Reading B) (gives : SeenOutput → Type 0) (lines : List (List ℕ))
+    (result : Result Output Status) → gives (only_lines lines) → PutsLines lines result
+    → IsResultOf (made_of r gives) result
+put r gives lines (Ok output) g is = subst gives (sym is) g
+put r gives lines (Err s) g is = subst (λ t. IsFaultOf (made_of r gives) t) (sym is) tt
+
+-- a command's files are settled where each of its outputs is of accepted files and has the lines of what they give,
+-- which go by what is seen of it, and accepted files make these lines
+pub settled_run : {B : Type 0} (r : Reading B) (flags : ℕ) (gives : SeenOutput → Type 0) (lines : B → List (List ℕ))
+    → AreExact r
+    → ((output : SeenOutput) → gives output → (b : B) × Gives r b × (output ≡ only_lines (lines b)))
+    → ((b d : B) → seen_of r b ≡ seen_of r d → lines b ≡ lines d)
+    → ((b : B) → flags < 2 ^ 8 → Gives r b → gives (only_lines (lines b))) → IsSettledRun r flags gives lines
+settled_run r flags gives lines exact given alike made = record {
+  settled = settled r gives ((flags < 2 ^ 8) × GivesSome r) exact
+      (λ output a. (let g = given output a in (g.0, g.1)))
+      (λ output other a b same. (let g = given output a in
+      let h = given other b in
+      g.2 ∙ ap only_lines (alike g.0 h.0 same) ∙ sym h.2))
+      (λ a. (only_lines (lines a.1.0), made a.1.0 a.0 a.1.1));
+  made = made;
+}
+
+module _ {B : Type 0} {r : Reading B} {flags : ℕ} {gives : SeenOutput → Type 0} {lines : B → List (List ℕ)}
+    (law : IsSettledRun r flags gives lines) where
+  pub worked : (b : B) → flags < 2 ^ 8 → Gives r b → (result : Result Output Status) → PutsLines (lines b) result
+      → IsResultOf (made_of r gives) result
+  worked b byte a result is = put r gives (lines b) result (law.made b byte a) is
+
+  pub refused_files : (s : Status) → IsRefused r s → IsFaultOf (made_of r gives) s
+  refused_files s w = faulted r gives law.settled.contents s w

@@ -11,7 +11,7 @@ use Rattle.fuzzy_meaning.specs.declared.{block.Block.Block, block.Output.Output}
 use Rattle.fuzzy_meaning.specs.{Blocks.AreInputs, Blocks.output_at, Meaning.exact_answer}
 use Rattle.byte_scaling.specs.Cells.{bytes_of, nearest_byte, value_in}
 use Rattle.point_slope.specs.Bytes.{ByteShare, answer_in, byte_shares, centre, resting_answer}
-use Rattle.cert_check.specs.Laws.{AcceptedAnswersAreNear, answer_to}
+use Rattle.cert_check.specs.Laws.{AcceptedAnswersAreNear, answer_to, HasDefaults}
 use Rattle.cpu12_emul.specs.Image.{image_memory}
 use Rattle.alone_code.specs.declared.firmware.Firmware.{Firmware}
 use Rattle.watched_code.specs.Watched.{Watched, is_upset, watched_answer, watched_fault}
@@ -20,7 +20,7 @@ use Rattle.trace_io.specs.Traces.{input_bytes}
 use Rattle.watched_runs.specs.Samples.{change_of, changes_from, with_upsets}
 use Rattle.watched_runs.specs.{Rows.FaultSeen, Answering.AreWatchedRows}
 use Rattle.run_reports.specs.Nearness.{numbers_of}
-use Rattle.run_reports.specs.Faultless.{HasDefaults, NoFaultBefore, FaultlessAnswersAreNear}
+use Rattle.run_reports.specs.Faultless.{NoFaultBefore, FaultlessAnswersAreNear}
 use Rattle.run_reports.proofs.NearRows.{bytes_read, are_inputs, answer_to_next}
 
 -- ---- an answer where FAULT is 0

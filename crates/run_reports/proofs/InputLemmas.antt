@@ -1,17 +1,17 @@
--- What a trace and a plan spell is seen as one thing, and then nothing refuses them.
+-- What a trace and a plan spell is seen as one thing, and then nothing refuses them; and what refuses them is one.
 use Rattle.std.proofs.Common.{◌≡◌, ◌∙◌, ℕ, List, [], ◌∷◌, ap, ap₂, length, refl, subst, sym}
 use Rattle.std.proofs.lemmas.List.{length-map}
 use Rattle.std.specs.Prelude.{Some, map}
 use Rattle.byte_scaling.specs.Cells.{bytes_of}
 use Rattle.fuzzy_meaning.specs.declared.{block.Block.Block, block.Input.Input}
 use Rattle.fz_rows.specs.Laws.{FirstRowsAreOne}
-use Rattle.trace_io.specs.OneReading.{SpelledTracesHaveNoFault}
+use Rattle.trace_io.specs.OneReading.{FirstFaultsAreOne, SpelledTracesHaveNoFault}
 use Rattle.trace_io.specs.Traces.{Fields, HasFault, SpellSamples, Spells, input_bytes}
 use Rattle.trace_io.specs.declared.{sample.Sample.Sample, sample.TraceFault.TraceFault}
 use Rattle.fz_status.specs.declared.status.Status.{Status}
 use Rattle.fz_status.specs.declared.status.Status.TheVariants as status
 use Rattle.command_parts.proofs.Algebra.{exact_of}
-use Rattle.interrupt_plan.specs.OneReading.{SpelledPlansAreOne, SpelledPlansHaveNoFault}
+use Rattle.interrupt_plan.specs.OneReading.{PlanFaultsAreOne, SpelledPlansAreOne, SpelledPlansHaveNoFault}
 use Rattle.interrupt_plan.specs.{Plans.HasFault as PlanHasFault, declared.PlanFault.PlanFault}
 use Rattle.run_reports.specs.Inputs.{PlansAreExact, TracesAreExact, plan_in, plan_refusals, trace_in, trace_refusals}
 
@@ -44,19 +44,20 @@ count_once : (samples those : List Sample) → map input_bytes samples ≡ map i
 count_once samples those same =
     sym (length-map samples input_bytes) ∙ ap length same ∙ length-map those input_bytes
 
-pub traces_exact : FirstRowsAreOne → SpelledTracesHaveNoFault → TracesAreExact
-traces_exact one stand block text =
+pub traces_exact : FirstRowsAreOne → SpelledTracesHaveNoFault → FirstFaultsAreOne → TracesAreExact
+traces_exact one stand faults block text =
     exact_of (trace_in block text) status.Trace (HasFault block.inputs text) (λ f. tt) (trace_has block text)
     (λ samples those a b. (let same = samples_are_one one block.inputs text samples those a b in
     let count = count_once samples those same in
     λ i. (count i, same i))) (λ samples f a carries w. stand block.inputs text samples f a w)
+    (λ f g c d v w. faults block.inputs text f g v w)
 
 plan_has : (text : List ℕ) (s : Status) → plan_refusals text s
     → (f : PlanFault) × (s ≡ status.Plan f) × PlanHasFault text f
 plan_has text (status.Plan f) w = (f, refl, w)
 plan_has text s w = absurd w
 
-pub plans_exact : SpelledPlansAreOne → SpelledPlansHaveNoFault → PlansAreExact
-plans_exact one stand text =
+pub plans_exact : SpelledPlansAreOne → SpelledPlansHaveNoFault → PlanFaultsAreOne → PlansAreExact
+plans_exact one stand faults text =
     exact_of (plan_in text) status.Plan (PlanHasFault text) (λ f. tt) (plan_has text) (one text)
-    (λ plan f a carries w. stand text plan f a w)
+    (λ plan f a carries w. stand text plan f a w) (λ f g c d v w. faults text f g v w)

@@ -4,3 +4,4 @@ pub mod InputLemmas
 pub mod NearRows
 pub mod PostedAnswers
 pub mod ReportLemmas
+pub mod JudgedLemmas

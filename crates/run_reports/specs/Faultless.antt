@@ -1,20 +1,15 @@
 -- Answers of a firmware with watched tables within the errors of a certificate.
 -- Beside the promise.
-use Rattle.std.specs.Prelude.{◌≡◌, ◌≢◌, ◌⊎◌, ℕ, ◌+◌, ◌<◌, ◌≤◌, List, map, take, Some, None, slice_get}
-use Rattle.fuzzy_meaning.specs.declared.{block.Block.Block, block.Output.Output}
-use Rattle.fuzzy_meaning.specs.Blocks.{IsValid, output_at}
+use Rattle.std.specs.Prelude.{◌≡◌, ◌⊎◌, ℕ, ◌+◌, ◌<◌, ◌≤◌, List, map, take, Some, slice_get}
+use Rattle.fuzzy_meaning.specs.{declared.block.Block.Block, Blocks.IsValid}
 use Rattle.box_tree.specs.declared.cert.Cert.{Cert}
-use Rattle.cert_check.specs.Acceptance.{IsAccepted}
+use Rattle.cert_check.specs.{Acceptance.IsAccepted, Laws.HasDefaults}
 use Rattle.alone_code.specs.declared.firmware.Firmware.{Firmware}
 use Rattle.interrupt_plan.specs.declared.upsets.Upset.{Upset}
 use Rattle.trace_io.specs.{Traces.Spells, declared.sample.Sample.Sample}
 use Rattle.trace_io.specs.Traces.{input_bytes}
 use Rattle.watched_runs.specs.{Samples.with_upsets, Rows.FaultSeen, Answering.AreWatchedRows}
 use Rattle.run_reports.specs.Nearness.{numbers_of, IsWithinErrors}
-
--- no output has NC as its default
-abbrev pub HasDefaults : Block → Type 0
-HasDefaults b = (o : ℕ) (x : Output) → 1 ≤ o → output_at b o ≡ Some x → x.default ≢ None
 
 -- FAULT was 0 in each row before row k, counted from 0
 abbrev pub NoFaultBefore : ℕ → List FaultSeen → Type 0

@@ -52,17 +52,27 @@ levels_in fast text = record {
   refuses = levels_refusals fast text;
 }
 
--- the firmware of SLOW and FAST, IMAGE of it, SCERT and FCERT, STRACE and FTRACE, and LEVELS over the fast samples
-abbrev pub level_reading : CertKind → LevelFiles
-    → Reading (CompiledTwo × (Unit {0} × (List ℕ × (List ℕ × (List Sample × (List Sample × List Level))))))
-level_reading kind files =
-    twos_in files.slow files.fast then λ c.
+-- IMAGE of a firmware of both, SCERT and FCERT, STRACE and FTRACE, and LEVELS over the fast samples
+abbrev pub level_inputs : CertKind → LevelFiles → CompiledTwo
+    → Reading (Unit {0} × (List ℕ × (List ℕ × (List Sample × (List Sample × List Level)))))
+level_inputs kind files c =
     image_in files.image c.two.image then λ held.
     cert_in kind Byte c.slow files.slow_cert then λ errors.
     for_fast (cert_in kind Byte c.fast files.fast_cert) then λ fast_errors.
     trace_in c.slow files.slow_trace then λ seen.
     for_fast (trace_in c.fast files.fast_trace) then λ (fast_samples, fast_bytes).
     last (levels_in fast_samples files.levels)
+
+-- they are accepted, and give this
+abbrev pub AcceptsLevelInputs : CertKind → LevelFiles → CompiledTwo → List ℕ → List ℕ → List Sample → List Sample
+    → List Level → Type 0
+AcceptsLevelInputs kind files c errors fast_errors samples fast_samples levels =
+    Gives (level_inputs kind files c) (tt, (errors, (fast_errors, (samples, (fast_samples, levels)))))
+
+-- the firmware of SLOW and FAST, and these of it
+abbrev pub level_reading : CertKind → LevelFiles
+    → Reading (CompiledTwo × (Unit {0} × (List ℕ × (List ℕ × (List Sample × (List Sample × List Level))))))
+level_reading kind files = twos_in files.slow files.fast then λ c. level_inputs kind files c
 
 -- all are accepted, and give this
 abbrev pub AcceptsLevels : CertKind → LevelFiles → Block → Block → Two → List ℕ → List ℕ → List Sample → List Sample

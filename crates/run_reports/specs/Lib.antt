@@ -9,4 +9,6 @@ pub mod Posted
 pub mod PostedRun
 pub mod Reports
 pub mod RowLines
+pub mod Settled
 pub mod WatchedRun
+pub mod Judged

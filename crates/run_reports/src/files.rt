@@ -1,8 +1,8 @@
-//! The contents of the files of a run, by their names.
+//! The contents of a run's files, by name.
 
 use command_parts::contents::Content;
 
-/// The files that runs share.
+/// The files that all runs read.
 #[derive(Drop)]
 pub struct InputFiles<'a> {
     pub cert: Content<'a>,

@@ -18,10 +18,10 @@ use interrupt_plan::{Plan, read_plan};
 use std::alloc::Global;
 use trace_io::{Sample, read_trace};
 
-/// What a certificate, a trace and a plan give, where all three are accepted.
+/// What a certificate, a trace and a plan give, if all three are accepted.
 #[derive(Drop)]
 pub struct Inputs {
-    /// The error of each output that the certificate is accepted with.
+    /// The error of each output under the certificate.
     pub errors: Vec<u32>,
     /// The samples of the trace.
     pub samples: Vec<Sample>,

@@ -1,10 +1,10 @@
-//! The lines that all runs tell of samples, answers and frames.
-ghost use Rattle.std.specs.Prelude.{◌≡◌, ◌++◌, decimal, map, string_bytes, true, IfOk, OnOk};
+//! The lines of samples, answers and frames, which all runs share.
+ghost use Rattle.std.specs.Prelude.{◌≡◌, ◌++◌, ◌∷◌, [], decimal, map, string_bytes, true, IfOk, OnOk};
 ghost use Rattle.fz_shelf.specs.{Lines.has_no_end, Parts.ended};
 ghost use Rattle.cpu12_emul.specs.Take.{frame_seen};
 ghost use Rattle.run_forms.specs.Rows.{boundary_seen};
 ghost use Rattle.alone_runs.specs.Rows.{row_seen};
-ghost use Rattle.command_parts.specs.Lines.{counted};
+ghost use Rattle.command_parts.specs.Lines.{counted, line};
 ghost use Rattle.run_reports.specs.RowLines.{answered, answers_told, begun_lines, frame_line, frame_told};
 ghost use Rattle.run_reports.specs.RowLines.{labelled_row_lines, numbers, row_lines, row_lines_with};
 ghost use Rattle.run_reports.specs.RowLines.{sample_told};
@@ -16,17 +16,31 @@ use fz_shelf::Line;
 use std::alloc::{AllocError, Global};
 use std::fmt::Write;
 
-/// The errors and the bound on instructions, with which the lines of a run begin.
+/// The lines that each run begins with: the errors and the bound on instructions.
 pub fn begun(alloc: Global, errors: &[u32], bound: u32) -> Result<Vec<Line>, AllocError>
     ensures { IfOk result (λ lines. lines.items ≡ begun_lines errors.now bound) }
 {
     let mut lines = Vec::new(alloc);
     push_errors(alloc, &mut lines, "error ", errors)?;
-    lines.push(labelled(alloc, "instructions ", u128::from(bound))?)?;
+    push_labelled(alloc, &mut lines, "instructions ", u128::from(bound))?;
     Ok(lines)
 }
 
-/// Each sample with its frames.
+/// The line of a label and a number.
+pub fn push_labelled(
+    alloc: Global,
+    lines: &mut Vec<Line>,
+    label: &str,
+    n: u128,
+) -> Result<(), AllocError>
+    requires { has_no_end label.now ≡ true }
+    ensures { OnOk result (lines.new.items ≡ lines.old.items ++ line label.now n ∷ []) }
+{
+    lines.push(labelled(alloc, label, n)?)?;
+    Ok(())
+}
+
+/// The lines of each sample with its frames.
 pub fn push_rows(alloc: Global, lines: &mut Vec<Line>, rows: &[Row]) -> Result<(), AllocError>
     ensures { OnOk result (lines.new.items ≡ lines.old.items
         ++ counted (λ k r. row_lines k (row_seen r)) 1 rows.now) }
@@ -37,7 +51,7 @@ pub fn push_rows(alloc: Global, lines: &mut Vec<Line>, rows: &[Row]) -> Result<(
     Ok(())
 }
 
-/// The k-th sample with a number behind a label at the end of its line, and its frames.
+/// The lines of the k-th sample and its frames. The sample's ends with a label and a number.
 pub fn push_labelled_row(
     alloc: Global,
     lines: &mut Vec<Line>,
@@ -55,7 +69,7 @@ pub fn push_labelled_row(
     push_row(alloc, lines, k, row, rest.as_str())
 }
 
-/// The k-th sample, whose line ends with the rest, and its frames.
+/// The lines of the k-th sample and its frames. The sample's ends with `rest`.
 fn push_row(
     alloc: Global,
     lines: &mut Vec<Line>,
@@ -74,7 +88,7 @@ fn push_row(
     Ok(())
 }
 
-/// The frames of the k-th sample.
+/// The lines of the k-th sample's frames.
 fn push_frames(
     alloc: Global,
     lines: &mut Vec<Line>,
@@ -100,7 +114,7 @@ pub fn line_of_frame(alloc: Global, k: usize, frame: &(u32, Frame)) -> Result<Li
     Line::of(text)
 }
 
-/// Frames that are told without a sample, behind a label.
+/// The lines of frames that belong to no sample, each after a label.
 pub fn push_labelled_frames(
     alloc: Global,
     lines: &mut Vec<Line>,
@@ -117,7 +131,7 @@ pub fn push_labelled_frames(
     Ok(())
 }
 
-/// The line of a frame behind a label.
+/// The line of a frame, after a label.
 pub fn labelled_frame(
     alloc: Global,
     label: &str,
@@ -132,7 +146,7 @@ pub fn labelled_frame(
     Line::of(text)
 }
 
-/// A frame behind its boundary.
+/// A frame, after its boundary.
 fn push_frame(
     alloc: Global,
     text: &mut String,
@@ -149,7 +163,7 @@ fn push_frame(
     write!(text, " {bytes}")
 }
 
-/// Input bytes, the answers to them, and the number of instructions that these took.
+/// Input bytes, the answers to them, and the number of instructions that the answers took.
 pub fn push_answered(
     text: &mut String,
     bytes: &[u8],
@@ -165,7 +179,7 @@ pub fn push_answered(
     Ok(())
 }
 
-/// Answers, and the number of instructions that these took.
+/// Answers, and the number of instructions that they took.
 pub fn push_answers(text: &mut String, answers: &[u16], instrs: u32) -> Result<(), AllocError>
     ensures { OnOk result (string_bytes text.new ≡ string_bytes text.old ++ answers_told answers.now instrs) }
 {
@@ -175,7 +189,7 @@ pub fn push_answers(text: &mut String, answers: &[u16], instrs: u32) -> Result<(
     Ok(())
 }
 
-/// Bytes as numbers, with a blank before each.
+/// Bytes in decimal, with a blank before each.
 fn push_bytes(text: &mut String, values: &[u8]) -> Result<(), AllocError>
     ensures { OnOk result (string_bytes text.new ≡ string_bytes text.old ++ numbers values.now) }
 {
@@ -214,7 +228,7 @@ pub fn told_sample(alloc: Global, k: usize, row: &Row) -> Result<String, AllocEr
     Ok(text)
 }
 
-/// A number behind a label.
+/// A number after a label.
 pub fn push_count(text: &mut String, label: &str, count: usize) -> Result<(), AllocError>
     ensures { OnOk result (string_bytes text.new ≡ string_bytes text.old ++ (label.now ++ decimal count)) }
 {

@@ -1,4 +1,4 @@
-use Rattle.form_commands.proofs.Words.{[], ◌++◌, ◌∙◌, ◌∷◌, ap, ap₂, inner_line, inner_seen, made_with, map-map, sym}
+use Rattle.form_commands.proofs.Words.{[], ◌++◌, ◌∙◌, ◌∷◌, ap₂, inner_line, inner_seen, made_with, map-map, sym}
 use Rattle.std.proofs.{Common.map}
 use Rattle.form_commands.proofs.level_lines.push_run.Goals as goal
 

@@ -5,4 +5,4 @@ pub returns : goal.returns
 returns c = run_settled
     (run_exact c.firmwares_are_exact.ensures c.images_are_exact.ensures c.certs_are_exact.ensures
     c.traces_are_exact.ensures c.plans_are_exact.ensures)
-    c.accepted_runs_make_output.ensures
+    c.answers_are_reported.ensures c.answers_under_plans.ensures

@@ -8,11 +8,11 @@ use Rattle.std.specs.Prelude.{Err}
 use Rattle.rule_layout.specs.Layouts.{IsWithinLimits}
 use Rattle.workload.specs.{Blocks.drawn_block, Draws.draw}
 use Rattle.fz_status.specs.declared.status.Status.TheVariants as status
-use Rattle.run_commands.proofs.generate.Generate.work.Goals as goal
+use Rattle.run_commands.proofs.generate.Generate.output.Goals as goal
 
 pub compiled-requires-clause-limits : goal.compiled-requires-clause-limits
 compiled-requires-clause-limits c =
-    subst IsWithinLimits (sym c.in_ok-workload.ensures.workload.block_is)
+    subst IsWithinLimits (sym c.requires.block_is)
     (c.drawn_blocks_are_within_limits.ensures (draw c.args.self.number 0 5))
 
 -- where halving stops at the block, it stops at the one that is drawn
@@ -27,14 +27,14 @@ stopped number block same s r = absurd r.1
 pub returns-in_err-cert : goal.returns-in_err-cert
 returns-in_err-cert c =
     let passed : c.from_residual-in_err-cert.result ≡ Err c.in_err-cert.field-0.0 = search rules in
-    rw passed (stopped c.args.self.number c.in_ok-workload.workload.block c.in_ok-workload.ensures.workload.block_is
+    rw passed (stopped c.args.self.number c.args.workload.now.block c.requires.block_is
     c.in_err-cert.field-0.0 c.in_err-cert.ensures.stops)
 
 pub returns : goal.returns
 returns c =
     let number = c.args.self.number in
-    let w = c.in_ok-workload.workload in
-    let drawn = c.in_ok-workload.ensures.workload in
+    let w = c.args.workload.now in
+    let drawn = c.requires in
     let firmware = c.in_ok-firmware.firmware in
     let bound = firmware.instr_bound in
     let cert = c.in_ok-cert.cert in
