@@ -17,7 +17,7 @@ use Rattle.fz_top.specs.declared.command.Command.{Command}
 use Rattle.fz_top.specs.declared.command.Command.TheVariants as command
 use Rattle.fz_top.specs.declared.command.Name.TheVariants as name
 use Rattle.fz_top.proofs.KeepsLemmas.{command_if, form_is, looked_up}
-use Rattle.fz_top.specs.Keeping.{AreRunWords, AreTold, HasRoomForLines, run_name}
+use Rattle.fz_top.specs.Done.{AreRunWords, AreTold, HasRoomForLines, run_name}
 use Rattle.promise.specs.{Laws.CertifiedRunsKeepPromise, Promise.Promise}
 
 -- ---- the words

@@ -8,7 +8,7 @@ use Rattle.hex.specs.declared.error.FromHexError.{FromHexError}
 use Rattle.fz_status.specs.Words.{Text, word_at, flags_of, only_byte}
 use Rattle.build_commands.specs.{Certify.certify_in, Check.check_in, Compile.compile_in, Exec.exec_in}
 use Rattle.run_commands.specs.{Debug.debug_with, Generate.generate_in, Run.run_with}
-use Rattle.form_commands.specs.{Hrun.hrun_with, Lrun.lrun_with, Mrun.mrun_with, Srun.srun_with}
+use Rattle.form_commands.specs.Forms.{form_run}
 use Rattle.fz_top.specs.{Accepted.run_flags, Commands.command_in, Commands.form_of, Commands.name_in}
 use Rattle.fz_top.specs.declared.{command.Command.Command, command.Name.Name}
 use Rattle.fz_top.specs.declared.command.Command.TheVariants.{Asm, Certify, Check, Compile, Debug, Exec, Generate}
@@ -96,13 +96,13 @@ byte_form name.Debug words command is = of_flags Debug debug_with (word_at words
 byte_form name.Exec words command is = without Exec (exec_in words) command (λ c. refl) is
 byte_form name.Generate words command is = without Generate (generate_in words) command (λ c. refl) is
 byte_form name.Hcheck words command is = alone Hcheck command refl is
-byte_form (name.Hrun kind) words command is = of_flags Hrun (hrun_with kind) (word_at words 7) command (λ n. refl) is
+byte_form (name.Hrun kind) words command is = of_flags Hrun (form_run kind) (word_at words 7) command (λ n. refl) is
 byte_form name.Lcompile words command is = alone Lcompile command refl is
-byte_form (name.Lrun kind) words command is = of_flags Lrun (lrun_with kind) (word_at words 10) command (λ n. refl) is
-byte_form (name.Mrun kind) words command is = of_flags Mrun (mrun_with kind) (word_at words 7) command (λ n. refl) is
+byte_form (name.Lrun kind) words command is = of_flags Lrun (form_run kind) (word_at words 10) command (λ n. refl) is
+byte_form (name.Mrun kind) words command is = of_flags Mrun (form_run kind) (word_at words 7) command (λ n. refl) is
 byte_form (name.Run kind width) words command is =
     of_flags Run (run_with kind width) (word_at words 7) command (λ n. refl) is
-byte_form (name.Srun kind) words command is = of_flags Srun (srun_with kind) (word_at words 8) command (λ n. refl) is
+byte_form (name.Srun kind) words command is = of_flags Srun (form_run kind) (word_at words 8) command (λ n. refl) is
 
 pub byte_flags : (words : List Text) (command : Command) → command_in words ≡ Some command → run_flags command < 2 ^ 8
 byte_flags words command is = go (name_in words) is

@@ -1,5 +1,5 @@
 -- A run that is Ok keeps its promise.
-use Rattle.std.proofs.Common.{◌≡◌, ◌<◌, ◌^◌, ℕ, List, [], ◌∷◌, length, sym, ap, subst, refl, ◌∙◌}
+use Rattle.std.proofs.Common.{◌≡◌, ◌<◌, ◌^◌, inl, inr, ℕ, List, [], ◌∷◌, length, sym, ap, subst, refl, ◌∙◌}
 use Rattle.std.specs.Prelude.{Bool, true, false, if◌then◌else◌, Option, Some, None, option_and_then, option_map}
 use Rattle.std.specs.Prelude.{Ok, ◌==◌}
 use Rattle.std.specs.List.{concat}
@@ -14,11 +14,12 @@ use Rattle.command_parts.specs.SeenOutputs.{SeenOutput}
 use Rattle.run_commands.specs.Run.{RunGives, files_in, run_inputs, run_with}
 use Rattle.fz_top.specs.Commands.{Makes, command_in, form_of, inputs_of, table}
 use Rattle.fz_top.specs.declared.{command.Command.Command, command.Command.TheVariants.Run, command.Name.Name}
-use Rattle.fz_top.specs.{Reads.AreHeld, Reads.names_at, Runs.Delivered, Runs.Runs}
-use Rattle.fz_shelf.specs.Told.{World}
+use Rattle.fz_top.specs.{Reads.AreHeld, Reads.names_at, Runs.Runs}
+use Rattle.fz_shelf.specs.Told.{World, gained}
 use Rattle.fz_top.specs.declared.command.Name.TheVariants as name
 use Rattle.fz_top.proofs.FlagsLemmas.{flags_small}
-use Rattle.fz_top.specs.Keeping.{AreOf, IsRun, KeepsPromise, OkKeepsPromise, run_name}
+use Rattle.fz_top.specs.Done.{IsRunOf, run_name}
+use Rattle.fz_top.specs.Keeping.{AreOf, IsRunName, KeepsPromise, OkKeepsPromise}
 use Rattle.promise.specs.{Laws.CertifiedRunsKeepPromise, Promise.Promise}
 
 -- ---- the words
@@ -56,7 +57,7 @@ named_at : (kind : CertKind) (width : Width) (command : Command) (p : Text) (ws 
 named_at kind width command p ws at = passes (p ∷ run_name kind width ∷ ws) kind width command
     (any_hyphen (p ∷ run_name kind width ∷ ws)) (6 == length ws) (sym (looked_up kind width p ws) ∙ at)
 
-pub form_is : (words : List Text) (kind : CertKind) (width : Width) (flags : ℕ) → IsRun words kind width flags
+pub form_is : (words : List Text) (kind : CertKind) (width : Width) (flags : ℕ) → IsRunOf words kind width flags
     → form_of (name.Run kind width) words ≡ Some (Run (run_with kind width flags))
 unfolding form_of
 form_is words kind width flags is =
@@ -71,13 +72,19 @@ named_run kind width command p w ws same at =
     (subst (λ (v : Text). command_in (p ∷ v ∷ ws) ≡ Some command) same at))
 
 pub is_run : (words : List Text) (kind : CertKind) (width : Width) (flags : ℕ) (command : Command)
-    → IsRun words kind width flags → command_in words ≡ Some command → command ≡ Run (run_with kind width flags)
+    → IsRunOf words kind width flags → command_in words ≡ Some command → command ≡ Run (run_with kind width flags)
 is_run [] kind width flags command is at = absurd (let e : None ≡ Some command = at in cc)
 is_run (p ∷ []) kind width flags command is at = absurd (let e : None ≡ Some command = at in cc)
 is_run (p ∷ w ∷ ws) kind width flags command is at =
     let form = named_run kind width command p w ws is.name at in
     let same = form_is (p ∷ w ∷ ws) kind width flags is in
     cc (form, same)
+
+named_kind : (width : Width) (w : Text) → IsRunName width w → (kind : CertKind) × (w ≡ run_name kind width)
+named_kind Byte w (inl named) = (Named, named)
+named_kind Byte w (inr tight) = (Tight, tight)
+named_kind Word w (inl named) = (Named, named)
+named_kind Word w (inr tight) = (Tight, tight)
 
 -- ---- the contents
 
@@ -101,13 +108,13 @@ are_of words names (a ∷ b ∷ c ∷ d ∷ e ∷ rest) held = record {
 module _ (keep : CertifiedRunsKeepPromise) (words : List Text) (old new : World) where
   kept : (kind : CertKind) (width : Width) (flags : ℕ) → flags < 2 ^ 8 → (output : SeenOutput)
       (contents : List (List ℕ))
-      → AreHeld old.files (names_at words run_inputs) contents → Delivered words output old new
+      → AreHeld old.files (names_at words run_inputs) contents → new.told ≡ gained old.told (concat output.lines)
       → RunGives (run_with kind width flags) (files_in contents) output → KeepsPromise words width flags old new
-  kept kind width flags byte output contents held done gives = record {
+  kept kind width flags byte output contents held put gives = record {
     files = files_in contents;
     are = are_of words old.files contents held;
     text = concat output.lines;
-    put = done.told;
+    put = put;
     report = gives.report;
     promise = subst (λ (o : SeenOutput). Promise width flags (files_in contents) gives.report (concat o.lines))
         (sym gives.output_is)
@@ -117,17 +124,20 @@ module _ (keep : CertifiedRunsKeepPromise) (words : List Text) (old new : World)
   by_command : (kind : CertKind) (width : Width) (flags : ℕ) → flags < 2 ^ 8 → (output : SeenOutput)
       (command : Command) (contents : List (List ℕ)) → command ≡ Run (run_with kind width flags)
       → AreHeld old.files (names_at words (inputs_of command)) contents
-      → Delivered words output old new → Makes command contents (Ok output) → KeepsPromise words width flags old new
+      → new.told ≡ gained old.told (concat output.lines) → Makes command contents (Ok output)
+      → KeepsPromise words width flags old new
   unfolding inputs_of Makes
-  by_command kind width flags byte output command contents same held done makes =
+  by_command kind width flags byte output command contents same held put makes =
       kept kind width flags byte output contents
-      (subst (λ (c : Command). AreHeld old.files (names_at words (inputs_of c)) contents) same held) done
+      (subst (λ (c : Command). AreHeld old.files (names_at words (inputs_of c)) contents) same held) put
       (subst (λ (c : Command). Makes c contents (Ok output)) same makes)
 
   pub ok_keeps : (s : Status) → Runs words old new s → OkKeepsPromise words old new s
-  ok_keeps s runs is kind width flags run =
+  ok_keeps s runs is width flags run =
+      let kind = named_kind width (word_at words 1) run.name in
       let byte = flags_small (word_at words 7) flags run.flags_are in
       let ok : Runs words old new status.Ok = subst (λ (t : Status). Runs words old new t) is runs in
       let worked = ok.1 in
-      by_command kind width flags byte ok.0 worked.command worked.contents
-      (is_run words kind width flags worked.command run worked.is) worked.held ok.2 worked.outcome
+      by_command kind.0 width flags byte ok.0 worked.command worked.contents
+      (is_run words kind.0 width flags worked.command (record { name = kind.1; flags_are = run.flags_are }) worked.is)
+      worked.held ok.2.told worked.outcome

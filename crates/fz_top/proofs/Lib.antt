@@ -1,7 +1,9 @@
 pub mod CompletenessLemmas
 pub mod FlagsLemmas
 pub mod KeepsLemmas
+pub mod OthersLemmas
 pub mod ReadLemmas
 pub mod RunLemmas
 pub mod StatusLemmas
 pub mod UsageLemmas
+pub mod ContentLemmas

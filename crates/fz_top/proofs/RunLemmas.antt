@@ -1,10 +1,10 @@
 -- A run from its parts.
 use Rattle.std.proofs.Common.{◌≡◌, ◌⊎◌, ◌<◌, inl, inr, ⊎_elim, ℕ, List, [], ◌∷◌, ◌++◌, length, refl, sym, ◌∙◌, ap}
-use Rattle.std.proofs.Common.{subst, arith}
+use Rattle.std.proofs.Common.{ap₂, subst, arith}
 use Rattle.std.specs.Prelude.{Option, Some, None, Result, Ok, Err}
 use Rattle.std.proofs.lemmas.List.{append-nil}
 use Rattle.std.specs.List.{concat}
-use Rattle.fz_shelf.specs.{Faults.Rose, Told.Taken, Told.HasRoom, Told.Log, Told.Counts}
+use Rattle.fz_shelf.specs.{Told.Taken, Told.HasRoom, Told.Log, Told.Counts}
 use Rattle.fz_shelf.specs.Files.{File, IsThere, IsLong, Holds, Names, known as known_file}
 use Rattle.std.specs.declared.alloc.Global.{Global}
 use Rattle.std.specs.declared.vec.Vec.{Vec}
@@ -14,9 +14,9 @@ use Rattle.command_parts.specs.SeenOutputs.{HasOutput, IsFaultOf, OutputHasNoFau
 use Rattle.fz_top.specs.{Accepted.CommandsAreSettled, Commands.Makes, Commands.command_in, Commands.inputs_of}
 use Rattle.fz_top.specs.declared.command.Command.{Command}
 use Rattle.fz_top.specs.Reads.{ReadsWhole, AreHeld, AreThere, names_at, StopsBy}
-use Rattle.fz_top.specs.Runs.{HasNoFault, Faulted, IsMade, Untouched, IsReadFault, IsTooLong}
+use Rattle.fz_top.specs.Runs.{HasNoFault, Faulted, IsMade, IsReadFault, IsTooLong, OutOfMemory, read_whole}
 use Rattle.fz_top.specs.Runs.{IsWriteFault, Settles, status_of, IsReady, AreKnown, FileFits, Worked, Delivered}
-use Rattle.fz_top.specs.Runs.{WriteFailed, PutFailed, ChangesOnly, IsWritten, Runs}
+use Rattle.fz_top.specs.Runs.{WriteFailed, PutFailed, ChangesOnly, Runs}
 use Rattle.fz_shelf.specs.Told.{World, world}
 use Rattle.fz_top.specs.declared.reading.Stop.TheVariants as stop
 use Rattle.fz_status.specs.declared.status.Status.{Status}
@@ -47,63 +47,66 @@ make words f0 f1 k0 k1 a0 a1 command places contents slice output is files at wh
   outcome = subst (λ (cs : List (Vec ℕ Global)). Makes command (bytes_of cs) (Ok output)) same outcome;
 }
 
-module _ (words : List Text) (f0 f1 f2 : Names) (k0 k1 k2 : Counts) (a0 a1 a2 : Log) (t0 t2 : Option Taken)
-    (e0 e2 : ℕ) (output : SeenOutput) (made : Made words f0 f1 k0 k1 a0 a1 output) (asked : a2 ≡ a1) where
-  worked : Worked words (world f0 k0 a0 t0 e0) (world f2 k2 a2 t2 e2) (Ok output)
+-- the files were read whole, and nothing else was done
+left_by : (words : List Text) (command : Command) (f0 f1 : Names) (k0 k1 : Counts) (a0 a1 : Log) (t0 : Option Taken)
+    (e0 : ℕ) (contents : List (List ℕ)) → f1 ≡ f0 → ReadsWhole words (inputs_of command) f0 k0 k1 a0 a1 contents
+    → world f1 k1 a1 t0 e0 ≡ read_whole words command (world f0 k0 a0 t0 e0)
+left_by words command f0 f1 k0 k1 a0 a1 t0 e0 contents files whole =
+    ap (λ (f : Names). world f k1 a1 t0 e0) files
+    ∙ ap₂ (λ (k : Counts) (a : Log). world f0 k a t0 e0) whole.counts whole.entries
+
+-- memory was wanted behind that
+no_memory_behind : (words : List Text) (command : Command) (old : World) (contents : List (List ℕ))
+    → command_in words ≡ Some command → AreHeld old.files (names_at words (inputs_of command)) contents
+    → OutOfMemory words old (read_whole words command old)
+no_memory_behind words command old contents is held = record {
+  counts = refl;
+  untouched = record { files = refl; writes = refl; told = refl; faults = refl };
+  reads = inr (
+    command,
+    is,
+    record {
+      before = inputs_of command;
+      after = [];
+      split = append-nil (inputs_of command);
+      contents = contents;
+      held = held;
+      asked = refl;
+    },
+  );
+}
+
+module _ (words : List Text) (f0 f1 : Names) (k0 k1 : Counts) (a0 a1 : Log) (t0 : Option Taken) (e0 : ℕ)
+    (output : SeenOutput) (made : Made words f0 f1 k0 k1 a0 a1 output) where
+  abbrev worked : Worked words (world f0 k0 a0 t0 e0) (Ok output)
   worked = record {
     command = made.command;
     is = made.is;
     contents = made.contents;
     held = made.whole.held;
-    asked = asked ∙ made.whole.entries;
     outcome = made.outcome;
   }
 
-  written : IsWritten words output.file f1 f2 → IsWritten words output.file f0 f2
-  written w = subst (λ (f : Names). IsWritten words output.file f f2) made.files w
+  behind : world f1 k1 a1 t0 e0 ≡ read_whole words made.command (world f0 k0 a0 t0 e0)
+  behind = left_by words made.command f0 f1 k0 k1 a0 a1 t0 e0 made.contents made.files made.whole
 
-  pub ran : Delivered words output (world f1 k1 a1 t0 e0) (world f2 k2 a2 t2 e2)
-      → Runs words (world f0 k0 a0 t0 e0) (world f2 k2 a2 t2 e2) status.Ok
-  ran d = (
+  pub ran : (new : World) → Delivered words output (world f1 k1 a1 t0 e0) new
+      → Runs words (world f0 k0 a0 t0 e0) new status.Ok
+  ran new d = (output, worked, subst (λ (w : World). Delivered words output w new) behind d)
+
+  pub broke : (new : World) → ChangesOnly words output.file f1 new.files
+      → WriteFailed words output (world f1 k1 a1 t0 e0) new ⊎ PutFailed words output (world f1 k1 a1 t0 e0) new
+      → Runs words (world f0 k0 a0 t0 e0) new status.WriteFault
+  broke new only why = (
     output,
     worked,
-    record {
-      others = subst (λ (f : Names). ChangesOnly words output.file f f2) made.files d.others;
-      written =
-          written d.written;
-      told = d.told;
-      counts = d.counts ∙ made.whole.counts;
-      faults = d.faults;
-    },
+    subst (λ (f : Names). ChangesOnly words output.file f new.files) made.files only,
+    subst (λ (w : World). WriteFailed words output w new ⊎ PutFailed words output w new) behind why,
   )
 
-  pub broke : ChangesOnly words output.file f1 f2
-      → WriteFailed output (world f1 k1 a1 t0 e0) (world f2 k2 a2 t2 e2)
-      ⊎ PutFailed words output (world f1 k1 a1 t0 e0) (world f2 k2 a2 t2 e2)
-      → Runs words (world f0 k0 a0 t0 e0) (world f2 k2 a2 t2 e2) status.WriteFault
-  broke only (inl w) = (
-    output,
-    worked,
-    subst (λ (f : Names). ChangesOnly words output.file f f2) made.files only,
-    inl record {
-      has_file = w.has_file;
-      counts = w.counts ∙ ap (λ (k : Counts). record k { writes = k2.writes }) made.whole.counts;
-      rose = subst (λ (k : Counts). Rose k.writes k2.writes) made.whole.counts w.rose;
-      told = w.told;
-      faults = w.faults;
-    },
-  )
-  broke only (inr p) = (
-    output,
-    worked,
-    subst (λ (f : Names). ChangesOnly words output.file f f2) made.files only,
-    inr record {
-      written = written p.written;
-      counts = p.counts ∙ made.whole.counts;
-      rose = p.rose;
-      part = p.part;
-    },
-  )
+  pub wanted : (new : World) → new ≡ world f1 k1 a1 t0 e0 → Runs words (world f0 k0 a0 t0 e0) new status.Memory
+  wanted new same = subst (λ (w : World). OutOfMemory words (world f0 k0 a0 t0 e0) w) (sym (same ∙ behind))
+      (no_memory_behind words made.command (world f0 k0 a0 t0 e0) made.contents made.is made.whole.held)
 
 -- the contents were refused, or memory was wanted for what they make
 pub stopped : (words : List Text) (f0 f1 : Names) (k0 k1 : Counts) (a0 a1 : Log) (t0 : Option Taken) (e0 : ℕ)
@@ -114,30 +117,24 @@ pub stopped : (words : List Text) (f0 f1 : Names) (k0 k1 : Counts) (a0 a1 : Log)
 stopped words f0 f1 k0 k1 a0 a1 t0 e0 command places contents slice s is files at whole same fault =
     go s (kind_of s) fault
   where
-    counts : k1 ≡ k0
-    counts = whole.counts
+    all : ReadsWhole words (inputs_of command) f0 k0 k1 a0 a1 (bytes_of contents)
+    all = subst (λ (ps : List ℕ). ReadsWhole words ps f0 k0 k1 a0 a1 (bytes_of contents)) at whole
 
-    untouched : Untouched (world f0 k0 a0 t0 e0) (world f1 k1 a1 t0 e0)
-    untouched =
-        record { files = files; writes = ap (λ (k : Counts). k.writes) whole.counts; told = refl; faults = refl }
+    left : world f1 k1 a1 t0 e0 ≡ read_whole words command (world f0 k0 a0 t0 e0)
+    left = left_by words command f0 f1 k0 k1 a0 a1 t0 e0 (bytes_of contents) files all
 
     faulted : (t : Status) → Makes command (bytes_of slice) (Err t)
         → Faulted words (world f0 k0 a0 t0 e0) (world f1 k1 a1 t0 e0) t
-    faulted t makes =
-        let all : ReadsWhole words (inputs_of command) f0 k0 k1 a0 a1 (bytes_of contents) =
-        subst (λ (ps : List ℕ). ReadsWhole words ps f0 k0 k1 a0 a1 (bytes_of contents)) at whole in
-        record {
-          worked = record {
-            command = command;
-            is = sym is;
-            contents = bytes_of contents;
-            held = all.held;
-            asked = all.entries;
-            outcome = subst (λ (cs : List (Vec ℕ Global)). Makes command (bytes_of cs) (Err t)) same makes;
-          };
-          counts = counts;
-          untouched = untouched;
-        }
+    faulted t makes = record {
+      worked = record {
+        command = command;
+        is = sym is;
+        contents = bytes_of contents;
+        held = all.held;
+        outcome = subst (λ (cs : List (Vec ℕ Global)). Makes command (bytes_of cs) (Err t)) same makes;
+      };
+      left = left;
+    }
 
     go : (t : Status) → Kind t → IsFaultOf (Makes command (bytes_of slice)) t
         → Runs words (world f0 k0 a0 t0 e0) (world f1 k1 a1 t0 e0) t
@@ -145,25 +142,8 @@ stopped words f0 f1 k0 k1 a0 a1 t0 e0 command places contents slice s is files a
     go _ no_command fault = absurd fault
     go _ (failed_read p) fault = absurd fault
     go _ failed_write fault = absurd fault
-    go _ no_memory fault =
-        let all : ReadsWhole words (inputs_of command) f0 k0 k1 a0 a1 (bytes_of contents) =
-        subst (λ (ps : List ℕ). ReadsWhole words ps f0 k0 k1 a0 a1 (bytes_of contents)) at whole in
-        record {
-          counts = counts;
-          untouched = untouched;
-          reads = inr (
-            command,
-            sym is,
-            record {
-              before = inputs_of command;
-              after = [];
-              split = append-nil (inputs_of command);
-              contents = bytes_of contents;
-              held = all.held;
-              asked = all.entries;
-            },
-          );
-        }
+    go _ no_memory fault = subst (λ (w : World). OutOfMemory words (world f0 k0 a0 t0 e0) w) (sym left)
+        (no_memory_behind words command (world f0 k0 a0 t0 e0) (bytes_of contents) (sym is) all.held)
     go _ (long_read p) fault = absurd fault
     go _ (of_contents t of) fault = of.runs words _ _ (faulted t (of.made command (bytes_of slice) fault))
 
@@ -179,7 +159,7 @@ known_held files (n ∷ ns) (c ∷ cs) (x ∷ cs') known held =
     let rest : cs' ≡ cs = known_held files ns cs cs' known.2 held.2 in
     cc (same, rest)
 
-same_command : {a b : Command} → {o : Option Command} → o ≡ Some a → o ≡ Some b → a ≡ b
+pub same_command : {a b : Command} → {o : Option Command} → o ≡ Some a → o ≡ Some b → a ≡ b
 same_command {a} {b} {o} x y = cc (x, y)
 
 -- what a ready run makes of its words
@@ -225,7 +205,7 @@ not_long files words (b ∷ before) after p (c ∷ cs) known long = not_long fil
 module _ (words : List Text) (old new : World) (command : Command) (contents : List (List ℕ))
     (is : command_in words ≡ Some command)
     (known : AreKnown old.files (names_at words (inputs_of command)) contents) where
-  made_by : (r : Result SeenOutput Status) → Worked words old new r → IsMade (Makes command contents) (status_of r)
+  made_by : (r : Result SeenOutput Status) → Worked words old r → IsMade (Makes command contents) (status_of r)
   made_by r w =
       (r, makes_same words old.files command contents is known w.command w.contents r w.is w.held w.outcome, refl)
 
@@ -363,7 +343,7 @@ same_cut files words (a ∷ before) after p (b ∷ before') after' q (c ∷ cs) 
     same_cut files words before after p before' after' q cs cs' bytes room rest known_before.2 told long held.2 is_long
 
 module _ (words : List Text) (old new : World) (place : ℕ) (long : IsTooLong words old.files place) where
-  no_work : (r : Result SeenOutput Status) → Worked words old new r → ⊥
+  no_work : (r : Result SeenOutput Status) → Worked words old r → ⊥
   no_work r w =
       let same = same_command w.is long.is in
       let held : AreHeld old.files (names_at words (inputs_of long.command)) w.contents =

@@ -16,10 +16,10 @@ use Rattle.command_parts.specs.declared.firmware.Form.TheVariants.{Alone, Mailbo
 use Rattle.run_commands.specs.Debug.{DebugMakes, debug_files, debug_in, debug_inputs}
 use Rattle.run_commands.specs.Generate.{GenerateMakes, generate_in, generate_inputs}
 use Rattle.run_commands.specs.Run.{RunMakes, files_in, run_in, run_inputs}
-use Rattle.form_commands.specs.Hrun.{HrunMakes, handled_files, hrun_in, hrun_inputs}
-use Rattle.form_commands.specs.Lrun.{LrunMakes, level_files, lrun_in, lrun_inputs}
-use Rattle.form_commands.specs.Mrun.{MrunMakes, mrun_in, mrun_inputs, posted_files}
-use Rattle.form_commands.specs.Srun.{SrunMakes, srun_in, srun_inputs, watched_files}
+use Rattle.form_commands.specs.{Forms.form_run_in, Hrun.HrunMakes, Hrun.handled_files, Hrun.hrun_inputs}
+use Rattle.form_commands.specs.Lrun.{LrunMakes, level_files, lrun_inputs}
+use Rattle.form_commands.specs.Mrun.{MrunMakes, mrun_inputs, posted_files}
+use Rattle.form_commands.specs.Srun.{SrunMakes, srun_inputs, watched_files}
 use Rattle.fz_status.specs.Words.{Text}
 use Rattle.fz_top.specs.declared.{command.Command.Command, command.Name.Name}
 use Rattle.fz_top.specs.declared.command.Command.TheVariants.{Asm, Certify, Check, Compile, Debug, Exec, Generate}
@@ -55,12 +55,12 @@ form_of name.Debug words = option_map Debug (debug_in words)
 form_of name.Exec words = option_map Exec (exec_in words)
 form_of name.Generate words = option_map Generate (generate_in words)
 form_of name.Hcheck words = Some Hcheck
-form_of (name.Hrun kind) words = option_map Hrun (hrun_in kind words)
+form_of (name.Hrun kind) words = option_map Hrun (form_run_in kind 7 words)
 form_of name.Lcompile words = Some Lcompile
-form_of (name.Lrun kind) words = option_map Lrun (lrun_in kind words)
-form_of (name.Mrun kind) words = option_map Mrun (mrun_in kind words)
+form_of (name.Lrun kind) words = option_map Lrun (form_run_in kind 10 words)
+form_of (name.Mrun kind) words = option_map Mrun (form_run_in kind 7 words)
 form_of (name.Run kind width) words = option_map Run (run_in kind width words)
-form_of (name.Srun kind) words = option_map Srun (srun_in kind words)
+form_of (name.Srun kind) words = option_map Srun (form_run_in kind 8 words)
 
 -- the words that name the files to read, in order
 unfoldable pub inputs_of : Command → List ℕ

@@ -3,7 +3,9 @@
 use Rattle.std.specs.Prelude.{◌≡◌, ◌≢◌, ◌⊎◌, ◌<◌, ◌≤◌, ℕ, List, [], ◌∷◌, ◌++◌, length, Option, Some, None}
 use Rattle.std.specs.Prelude.{is_some, true, Result, Ok, Err}
 use Rattle.std.specs.List.{concat}
-use Rattle.fz_shelf.specs.{Faults.Rose, Told.Taken, Lines.GainedLines, Told.gained, Told.HasRoom, Files.Names}
+use Rattle.fz_shelf.specs.{Faults.Rose, Told.Log, Told.Taken, Lines.GainedLines, Told.gained, Told.HasRoom, Files.Names}
+use Rattle.fz_shelf.specs.declared.log.Answer.{Answer}
+use Rattle.fz_shelf.specs.declared.log.Answer.TheVariants as answer
 use Rattle.fz_shelf.specs.{Files.Written, Files.Fits, Files.known}
 use Rattle.fz_status.specs.Words.{Text, word_at}
 use Rattle.fz_top.specs.{Accepted.Accepts, Commands.Makes, Commands.command_in, Commands.inputs_of}
@@ -28,8 +30,14 @@ abbrev pub FileFits : List Text → Option (ℕ × List ℕ) → Names → Type 
 FileFits words None files = Unit {0}
 FileFits words (Some p) files = Fits (files (word_at words p.0)) (length p.1)
 
+-- the list of reads and writes with OUT's write behind it, where there is an OUT: one write, and of no other file
+abbrev pub with_write : List Text → Option (ℕ × List ℕ) → Answer → Log → Log
+with_write words None answer asked = asked
+with_write words (Some p) answer asked = asked ++ (word_at words p.0, answer) ∷ []
+
 -- all is written and put
 pub record Delivered (words : List Text) (output : SeenOutput) (old new : World) : Type 0 where
+  pub asked : new.asked ≡ with_write words output.file answer.Written old.asked
   pub others : ChangesOnly words output.file old.files new.files
   pub written : IsWritten words output.file old.files new.files
   pub told : new.told ≡ gained old.told (concat output.lines)
@@ -37,7 +45,8 @@ pub record Delivered (words : List Text) (output : SeenOutput) (old new : World)
   pub faults : new.faults ≡ old.faults
 
 -- the write failed, and nothing was put
-pub record WriteFailed (output : SeenOutput) (old new : World) : Type 0 where
+pub record WriteFailed (words : List Text) (output : SeenOutput) (old new : World) : Type 0 where
+  pub asked : new.asked ≡ with_write words output.file answer.Unwritten old.asked
   pub has_file : is_some output.file ≡ true
   pub counts : new.counts ≡ record old.counts { writes = new.counts.writes }
   pub rose : Rose old.counts.writes new.counts.writes
@@ -46,19 +55,23 @@ pub record WriteFailed (output : SeenOutput) (old new : World) : Type 0 where
 
 -- a put failed, and OUT is whole; so are the lines that were put before the one of which a beginning was
 pub record PutFailed (words : List Text) (output : SeenOutput) (old new : World) : Type 0 where
+  pub asked : new.asked ≡ with_write words output.file answer.Written old.asked
   pub written : IsWritten words output.file old.files new.files
   pub counts : new.counts ≡ old.counts
   pub rose : Rose old.faults new.faults
   pub part : GainedLines old.told new.told output.lines
 
 -- the command of the words, the contents that its files have where the shelf tells them, and what it makes of them
-pub record Worked (words : List Text) (old new : World) (r : Result SeenOutput Status) : Type 0 where
+pub record Worked (words : List Text) (old : World) (r : Result SeenOutput Status) : Type 0 where
   pub command : Command
   pub is : command_in words ≡ Some command
   pub contents : List (List ℕ)
   pub held : AreHeld old.files (names_at words (inputs_of command)) contents
-  pub asked : new.asked ≡ old.asked ++ whole_entries words (inputs_of command)
   pub outcome : Makes command contents r
+
+-- what the shelf and out tell when its files were each read whole, and nothing else was done
+abbrev pub read_whole : List Text → Command → World → World
+read_whole words command old = record old { asked = old.asked ++ whole_entries words (inputs_of command) }
 
 -- nothing was written or put
 pub record Untouched (old new : World) : Type 0 where
@@ -76,9 +89,8 @@ pub record Refused (words : List Text) (old new : World) (s : Stop) : Type 0 whe
 
 -- the contents are refused
 pub record Faulted (words : List Text) (old new : World) (s : Status) : Type 0 where
-  pub worked : Worked words old new (Err s)
-  pub counts : new.counts ≡ old.counts
-  pub untouched : Untouched old new
+  pub worked : Worked words old (Err s)
+  pub left : new ≡ read_whole words worked.command old
 
 -- memory was wanted, the command's first files, or none, being read whole
 pub record OutOfMemory (words : List Text) (old new : World) : Type 0 where
@@ -89,11 +101,14 @@ pub record OutOfMemory (words : List Text) (old new : World) : Type 0 where
 
 -- the table of statuses
 abbrev pub Runs : List Text → World → World → Status → Type 0
-Runs words old new status.Ok = (output : SeenOutput) × Worked words old new (Ok output) × Delivered words output old new
+Runs words old new status.Ok = (output : SeenOutput) × (w : Worked words old (Ok output))
+    × Delivered words output (read_whole words w.command old) new
 Runs words old new status.Usage = (command_in words ≡ None) × (new ≡ old)
 Runs words old new (status.ReadFault p) = Refused words old new (stop.Failed p)
-Runs words old new status.WriteFault = (output : SeenOutput) × Worked words old new (Ok output)
-    × ChangesOnly words output.file old.files new.files × (WriteFailed output old new ⊎ PutFailed words output old new)
+Runs words old new status.WriteFault = (output : SeenOutput) × (w : Worked words old (Ok output))
+    × ChangesOnly words output.file old.files new.files
+    × (WriteFailed words output (read_whole words w.command old) new
+    ⊎ PutFailed words output (read_whole words w.command old) new)
 Runs words old new status.Memory = OutOfMemory words old new
 Runs words old new (status.TooLong p) = Refused words old new (stop.TooLong p)
 Runs words old new s = Faulted words old new s

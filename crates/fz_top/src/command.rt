@@ -1,7 +1,7 @@
-//! The commands: the one table of them, and every match on which command it is.
+//! The commands: their table, and every match on the command.
 //!
-//! A command is a file of its own in build_commands, run_commands or form_commands, with the form of its words, the
-//! files that it reads and what it makes of them; the file of the same name in `specs/` there defines
+//! Each command has its own file in build_commands, run_commands or form_commands, with the form of its words, the
+//! files that it reads and what it makes from them; the file of the same name in `specs/` there defines
 //! these. Here each has a row of the table and an arm of each match.
 ghost use Rattle.std.specs.Prelude.{◌≡◌, ◌↔◌, ◌≤◌, length, IfOk, IsErrOf, Some, None};
 ghost use Rattle.std.specs.List.{All};
@@ -20,10 +20,8 @@ use byte_scaling::Width::{self, Byte, Word};
 use command_parts::contents::Content;
 use command_parts::firmware::Form::{self, Alone, Mailbox, Watched};
 use command_parts::output::Output;
-use form_commands::hrun::{self, Hrun};
-use form_commands::lrun::{self, Lrun};
-use form_commands::mrun::{self, Mrun};
-use form_commands::srun::{self, Srun};
+use form_commands::form_run::FormRun;
+use form_commands::{hrun, lrun, mrun, srun};
 use fz_status::Status;
 use fz_words::Refusal;
 use run_commands::debug::{self, DebugRun};
@@ -31,7 +29,7 @@ use run_commands::generate::{self, Generate};
 use run_commands::run::{self, Run};
 use std::alloc::Global;
 
-/// A command by its name alone, with what the name says of the certificate's leaves and of the answers.
+/// A command by its name alone, which also gives the certificate's kind and the answers' width.
 #[derive(Clone, Copy)]
 pub(crate) enum Name {
     Asm,
@@ -50,7 +48,7 @@ pub(crate) enum Name {
     Srun(CertKind),
 }
 
-/// The commands by their names on the command line, each with the number of words that follow.
+/// The names of the commands on the command line, each with its number of further words.
 static COMMANDS: [(&str, usize, Name); 30] = [
     ("asm", 2, Name::Asm),
     ("certify", 3, Name::Certify(Named, Byte)),
@@ -84,8 +82,8 @@ static COMMANDS: [(&str, usize, Name); 30] = [
     ("tsrun", 7, Name::Srun(Tight)),
 ];
 
-/// A command with what its words give beside the names of files.
-#[derive(Clone, Copy)]
+/// A command with what its words give besides the names of files.
+#[derive(Drop)]
 pub enum Command {
     /// `asm SRC OUT`
     Asm,
@@ -104,20 +102,20 @@ pub enum Command {
     /// `hcheck HANDLER`
     Hcheck,
     /// `hrun FCL HANDLER CERT TRACE PLAN FLAGS` and `thrun ..`
-    Hrun(Hrun),
+    Hrun(FormRun),
     /// `lcompile SLOW FAST OUT`
     Lcompile,
     /// `lrun SLOW FAST IMAGE SCERT FCERT STRACE FTRACE LEVELS FLAGS` and `tlrun ..`
-    Lrun(Lrun),
+    Lrun(FormRun),
     /// `mrun FCL IMAGE CERT TRACE POSTS FLAGS` and `tmrun ..`
-    Mrun(Mrun),
+    Mrun(FormRun),
     /// `run FCL IMAGE CERT TRACE PLAN FLAGS`, `run16 ..`, `trun ..` and `trun16 ..`
     Run(Run),
     /// `srun FCL IMAGE CERT TRACE PLAN UPSETS FLAGS` and `tsrun ..`
-    Srun(Srun),
+    Srun(FormRun),
 }
 
-/// The command of this name that the words ask for.
+/// The command of this name with what the words give, if each word is of its form.
 #[tactic(auto, unfolding(crate::specs::Commands::form_of))]
 fn formed(name: Name, words: &[String]) -> Option<Command>
     ensures { result ≡ form_of name (texts_of words.now) }
@@ -131,17 +129,17 @@ fn formed(name: Name, words: &[String]) -> Option<Command>
         Name::Exec => Exec::of(words).map(Command::Exec),
         Name::Generate => Generate::of(words).map(Command::Generate),
         Name::Hcheck => Some(Command::Hcheck),
-        Name::Hrun(kind) => Hrun::of(kind, words).map(Command::Hrun),
+        Name::Hrun(kind) => FormRun::of(kind, hrun::FLAGS, words).map(Command::Hrun),
         Name::Lcompile => Some(Command::Lcompile),
-        Name::Lrun(kind) => Lrun::of(kind, words).map(Command::Lrun),
-        Name::Mrun(kind) => Mrun::of(kind, words).map(Command::Mrun),
+        Name::Lrun(kind) => FormRun::of(kind, lrun::FLAGS, words).map(Command::Lrun),
+        Name::Mrun(kind) => FormRun::of(kind, mrun::FLAGS, words).map(Command::Mrun),
         Name::Run(kind, width) => Run::of(kind, width, words).map(Command::Run),
-        Name::Srun(kind) => Srun::of(kind, words).map(Command::Srun),
+        Name::Srun(kind) => FormRun::of(kind, srun::FLAGS, words).map(Command::Srun),
     }
 }
 
 impl Command {
-    /// The words that name the files to read, in order.
+    /// The indices of the words that name the files to read, in order.
     #[tactic(auto, unfolding(crate::specs::Commands::inputs_of))]
     pub(crate) fn inputs(&self) -> &'static [u32]
         ensures { result.now ≡ inputs_of self.now }
@@ -164,7 +162,7 @@ impl Command {
         }
     }
 
-    /// What the command makes of its files' contents.
+    /// The command's output for the contents of its files.
     #[tactic(auto, unfolding(crate::specs::Commands::Makes))]
     pub(crate) fn work(self, alloc: Global, contents: &[Vec<u8>]) -> Result<Output, Status>
         requires { All (λ c. length c.items ≤ 1048576) contents.now }
@@ -181,17 +179,17 @@ impl Command {
             Command::Exec(exec) => exec.work(alloc, &first),
             Command::Generate(generate) => generate.work(alloc),
             Command::Hcheck => hcheck::work(alloc, &first),
-            Command::Hrun(hrun) => hrun.work(alloc, &hrun::files_of(contents)),
+            Command::Hrun(run) => hrun::work(alloc, run, &hrun::files_of(contents)),
             Command::Lcompile => lcompile::work(alloc, &first, &second),
-            Command::Lrun(lrun) => lrun.work(alloc, &lrun::files_of(contents)),
-            Command::Mrun(mrun) => mrun.work(alloc, &mrun::files_of(contents)),
+            Command::Lrun(run) => lrun::work(alloc, run, &lrun::files_of(contents)),
+            Command::Mrun(run) => mrun::work(alloc, run, &mrun::files_of(contents)),
             Command::Run(run) => run.work(alloc, &run::files_of(contents)),
-            Command::Srun(srun) => srun.work(alloc, &srun::files_of(contents)),
+            Command::Srun(run) => srun::work(alloc, run, &srun::files_of(contents)),
         }
     }
 }
 
-/// The name among the words, the program's own name first.
+/// The name of the command that the words are of, the program's own name being the first word.
 fn name_of(alloc: Global, words: &[String]) -> Result<Name, Refusal>
     ensures named { IfOk result (λ n. name_in (texts_of words.now) ≡ Some n) }
     ensures usage { IsErrOf result Refusal.Usage → name_in (texts_of words.now) ≡ None }
@@ -200,7 +198,7 @@ fn name_of(alloc: Global, words: &[String]) -> Result<Name, Refusal>
     fz_words::command_of(alloc, COMMANDS.as_slice(), words)
 }
 
-/// The command of the words, the program's name first.
+/// The command of the words, the program's own name being the first word.
 pub(crate) fn command_of(alloc: Global, words: &[String]) -> Result<Command, Refusal>
     ensures value { IfOk result (λ c. command_in (texts_of words.now) ≡ Some c) }
     ensures usage { IsErrOf result Refusal.Usage → command_in (texts_of words.now) ≡ None }

@@ -1,5 +1,5 @@
 //! Writing the file and putting the lines: the one place where anything leaves the program.
-ghost use Rattle.std.specs.Prelude.{◌≡◌, ◌⊎◌, length, OnOk, OnErr, IsOk};
+ghost use Rattle.std.specs.Prelude.{◌≡◌, ◌⊎◌, length, OnOk, IsErrOf};
 ghost use Rattle.std.specs.List.{concat};
 ghost use Rattle.fz_shelf.specs.Told.{HasRoom, world};
 ghost use Rattle.fz_status.specs.Words.{texts_of};
@@ -7,36 +7,42 @@ ghost use Rattle.command_parts.specs.SeenOutputs.{seen_output};
 ghost use Rattle.fz_top.specs.Runs.{ChangesOnly, FileFits, Delivered, WriteFailed, PutFailed};
 
 use command_parts::output::Output;
-use fz_shelf::{Failed, Shelf, Sink, put_lines};
+use fz_shelf::{Failed, Shelf, Sink, WriteError, put_lines};
 use fz_status::word;
 
-/// Writes the file, if there is one, and then puts the lines.
+/// Writes the file, if there is one, and then puts the lines. Where memory is wanted nothing is done.
 pub(crate) fn deliver<S: Shelf, O: Sink>(
     words: &[String],
     output: &Output,
     shelf: &mut S,
     out: &mut O,
-) -> Result<(), Failed>
+) -> Result<(), WriteError>
     ensures others { ChangesOnly (texts_of words.now) (seen_output output.now).file
         (S.files shelf.old) (S.files shelf.new) }
-    ensures asked { S.asked shelf.new ≡ S.asked shelf.old }
     ensures done { OnOk result (Delivered (texts_of words.now) (seen_output output.now)
         (world (S.files shelf.old) (S.counts shelf.old) (S.asked shelf.old) (O.told out.old) (O.faults out.old))
         (world (S.files shelf.new) (S.counts shelf.new) (S.asked shelf.new) (O.told out.new) (O.faults out.new))) }
-    ensures failed { OnErr result (WriteFailed (seen_output output.now)
+    ensures failed { IsErrOf result WriteError.Failed → WriteFailed (texts_of words.now) (seen_output output.now)
         (world (S.files shelf.old) (S.counts shelf.old) (S.asked shelf.old) (O.told out.old) (O.faults out.old))
         (world (S.files shelf.new) (S.counts shelf.new) (S.asked shelf.new) (O.told out.new) (O.faults out.new))
         ⊎ PutFailed (texts_of words.now) (seen_output output.now)
         (world (S.files shelf.old) (S.counts shelf.old) (S.asked shelf.old) (O.told out.old) (O.faults out.old))
-        (world (S.files shelf.new) (S.counts shelf.new) (S.asked shelf.new) (O.told out.new) (O.faults out.new))) }
+        (world (S.files shelf.new) (S.counts shelf.new) (S.asked shelf.new) (O.told out.new) (O.faults out.new)) }
+    ensures memory { IsErrOf result WriteError.Memory
+        → world (S.files shelf.new) (S.counts shelf.new) (S.asked shelf.new) (O.told out.new) (O.faults out.new)
+        ≡ world (S.files shelf.old) (S.counts shelf.old) (S.asked shelf.old) (O.told out.old) (O.faults out.old) }
     ensures shelf_reliable { S.reliable shelf.old → S.reliable shelf.new }
     ensures out_reliable { O.reliable out.old → O.reliable out.new }
     ensures steady { S.reliable shelf.old → O.reliable out.old
         → FileFits (texts_of words.now) (seen_output output.now).file (S.files shelf.old)
-        → HasRoom (O.told out.old) (length (concat (seen_output output.now).lines)) → IsOk result }
+        → HasRoom (O.told out.old) (length (concat (seen_output output.now).lines))
+        → IsErrOf result WriteError.Failed → ⊥ }
 {
     if let Some((place, bytes)) = &output.file {
         shelf.write(word(words, *place), bytes)?;
     }
-    put_lines(out, &output.lines)
+    match put_lines(out, &output.lines) {
+        Ok(()) => Ok(()),
+        Err(Failed) => Err(WriteError::Failed),
+    }
 }

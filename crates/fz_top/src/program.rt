@@ -1,4 +1,4 @@
-//! The program's call.
+//! The program as one function.
 ghost use Rattle.std.specs.Prelude.{◌≡◌, ◌⊎◌, ◌↔◌, length, None, Some, List, ℕ};
 ghost use Rattle.fz_shelf.specs.Told.{gained, HasRoom, world};
 ghost use Rattle.fz_status.specs.{Words.texts_of, Errors.error_line_of, Errors.Complains, Refusals.CarriesNoMemory};
@@ -6,19 +6,20 @@ ghost use Rattle.fz_top.specs.Commands.{command_in, inputs_of, IsUsage, Makes};
 ghost use Rattle.fz_top.specs.Runs.{Runs, IsReady, IsReadFault, IsWriteFault, IsTooLong, AreKnown, CanBeDone};
 ghost use Rattle.fz_top.specs.Runs.{HasNoFault, IsMade, RoomFor, Settles};
 ghost use Rattle.fz_top.specs.declared.command.Command.{Command};
-ghost use Rattle.fz_top.specs.{Keeping.AcceptedIsDone, Keeping.OkKeepsPromise, Reads.names_at, Reads.AreThere};
+ghost use Rattle.fz_top.specs.{Done.AcceptedIsDone, Keeping.OkKeepsPromise, Others.OkServes};
+ghost use Rattle.fz_top.specs.{Reads.names_at, Reads.AreThere};
 
 use crate::command::command_of;
 use crate::delivery::deliver;
 use crate::laws::commands_are_settled;
 use crate::reading::{Stop, read_all};
-use fz_shelf::{Shelf, Sink};
+use fz_shelf::{Shelf, Sink, WriteError};
 use fz_status::{Status, report};
 use fz_words::Refusal;
-use promise::{accepted_files_give_firmware, certified_runs_keep_promise};
+use promise::{accepted_files_give_firmware, certified_runs_keep_promise, other_runs_serve};
 use std::alloc::Global;
 
-/// Does what the words ask for.
+/// Runs the command of the words.
 fn run<S: Shelf, O: Sink>(alloc: Global, words: &[String], shelf: &mut S, out: &mut O) -> Status
     ensures runs { Runs (texts_of words.now)
         (world (S.files shelf.old) (S.counts shelf.old) (S.asked shelf.old) (O.told out.old) (O.faults out.old))
@@ -52,13 +53,15 @@ fn run<S: Shelf, O: Sink>(alloc: Global, words: &[String], shelf: &mut S, out: &
     };
     match deliver(words, &output, shelf, out) {
         Ok(()) => Status::Ok,
-        Err(_) => Status::WriteFault,
+        Err(WriteError::Failed) => Status::WriteFault,
+        Err(WriteError::Memory) => Status::Memory,
     }
 }
 
-/// Does what the words ask for, the program's own name being the first of them: reads the files
-/// that they name, in order, puts the lines to out, and says on err what went wrong. Want of
-/// memory is told as `Memory`, and never after the first write or put.
+/// Runs the command of the words, of which the first is the program's own name: reads the files
+/// that they name, in order, writes a file if the command has one, puts the lines to out, and puts
+/// one line to err if something went wrong. Lack of memory is reported as `Memory`, and is never
+/// met after the first write or put.
 pub fn fuzz12<S: Shelf, O: Sink, F: Sink>(
     alloc: Global,
     words: &[String],
@@ -74,6 +77,12 @@ pub fn fuzz12<S: Shelf, O: Sink, F: Sink>(
 
     // with the words of `run`, `run16`, `trun` or `trun16` and Ok the program's one sentence holds
     ensures promise { OkKeepsPromise (texts_of words.now)
+        (world (S.files shelf.old) (S.counts shelf.old) (S.asked shelf.old) (O.told out.old) (O.faults out.old))
+        (world (S.files shelf.new) (S.counts shelf.new) (S.asked shelf.new) (O.told out.new) (O.faults out.new))
+        result }
+
+    // with the words of another command that runs firmware and Ok the machine serves what its lines tell
+    ensures others { OkServes (texts_of words.now)
         (world (S.files shelf.old) (S.counts shelf.old) (S.asked shelf.old) (O.told out.old) (O.faults out.old))
         (world (S.files shelf.new) (S.counts shelf.new) (S.asked shelf.new) (O.told out.new) (O.faults out.new))
         result }
@@ -131,6 +140,7 @@ pub fn fuzz12<S: Shelf, O: Sink, F: Sink>(
 {
     commands_are_settled();
     certified_runs_keep_promise();
+    other_runs_serve();
     accepted_files_give_firmware();
     let status = run(alloc, words, shelf, out);
     report(err, words, &status);

@@ -11,7 +11,7 @@ use fz_shelf::{ReadError, Shelf};
 use fz_status::word;
 use std::alloc::{AllocFailed, Global};
 
-/// Why reading stopped, with the word of the file.
+/// Why reading stopped, with the index of the word that names the file.
 #[derive(Clone, Copy)]
 pub(crate) enum Stop {
     Failed(u32),
@@ -27,7 +27,7 @@ impl<T: Drop> From<AllocFailed<T>> for Stop {
     }
 }
 
-/// Reads the file of the word at this place.
+/// Reads the file that the word at this index names.
 fn read_one<S: Shelf>(
     alloc: Global,
     shelf: &mut S,
@@ -52,7 +52,7 @@ fn read_one<S: Shelf>(
     }
 }
 
-/// Reads the files of the words at these places, in order, up to the first that refuses.
+/// Reads the files that the words at these indices name, in order, up to the first fault.
 pub(crate) fn read_all<S: Shelf>(
     alloc: Global,
     shelf: &mut S,

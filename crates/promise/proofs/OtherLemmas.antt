@@ -2,16 +2,23 @@
 use Rattle.std.proofs.Common.{◌∙◌, refl, sym, arith}
 use Rattle.byte_scaling.specs.declared.width.Width.TheVariants.{Byte}
 use Rattle.two_level_runs.specs.Answering.{plan_of}
-use Rattle.std.proofs.Common.{List, map, subst}
+use Rattle.std.proofs.Common.{List, [], ℕ, length, map, subst}
+use Rattle.std.proofs.lemmas.List.{length-map}
+use Rattle.interrupt_plan.specs.Posts.{AreGoodPosts}
 use Rattle.run_law.specs.{Forms.RowSeen, Moments.TakenAtOnce}
+use Rattle.run_forms.specs.Arrival.{PlainIsOneStep}
+use Rattle.run_reports.specs.Laws.{SpelledBytesFit}
+use Rattle.alone_code.specs.Turns.{MailboxTakesPosts}
+use Rattle.mailbox_runs.specs.UninterruptedTurns.{MailboxRunsTurns, TurnsHaveSteps}
+use Rattle.mailbox_runs.specs.{Runs.steps_of}
 use Rattle.watched_code.specs.Watched.{Watched}
 use Rattle.watched_runs.specs.{Forms.FactsWatched, Forms.watched_form, Rows.upset_rows, Samples.with_upsets}
 use Rattle.alone_runs.specs.Rows.{first_state}
 use Rattle.trace_io.specs.Traces.{input_bytes}
 use Rattle.promise.specs.{Bench.AreReadOff, Bench.requests_in, Laws.AnswersServe}
 use Rattle.promise.specs.OtherRuns.{DebuggedRunsServe, WatchedRunsServe, GeneratedRunsServe, HandledRunsServe}
-use Rattle.promise.specs.OtherRuns.{OtherRunsServe, SlowRunsServe}
-use Rattle.promise.proofs.BenchLemmas.{read_off_expected}
+use Rattle.promise.specs.OtherRuns.{OtherRunsServe, PostedRunsServe, SlowRunsServe}
+use Rattle.promise.proofs.{BenchLemmas.read_off_expected, FastLemmas.all_serve, TurnLemmas.turns_end, TurnLemmas.waits}
 use Rattle.run_reports.proofs.Algebra.{rows_ran}
 
 generated : AnswersServe → GeneratedRunsServe
@@ -53,7 +60,30 @@ slow keep kind flags files report l byte = record {
     rows_are = rows_ran l.reported.follows ∙ sym l.answers.rows_are;
     last_is = refl;
   };
+  fast = all_serve l.fast l.accepts.0.fast_is.spelled.valid l.two flags (map input_bytes l.fast_samples) [] _ _ _ _
+      l.answers.told;
 }
+
+posted : PlainIsOneStep → MailboxTakesPosts → MailboxRunsTurns → TurnsHaveSteps → SpelledBytesFit → PostedRunsServe
+posted one takes run steps fit kind flags files report p byte =
+    let bytes = map input_bytes p.samples in
+    let follows = p.follows in
+    let firmware = p.accepts.0 in
+    let good = p.accepts.1.1.1.1.good in
+    let ran = run p.block p.firmware flags bytes follows.turns firmware.spelled.valid firmware.limits
+    firmware.compiled.0 byte (fit p.block files.trace p.samples p.accepts.1.1.1.0)
+    (steps p.firmware.inputs (length bytes) (steps_of flags p.firmware bytes) p.posts follows.turns
+    (subst (λ (n : ℕ). AreGoodPosts n p.posts) (sym (length-map p.samples input_bytes)) good) follows.turns_are) in
+    record {
+      ran = p.ran;
+      first = _;
+      waits = waits takes p.block p.firmware bytes flags firmware.spelled.valid firmware.limits firmware.compiled.0 byte
+          follows.arrived;
+      turns = follows.turns;
+      turns_are = follows.turns_are;
+      ends = turns_end one flags p.firmware bytes follows.turns _ ran.runs;
+      without = follows.run_is;
+    }
 
 watched : TakenAtOnce → WatchedRunsServe
 watched law kind flags files report w =
@@ -77,12 +107,14 @@ watched law kind flags files report w =
           w.answers.steps samples first w.answers.complete);
     }
 
-pub others_serve : TakenAtOnce → AnswersServe → OtherRunsServe
-others_serve law keep =
+pub others_serve : TakenAtOnce → PlainIsOneStep → MailboxTakesPosts → MailboxRunsTurns → TurnsHaveSteps
+    → SpelledBytesFit → AnswersServe → OtherRunsServe
+others_serve law one takes run steps fit keep =
     record {
       debugged = debugged keep;
       generated = generated keep;
       handled = handled keep;
+      posted = posted one takes run steps fit;
       slow = slow keep;
       watched = watched law;
     }

@@ -1,7 +1,7 @@
 -- A certified run keeps its promise.
 use Rattle.std.specs.List.{concat}
 use Rattle.std.proofs.Common.{◌≡◌, ◌<◌, ◌≤◌, ◌^◌, ◌∙◌, ℕ, List, [], refl, sym, ap, subst, arith}
-use Rattle.std.specs.Prelude.{length, map, All, slice_index_or, ◌-◌}
+use Rattle.std.specs.Prelude.{length, map, All, slice_index_or}
 use Rattle.std.proofs.lemmas.Option.{slice_get-get_or}
 use Rattle.box_tree.specs.{Certificates.AreClaims, declared.cert.Cert.Cert}
 use Rattle.cert_check.specs.Acceptance.{IsAccepted}

@@ -1,6 +1,7 @@
 use Rattle.std.proofs.Common.{inl, inr, ⊎_elim}
 use Rattle.fz_status.specs.Words.{texts_of, word_at}
 use Rattle.fz_top.proofs.{FlagsLemmas.byte_flags, FlagsLemmas.flags_small, KeepsLemmas.ok_keeps}
+use Rattle.fz_top.proofs.OthersLemmas.{ok_serves}
 use Rattle.fz_top.proofs.CompletenessLemmas.{asked, can, contents_of, room_for}
 use Rattle.fz_top.proofs.RunLemmas.{does, no_read_fault, no_write_fault, settles, completes, known_there, long_status}
 use Rattle.fz_top.proofs.RunLemmas.{carries, usage_status, usage_cause}
@@ -51,6 +52,10 @@ returns-clause-carried g c =
 pub returns-clause-promise : goal.returns-clause-promise
 returns-clause-promise g c =
     ok_keeps c.certified_runs_keep_promise.ensures (texts_of c.args.words.now) _ _ _ c.run-status.ensures.runs
+
+pub returns-clause-others : goal.returns-clause-others
+returns-clause-others g c =
+    ok_serves c.other_runs_serve.ensures (texts_of c.args.words.now) _ _ _ c.run-status.ensures.runs
 
 pub returns-clause-accepted : goal.returns-clause-accepted
 returns-clause-accepted g c = λ kind width flags files are told accepted why.

@@ -1,0 +1,22 @@
+-- What contents make of every command: one output or one refusal.
+-- Beside the promise.
+use Rattle.std.specs.Prelude.{◌≡◌, ◌<◌, ◌≤◌, ◌^◌, ℕ, List, All, length, Result}
+use Rattle.command_parts.specs.{Judged.HasResult, SeenOutputs.SeenOutput, Words.AreMillionths}
+use Rattle.fz_status.specs.declared.status.Status.{Status}
+use Rattle.fz_top.specs.{Accepted.run_flags, Commands.Makes, declared.command.Command.Command}
+use Rattle.fz_top.specs.declared.command.Command.TheVariants.{Certify}
+
+-- the targets of a certificate to find are at most the whole range, as those of words are
+abbrev pub HasMillionths : Command → Type 0
+HasMillionths (Certify certify) = AreMillionths certify.targets
+HasMillionths _ = Unit {0}
+
+-- where FLAGS are a byte, and each file has at most 1048576 bytes
+abbrev pub ContentsAreJudged : Type 0
+ContentsAreJudged = (command : Command) (contents : List (List ℕ)) → run_flags command < 2 ^ 8
+    → HasMillionths command → All (λ text. length text ≤ 1048576) contents → HasResult (Makes command contents)
+
+-- and all that they make is one: an output and the same output, or a refusal and the same status
+abbrev pub ContentsHaveOneResult : Type 0
+ContentsHaveOneResult = (command : Command) (contents : List (List ℕ)) (r q : Result SeenOutput Status)
+    → Makes command contents r → Makes command contents q → r ≡ q
