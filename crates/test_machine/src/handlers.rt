@@ -6,7 +6,7 @@ use std::test::Fail;
 
 type Judged = Result<Handler, HandlerFault>;
 
-/// Puts bytes from a place on.
+/// Adds bytes from an address on.
 fn push_bytes(items: &mut Vec<Item>, place: u16, bytes: &[u8]) -> Result<(), AllocError> {
     items.push(Item::Place(place))?;
     for byte in bytes {
@@ -15,7 +15,7 @@ fn push_bytes(items: &mut Vec<Item>, place: u16, bytes: &[u8]) -> Result<(), All
     Ok(())
 }
 
-/// What is judged of an image of items.
+/// The result of the check of an image of these items.
 fn judged_items(alloc: Global, items: &[Item]) -> Result<Judged, AsmFault> {
     if items.len() > 0x1_0000 {
         return Err(AsmFault::Memory);
@@ -24,7 +24,7 @@ fn judged_items(alloc: Global, items: &[Item]) -> Result<Judged, AsmFault> {
     Ok(check_handler(alloc, &image))
 }
 
-/// What is judged of bytes from `$4000` on.
+/// The result of the check of these bytes, from `$4000` on.
 fn judged(alloc: Global, bytes: &[u8]) -> Result<Judged, Fail> {
     let mut items = Vec::new(alloc);
     push_bytes(&mut items, 0x4000, bytes)?;

@@ -1,4 +1,4 @@
-//! The vectors, each decoded, encoded and done.
+//! The vectors, each decoded, encoded and executed.
 use crate::vectors::{
     BRANCHES, CONJUNCTIONS_AND_DEGREES, LOADS_AND_STORES, STEPS_AND_COMPARISONS, SUMS,
     TRANSFERS_AND_DIVISIONS, Vector,
@@ -13,22 +13,22 @@ use std::alloc::Global;
 use std::process::Abort;
 use std::test::Fail;
 
-/// The flags that the manual leaves open: H, N and V 1, Z and C 0.
+/// The byte for the open flags: H, N and V are 1, Z and C are 0.
 const FLAGS: u8 = 0x2A;
 
-/// Gives these bytes to memory.
+/// Writes these bytes to memory.
 fn give(m: &mut FlatMem, given: &[(u16, u8)]) {
     for (at, byte) in given {
         m.write(*at, *byte);
     }
 }
 
-/// Whether these bytes stand in memory.
+/// Whether these bytes are in memory.
 fn stand(m: &FlatMem, bytes: &[(u16, u8)]) -> bool {
     bytes.iter().all(|(at, byte)| m.read(*at) == *byte)
 }
 
-/// Whether an instruction has these bytes, and leads from the registers before it to those after it.
+/// Whether the vector's bytes are the encoding of their instruction, and it leaves the vector's registers.
 fn leads(m: &mut FlatMem, v: &Vector) -> Result<bool, Trap> {
     let (i, size) = decode(m, 0xC000)?;
     if size as usize != v.code.len() || encode(&i).as_slice() != v.code {

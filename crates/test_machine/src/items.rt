@@ -1,4 +1,4 @@
-//! Items, their images, and the records of these.
+//! Items, their images, and the records of the images.
 use cpu12_asm::{AsmFault, Item, assemble_items};
 use cpu12_isa::instr::Instr;
 use srecord::write;
@@ -71,7 +71,7 @@ static HEATER: [Item; 61] = [
     Item::Byte(0x00),
 ];
 
-/// Items with the fault of the first that cannot be placed.
+/// Items, with the fault of the first one that cannot be placed.
 static FAULTS: [(&[Item], AsmFault); 5] = [
     (
         &[Item::Place(0xFFFF), Item::Op(Instr::Coma), Item::Byte(0)],

@@ -1,7 +1,7 @@
-//! Worked values of the calls on the machine, as tests: its instructions and their parts, sources, images,
-//! handlers, and the rows that interrupt it.
+//! Tests of the functions on the machine against worked values: its instructions and their parts, sources,
+//! images, handlers, and the rows of plans, posts, levels and upsets.
 //!
-//! Each expected value was worked out by hand from the CPU12 Reference Manual, or by a program of its own.
+//! Each expected value was worked out by hand from the CPU12 Reference Manual, or by a separate program.
 #![tactic(auto)]
 
 #[cfg(test)]

@@ -72,7 +72,7 @@ fn machine_of(alloc: Global, runs: &[(u16, &'static [u8])]) -> Result<Machine<Fl
     }
 }
 
-/// Does so many steps.
+/// Does this many steps.
 fn steps(m: &mut Machine<FlatMem>, count: u32) -> Result<(), Trap> {
     for _ in 0..count {
         m.step()?;

@@ -1,4 +1,4 @@
-//! REV, REVW and WAV on worked bytes, with a cut at every boundary and with none.
+//! REV, REVW and WAV on worked bytes, suspended and resumed at every boundary, and not at all.
 use cpu12_isa::instr::{Ccr, Regs};
 use cpu12_isa::mem::{FlatMem, Mem};
 use cpu12_isa::stack::place;
@@ -20,7 +20,7 @@ fn regs(a: u8, b: u8, x: u16, y: u16, ccr: u8) -> Regs {
     }
 }
 
-/// Does parts to the end, at most 100, and answers how many they were.
+/// Does all parts, at most 100, and returns their number.
 fn parts<R: Resumable>(k: &R, r: &mut Regs, m: &mut FlatMem, cut: bool) -> u32 {
     let mut t = Temps::Free;
     let mut done = 0;

@@ -13,7 +13,7 @@ fn put(bytes: &mut ByteMap, at: u16, new: &[u8]) -> Result<(), AllocError> {
     Ok(())
 }
 
-/// The first and the last record of bytes of a run of 33, and the count.
+/// The first and the last record of a run of 33 bytes, and the count.
 #[test]
 fn a_run_is_cut_at_32(rt: HostRuntime) -> Result<(), Fail> {
     let mut bytes = ByteMap::new(rt.alloc());
@@ -25,7 +25,7 @@ fn a_run_is_cut_at_32(rt: HostRuntime) -> Result<(), Fail> {
     Ok(())
 }
 
-/// How many bytes and which start a text gives, or its first fault.
+/// The number of bytes and the start of the image that a text gives, or its first fault.
 fn read_from(alloc: Global, text: &[u8]) -> Option<Result<(usize, u16), SrecFault>> {
     if text.len() > 1_048_576 {
         return None;

@@ -1,12 +1,12 @@
 //! One vector for each form of an instruction, and more where flags differ. The values are those of the
-//! CPU12 Reference Manual's tables and Boolean formulas, worked out by hand and by a program of its own.
+//! CPU12 Reference Manual's tables and Boolean formulas, worked out by hand and by a separate program.
 use cpu12_isa::instr::{Ccr, Regs};
 
 /// Bytes with their addresses.
 type Bytes = &'static [(u16, u8)];
 
-/// An instruction at `$C000`: its bytes, the registers before it, the bytes given to memory, the
-/// registers after it, and the bytes that stand in memory then.
+/// An instruction at `$C000`: its bytes, the registers before it, the bytes written to memory before,
+/// the registers after it, and the bytes in memory then.
 pub(crate) struct Vector {
     pub(crate) name: &'static str,
     pub(crate) code: &'static [u8],
@@ -16,7 +16,7 @@ pub(crate) struct Vector {
     pub(crate) stands: Bytes,
 }
 
-/// The registers before an instruction, and after it, but for those that its vector names.
+/// The registers before and after an instruction, except those that its vector gives.
 const USUAL: Regs = Regs {
     a: 0x12,
     b: 0x34,

@@ -6,7 +6,7 @@ use test_program_calls::{
 };
 use test_texts::{BACK, BLOCK, FRONT, LATCH, MIDDLE, TWO_OUTPUTS};
 
-/// The parts of a text, TARGET, what comes of them, and what OUT holds then, where that is known.
+/// The parts of a text, TARGET, what the call leaves, and what OUT holds then, if that is given.
 #[derive(Clone, Copy)]
 pub(crate) struct Search {
     pub(crate) command: &'static str,
@@ -25,7 +25,7 @@ const HEATER: Search = Search {
     out: Some("FZC 1\nclaim 19609\nsplit 1 128\nleaf 1 127\nleaf 2 127\n"),
 };
 
-static SEARCHES: [Search; 11] = rows! { Search:
+static SEARCHES: [Search; 13] = rows! { Search:
     HEATER {};
     HEATER { target: "0019609" };
     HEATER { command: "certify16", target: "15702" } leaves "error 1 15702\nleaves 2\n"
@@ -51,6 +51,9 @@ leaf 2 127 4 127
     HEATER { fcl: &[] } refused 4 "fcl: at 0: expected\n" makes BEFORE;
     HEATER { target: "1000001", left: USAGE } makes BEFORE;
     HEATER { target: "1e4", left: USAGE } makes BEFORE;
+    // A list is for tight certificates alone.
+    HEATER { fcl: &[TWO_OUTPUTS], target: "21569,21569", left: USAGE } makes BEFORE;
+    HEATER { command: "certify16", fcl: &[TWO_OUTPUTS], target: "21569,21569", left: USAGE } makes BEFORE;
 };
 
 pub(crate) fn find(alloc: Global, row: &Search) -> Result<(), Difference> {

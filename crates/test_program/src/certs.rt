@@ -8,7 +8,7 @@ use test_texts::{
     BLOCK, HALF_WEIGHT, HALVES, LATCH, NODES_OF_THE_LATCH, QUARTERS, ROUNDED, TWO_OUTPUTS,
 };
 
-/// A command over the parts of a text and those of a certificate, and what it leaves.
+/// A command, the parts of a text and those of a certificate, and what the command leaves.
 #[derive(Clone, Copy)]
 pub(crate) struct Certificate {
     pub(crate) command: &'static str,
@@ -27,8 +27,8 @@ const HEATER: Certificate = Certificate {
     left: CERTIFIED,
 };
 
-/// The certificate of a block of two outputs. The singleton 30 has the byte 77, which stands for 30.196 of 100: the
-/// second output's error is by 0.00196 of its range above the heater's.
+/// The certificate of a block with two outputs. The singleton 30 has the byte 77, whose value is 30.196 of 100: the
+/// second output's error is greater than the heater's by 0.00196 of its range.
 const BOTH: Certificate = Certificate {
     fcl: &[TWO_OUTPUTS],
     cert: &["FZC 1\nclaim 19609 21569\n", QUARTERS],
@@ -108,12 +108,12 @@ fn certificates(rt: HostRuntime) -> Result<(), Fail> {
 
 static CHECK: [&str; 4] = ["fuzz12", "check", "first", "second"];
 
-/// A cut of the only input, and the end of the line.
+/// The line of a cut of the only input.
 fn push_cut(alloc: Global, text: &mut String, cut: u32) -> Result<(), AllocError> {
     text.push_str(&format!(in alloc; "split 1 {cut}\n")?)
 }
 
-/// A leaf for a byte, by the rule that is stronger there.
+/// A leaf for a byte, with the rule that is stronger there.
 fn push_leaf(alloc: Global, text: &mut String, byte: u32) -> Result<(), AllocError>
     requires { byte ≤ 255 }
 {
@@ -125,8 +125,8 @@ fn push_leaf(alloc: Global, text: &mut String, byte: u32) -> Result<(), AllocErr
     text.push_str(&format!(in alloc; "leaf {rule} {part}\n")?)
 }
 
-/// The heater's certificate with a leaf for each byte, cut from the last byte down, but for the
-/// first cut and how many leaves there are.
+/// The heater's certificate with a leaf for each byte, cut from the last byte down, but with this
+/// first cut and this many leaves.
 fn each_byte(alloc: Global, first: u32, leaves: u32) -> Result<String, AllocError>
     requires { leaves ≤ 256 }
 {
@@ -141,7 +141,7 @@ fn each_byte(alloc: Global, first: u32, leaves: u32) -> Result<String, AllocErro
     Ok(text)
 }
 
-/// As many leaves as there may be, each behind a cut, and one more.
+/// As many leaves as there may be, each after a cut, and one more.
 fn a_leaf_more(alloc: Global) -> Result<String, AllocError> {
     let mut text = String::from_str(alloc, "FZC 1\nclaim 0\n")?;
     for _ in 0..4096u32 {

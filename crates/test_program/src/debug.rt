@@ -5,7 +5,7 @@ use std::test::Fail;
 use test_program_calls::{Difference, Left, NONE, call, push_bytes, push_file, rows, shelf_of};
 use test_texts::{BLOCK, RECORDS};
 
-/// A trace, a plan and a script, and what a run of the heater leaves under these.
+/// A trace, a plan and a script, and what a run of the heater with them leaves.
 #[derive(Clone, Copy)]
 struct Debugged {
     trace: &'static str,
@@ -14,7 +14,7 @@ struct Debugged {
     left: Left<'static>,
 }
 
-/// The heater's run with no plan, under no script.
+/// The heater's run with an empty plan and an empty script.
 const HEATER: Debugged = Debugged {
     trace: "64\n",
     plan: "",
@@ -96,8 +96,8 @@ fn debugs(rt: HostRuntime) -> Result<(), Fail> {
     Ok(())
 }
 
-/// PC at each boundary of the sample behind the first, by the lengths of the instructions; REV has eight parts, and WAV
-/// two with both interrupts between them.
+/// PC at each boundary of the sample after the first one, from the lengths of the instructions; REV has eight parts,
+/// and WAV two with both interrupts between them.
 const EACH_BOUNDARY: &str = "stop 1 1 C00B
 stop 1 2 C00D
 stop 1 3 C016
@@ -139,7 +139,7 @@ frame 1 26 C03C 1FEF 15
 frame 1 26 C03C 1FEF 9
 ";
 
-/// So many lines of a script.
+/// A script of this many lines.
 fn push_lines(script: &mut Vec<u8>, line: &[u8], count: u32) -> Result<(), AllocError> {
     for _ in 0..count {
         script.extend_from_slice(line)?;

@@ -1,14 +1,14 @@
-//! What is told of a call that leaves something else than is wanted.
+//! What is reported about a call that does not leave what is expected.
 use fz_shelf::MemShelf;
 use std::alloc::Global;
 use std::test::Fail;
 use test_program_calls::{
-    BEFORE, Difference, Left, NONE, call, call_over, file_holds, push_file, push_room, reads_are,
+    BEFORE, Difference, Left, NONE, call, call_over, calls_are, file_holds, push_file, push_room,
     shelf_of,
 };
 use test_texts::{SOURCE, SOURCE_RECORDS};
 
-/// What the records of an empty handler do not leave: another status, line, or lines on out.
+/// What a call with the records of an empty handler does not leave: another status, line, or lines on out.
 static OTHERS: [Left<'static>; 4] = [
     Left::Refused(13, "handler: empty\n"),
     Left::Refused(14, "handler: empty"),
@@ -32,7 +32,7 @@ fn another_outcome_is_told(rt: HostRuntime) -> Result<(), Fail> {
     Ok(())
 }
 
-/// The shelf behind a call that assembles [`SOURCE`].
+/// The shelf after a call that assembles [`SOURCE`].
 fn assembled(alloc: Global) -> Result<MemShelf, Difference> {
     let mut files = Vec::new(alloc);
     push_file(alloc, &mut files, "in", &[SOURCE])?;
@@ -43,7 +43,7 @@ fn assembled(alloc: Global) -> Result<MemShelf, Difference> {
     Ok(shelf)
 }
 
-/// Whether a file holds a text.
+/// Checks that a file has this text.
 fn holds(alloc: Global, shelf: &mut MemShelf, name: &str, text: &str) -> bool {
     file_holds(alloc, shelf, name, text.as_bytes()).is_ok()
 }
@@ -52,8 +52,8 @@ fn holds(alloc: Global, shelf: &mut MemShelf, name: &str, text: &str) -> bool {
 fn another_file_is_told(rt: HostRuntime) -> Result<(), Fail> {
     let alloc = rt.alloc();
     let mut shelf = assembled(alloc)?;
-    assert!(rt; reads_are(&shelf, 1).is_ok());
-    assert!(rt; reads_are(&shelf, 0).is_err());
+    assert!(rt; calls_are(&shelf, 2).is_ok());
+    assert!(rt; calls_are(&shelf, 1).is_err());
     assert!(rt; holds(alloc, &mut shelf, "out", SOURCE_RECORDS));
     assert!(rt; !holds(alloc, &mut shelf, "out", BEFORE));
     assert!(rt; !holds(alloc, &mut shelf, "none", ""));

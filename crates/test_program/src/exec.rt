@@ -14,7 +14,7 @@ const ARRIVED: Left<'static> = Left::Lines(
     "pc C003 a FA b 00 x 0000 y 0000 sp 0000 ccr D9 steps 2\n",
 );
 
-/// Records, STEPS and FLAGS, and what comes of them.
+/// Records, STEPS and FLAGS, and what the call leaves.
 #[derive(Clone, Copy)]
 struct Execution {
     records: &'static str,

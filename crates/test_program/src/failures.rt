@@ -1,10 +1,10 @@
-//! Each read, write and put that fails, one after the other, over every command.
+//! For every command, each read, write and put fails in turn.
 use fz_shelf::MemShelf;
 use std::alloc::Global;
 use std::test::Fail;
 use test_program_calls::{
-    BEFORE, Difference, Faults, Left, NONE, bytes_of, call, file_holds, push_bytes, push_file,
-    push_room, reads_are, shelf_of,
+    BEFORE, Difference, Faults, Left, NONE, bytes_of, call, calls_are, file_holds, push_bytes,
+    push_file, push_room, shelf_of,
 };
 use test_texts::{
     BLOCK, CELLS, HALVES, MAILBOX_RECORDS, RECORDS, RECORDS_OF_BOTH, SOURCE, SOURCE_RECORDS,
@@ -50,6 +50,13 @@ struct Accepted {
     lines: &'static [&'static str],
     /// The first three bytes of its lines.
     start: &'static str,
+}
+
+impl Accepted {
+    /// How many files it reads and writes.
+    fn calls(&self) -> usize {
+        self.reads.len() + usize::from(self.writes)
+    }
 }
 
 // A row is the words behind the program's own, and the other fields.
@@ -227,7 +234,7 @@ static WORKLOAD: [Accepted; 1] = accepted! {
         ] start "gen";
 };
 
-/// The files that stand on the shelf, with these records of 16 bits.
+/// The shelf with all files, and with these records for answers of 16 bits.
 fn house(alloc: Global, wide: &[u8], faults: &Faults) -> Result<MemShelf, Difference> {
     let mut files = Vec::new(alloc);
     for (name, text) in FILES.iter() {
@@ -238,15 +245,15 @@ fn house(alloc: Global, wide: &[u8], faults: &Faults) -> Result<MemShelf, Differ
     shelf_of(alloc, files, faults)
 }
 
-/// What comes of a call: what it leaves, how many files it reads, and what OUT holds then.
+/// The outcome of a call: what it leaves, how many files it reads and writes, and what OUT holds then.
 #[derive(Clone, Copy)]
 struct Outcome<'a> {
     left: Left<'a>,
-    reads: usize,
+    calls: usize,
     out: &'a [u8],
 }
 
-/// Whether this comes of a call, and each file but OUT is as before.
+/// Checks that a call has this outcome, and that each file but OUT is as before.
 fn case(
     alloc: Global,
     wide: &[u8],
@@ -256,7 +263,7 @@ fn case(
 ) -> Result<(), Difference> {
     let mut shelf = house(alloc, wide, faults)?;
     call(alloc, line, &mut shelf, faults, &outcome.left)?;
-    reads_are(&shelf, outcome.reads)?;
+    calls_are(&shelf, outcome.calls)?;
     file_holds(alloc, &mut shelf, "out", outcome.out)?;
     file_holds(alloc, &mut shelf, "wide.s19", wide)?;
     for (name, text) in FILES.iter() {
@@ -265,7 +272,7 @@ fn case(
     Ok(())
 }
 
-/// What OUT holds behind a call in which nothing fails.
+/// What OUT holds after a call in which nothing fails.
 fn written(alloc: Global, wide: &[u8], command: &Accepted) -> Result<Vec<u8>, Difference> {
     let mut shelf = house(alloc, wide, &NONE)?;
     let text = joined(alloc, command.lines)?;
@@ -283,7 +290,7 @@ fn wide_records(alloc: Global) -> Result<Vec<u8>, Difference> {
     written(alloc, &[], &COMMANDS[4])
 }
 
-/// Each read fails: none comes behind it, and nothing is written or put.
+/// Each read fails: none comes after it, and nothing is written or put.
 fn failing_reads(alloc: Global, wide: &[u8], command: &Accepted) -> Result<(), Difference> {
     for (number, name) in (1..9u32).zip(command.reads) {
         let failing = [number];
@@ -294,7 +301,7 @@ fn failing_reads(alloc: Global, wide: &[u8], command: &Accepted) -> Result<(), D
         let line = joined(alloc, &["read fault: ", name, "\n"])?;
         let outcome = Outcome {
             left: Left::Refused(2, line.as_str()),
-            reads: number as usize,
+            calls: number as usize,
             out: BEFORE.as_bytes(),
         };
         case(alloc, wide, command.line, &faults, &outcome)?;
@@ -315,13 +322,13 @@ fn failing_write(alloc: Global, wide: &[u8], command: &Accepted) -> Result<(), D
         } else {
             Left::Lines(text.as_str())
         },
-        reads: command.reads.len(),
+        calls: command.calls(),
         out: BEFORE.as_bytes(),
     };
     case(alloc, wide, command.line, &faults, &outcome)
 }
 
-/// Each put of a line fails: those before it stand, and OUT is whole.
+/// Each put of a line fails: the lines before it are on out, and OUT is whole.
 fn failing_puts(alloc: Global, wide: &[u8], command: &Accepted) -> Result<(), Difference> {
     let out = written(alloc, wide, command)?;
     let mut before = String::new(alloc);
@@ -333,7 +340,7 @@ fn failing_puts(alloc: Global, wide: &[u8], command: &Accepted) -> Result<(), Di
         };
         let outcome = Outcome {
             left: Left::Broken(before.as_str()),
-            reads: command.reads.len(),
+            calls: command.calls(),
             out: &out,
         };
         case(alloc, wide, command.line, &faults, &outcome)?;
@@ -342,13 +349,13 @@ fn failing_puts(alloc: Global, wide: &[u8], command: &Accepted) -> Result<(), Di
     Ok(())
 }
 
-/// Out takes a byte a put: all lines are put, or where the fourth put fails three bytes.
+/// Out takes one byte in each put: all lines are put, or three bytes if the fourth put fails.
 fn short_puts(alloc: Global, wide: &[u8], command: &Accepted) -> Result<(), Difference> {
     let out = written(alloc, wide, command)?;
     let text = joined(alloc, command.lines)?;
     let whole = Outcome {
         left: Left::Lines(text.as_str()),
-        reads: command.reads.len(),
+        calls: command.calls(),
         out: &out,
     };
     let faults = Faults { most: 1, ..NONE };
@@ -361,13 +368,13 @@ fn short_puts(alloc: Global, wide: &[u8], command: &Accepted) -> Result<(), Diff
     let left = Left::Broken(command.start);
     let broken = Outcome {
         left,
-        reads: command.reads.len(),
+        calls: command.calls(),
         out: &out,
     };
     case(alloc, wide, command.line, &faults, &broken)
 }
 
-/// The puts of err fail too, behind a read that does: the status stays, and of the line stands what err took.
+/// The puts of err fail too, after a read that fails: the status is the same, and err has a prefix of the line.
 fn failing_err(alloc: Global, wide: &[u8], command: &Accepted) -> Result<(), Difference> {
     let first = Faults {
         reads: &[1],
@@ -376,7 +383,7 @@ fn failing_err(alloc: Global, wide: &[u8], command: &Accepted) -> Result<(), Dif
     };
     let nothing = Outcome {
         left: Left::Refused(2, ""),
-        reads: 1,
+        calls: 1,
         out: BEFORE.as_bytes(),
     };
     case(alloc, wide, command.line, &first, &nothing)?;
@@ -386,7 +393,7 @@ fn failing_err(alloc: Global, wide: &[u8], command: &Accepted) -> Result<(), Dif
     };
     let part = Outcome {
         left: Left::Refused(2, "read fault: "),
-        reads: 1,
+        calls: 1,
         out: BEFORE.as_bytes(),
     };
     case(alloc, wide, command.line, &second, &part)

@@ -1,8 +1,8 @@
-//! Commands over five files and flags.
+//! Commands with five files and flags.
 use std::alloc::Global;
 use test_program_calls::{Difference, Left, NONE, call, push_file, shelf_of};
 
-/// What a command over five files is given with the flags 00, and what it leaves.
+/// What a command with five files is given, with the flags 00, and what it leaves.
 #[derive(Clone, Copy)]
 pub(crate) struct FiveFiles {
     pub(crate) fcl: &'static str,
@@ -29,7 +29,7 @@ fn run(alloc: Global, command: &str, given: &FiveFiles) -> Result<(), Difference
     call(alloc, &line, &mut shelf, &NONE, &given.left)
 }
 
-/// Whether the command leaves what each row says.
+/// Checks that the command leaves what each row states.
 pub(crate) fn run_each(alloc: Global, command: &str, rows: &[FiveFiles]) -> Result<(), Difference> {
     for given in rows {
         run(alloc, command, given)?;

@@ -1,9 +1,9 @@
-//! Numbers whose workloads are run, and words that are no number of 32 bits.
+//! Numbers whose workloads are run, and words that are no 32-bit number.
 use std::alloc::Global;
 use std::test::Fail;
 use test_program_calls::{Difference, Left, NONE, USAGE, call, shelf_of};
 
-/// A word, and what comes of it.
+/// A word, and what the call leaves.
 #[derive(Clone, Copy)]
 struct Draw {
     word: &'static str,

@@ -2,7 +2,7 @@
 use std::test::Fail;
 use test_program_calls::{Left, call_over, rows};
 
-/// A handler's records, and what comes of them.
+/// A handler's records, and what the call leaves.
 #[derive(Clone, Copy)]
 struct Row {
     records: &'static str,
@@ -14,7 +14,7 @@ const NO_BYTE: Row = Row {
     left: Left::Refused(14, "handler: empty\n"),
 };
 
-/// Accepted handlers, one for each fault, and no records.
+/// Accepted handlers, one handler for each fault, and a file without records.
 static ROWS: [Row; 13] = rows! { Row:
     // INC $1800; RTI
     NO_BYTE { records: "S10740007218000B23\nS9030000FC\n" } leaves "handler instructions 2\n";

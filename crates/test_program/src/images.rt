@@ -8,7 +8,7 @@ use test_texts::{
     BLOCK, MAILBOX_RECORDS, RECORDS, SOURCE, SOURCE_RECORDS, TWO_OUTPUTS, WATCHED_RECORDS,
 };
 
-/// A command, the text of its file, what it leaves, and what the file OUT holds then, if that is said.
+/// A command, the text of its file, what it leaves, and what the file OUT holds then, if that is given.
 #[derive(Clone, Copy)]
 struct Written {
     command: &'static str,

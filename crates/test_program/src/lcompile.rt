@@ -6,7 +6,7 @@ use test_program_calls::{
 };
 use test_texts::{BLOCK, RECORDS_OF_BOTH};
 
-/// The texts of SLOW and of FAST, if that is there, what is left, and what OUT holds then.
+/// The texts of SLOW and of FAST, if there is one, what the call leaves, and what OUT holds then.
 #[derive(Clone, Copy)]
 struct Both {
     slow: &'static str,

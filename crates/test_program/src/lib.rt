@@ -1,5 +1,5 @@
-//! Tests of the program: what the commands that run firmware print, what those that make or judge one file print and
-//! write, what is refused, with files that lie, reads, writes and puts that fail, and real files.
+//! Tests of the program: what the commands that run firmware print, what those that make or check one file print and
+//! write, what is refused, malicious files, reads, writes and puts that fail, and real files.
 #![tactic(auto)]
 
 #[cfg(test)]

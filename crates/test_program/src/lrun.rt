@@ -14,7 +14,7 @@ use test_texts::{
 struct AtLevels {
     slow: &'static [&'static str],
     fast: &'static [&'static str],
-    /// The image, if it is not what `lcompile` writes.
+    /// The image, if it is not the one that `lcompile` writes.
     image: Option<&'static str>,
     slow_cert: &'static [&'static str],
     fast_cert: &'static [&'static str],
@@ -236,7 +236,7 @@ inner 24 4028 1FE0 15
     TIGHT { fast_cert: MANY } refused 6 "fast cert: line 3: too many cells\n";
 };
 
-/// The eight files, the image being empty where `lcompile` is to write it.
+/// The eight files. The image is empty if `lcompile` is to write it.
 fn shelf(alloc: Global, run: &AtLevels) -> Result<MemShelf, Difference> {
     let mut files = Vec::new(alloc);
     push_file(alloc, &mut files, "slow", run.slow)?;

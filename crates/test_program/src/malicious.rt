@@ -1,4 +1,4 @@
-//! Files that lie, and the longest ones of each kind.
+//! Malicious files, and the longest ones of each kind.
 use std::alloc::{AllocError, Global};
 use std::test::Fail;
 use test_program_calls::{
@@ -6,10 +6,10 @@ use test_program_calls::{
 };
 use test_texts::{BACK, BLOCK, FRONT, HALVES, OPENED, RECORDS, RECORDS_OF_BOTH};
 
-/// The parts of a long text, each with how often it stands there.
+/// The parts of a long text, each with the number of its repetitions.
 type Parts = &'static [(&'static str, u32)];
 
-/// The words, the files that they may name, and what comes of them.
+/// The words, the files that they may name, and what the call leaves.
 #[derive(Clone, Copy)]
 struct Given {
     line: &'static [&'static str],
@@ -179,7 +179,7 @@ static PLANS: [Given; 10] = calls! {
     RUN { plan: [("1,999999999,1800,FF\n", 10_000)] };
 };
 
-/// The heater at both levels, over the same files.
+/// The heater at both levels, with the same files.
 const LEVELS: Given = Given {
     line: &[
         "fuzz12", "lrun", "text", "text", "image", "cert", "cert", "trace", "trace", "plan", "00",
@@ -259,7 +259,7 @@ fn long(alloc: Global, parts: &[(&str, u32)]) -> Result<String, AllocError> {
     Ok(text)
 }
 
-/// Whether the call leaves what it is to leave.
+/// Checks that the call leaves what is expected.
 fn case(alloc: Global, given: &Given) -> Result<(), Difference> {
     let mut files = Vec::new(alloc);
     let named = [
@@ -337,7 +337,7 @@ fn sources(rt: HostRuntime) -> Result<(), Fail> {
     Ok(())
 }
 
-/// Long labels, as many as a source has room for, each with the place 0.
+/// As many long labels as a source has room for, each at the address 0.
 fn labels(alloc: Global) -> Result<String, AllocError> {
     let mut text = String::new(alloc);
     for number in 0..8192u32 {
@@ -369,8 +369,8 @@ fn push_record(alloc: Global, text: &mut String, address: u16, byte: u8) -> Resu
     text.push_str(&format!(in alloc; "S104{address:04X}{byte:02X}{check:02X}\n")?)
 }
 
-/// Each byte of the memory in a record of its own, from the last address to the first: a branch to
-/// itself at `$C000`, where reset leads.
+/// Each byte of memory in its own record, from the last address to the first: a branch to itself at
+/// `$C000`, to which reset leads.
 fn every_byte(alloc: Global) -> Result<String, AllocError> {
     let mut text = String::new(alloc);
     for address in (0..=0xFFFFu16).rev() {

@@ -1,4 +1,4 @@
-//! Runs of the mailbox form, to which interrupts post samples.
+//! Runs of the mailbox form, whose samples interrupts post.
 use super::five_files::{FiveFiles, run_each};
 use std::test::Fail;
 use test_program_calls::{Left, rows};

@@ -1,9 +1,9 @@
-//! The files of a run: which are read, and which is blamed.
+//! The files of a run: which of them are read, and which one is reported.
 use fz_shelf::MemShelf;
 use std::alloc::{AllocError, Global};
 use std::test::Fail;
 use test_program_calls::{
-    Difference, Left, NONE, call, push_bytes, push_file, reads_are, shelf_of,
+    Difference, Left, NONE, call, calls_are, push_bytes, push_file, shelf_of,
 };
 use test_texts::{BLOCK, HALVES, RECORDS, RECORDS_OF_ANOTHER};
 
@@ -18,7 +18,7 @@ static HOUSE: [(&str, &[&str]); 7] = [
     ("over.csv", &["256.0001"]),
 ];
 
-/// A byte more than is read.
+/// One byte more than the longest file that can be read.
 fn long(alloc: Global) -> Result<Vec<u8>, AllocError> {
     let mut long = Vec::with_capacity(alloc, 1_048_577)?;
     long.resize(1_048_577, b'0')?;
@@ -34,7 +34,7 @@ fn house(alloc: Global) -> Result<MemShelf, Difference> {
     shelf_of(alloc, files, &NONE)
 }
 
-/// Whether a call over these files reads so many of them and leaves this.
+/// Checks that a call over these files reads this many of them and leaves this.
 pub(super) fn case(
     alloc: Global,
     line: &[&str],
@@ -43,7 +43,7 @@ pub(super) fn case(
 ) -> Result<(), Difference> {
     let mut shelf = house(alloc)?;
     call(alloc, line, &mut shelf, &NONE, left)?;
-    reads_are(&shelf, reads)
+    calls_are(&shelf, reads)
 }
 
 /// The words of the heater's run with these flags.
@@ -62,7 +62,7 @@ left 208
 ",
 );
 
-/// The five files of a run, how many of them are read, and what it leaves.
+/// The five files of a run, the number of those that are read, and what the run leaves.
 struct Read {
     names: [&'static str; 5],
     reads: usize,

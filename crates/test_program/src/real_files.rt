@@ -1,5 +1,5 @@
-//! Files of the folder that the tests run in and the system's own, as the program reads and writes them.
-use fz_shelf::{Failed, FileShelf, MOST_BYTES, ReadError, Shelf};
+//! Real files, in the folder in which the tests run and those of the system, as the program reads and writes them.
+use fz_shelf::{FileShelf, MOST_BYTES, ReadError, Shelf, WriteError};
 use std::alloc::Global;
 use std::fs;
 use std::process::Abort;
@@ -8,7 +8,7 @@ use std::test::Fail;
 
 const NAME: &str = "test_program_real_files";
 
-/// Fails where a read of the name gives another answer or other bytes.
+/// Fails if a read of the name ends otherwise or gives other bytes.
 fn reads<R: Files + Drop>(
     rt: &impl Abort,
     alloc: Global,
@@ -53,6 +53,6 @@ fn tells_each_fault_of_real_files(rt: HostRuntime) -> Result<(), Fail> {
     reads(&rt, alloc, &mut shelf, "/dev/null", Ok(b""));
     // a file with no end
     reads(&rt, alloc, &mut shelf, "/dev/zero", Err(ReadError::TooLong));
-    assert_eq!(rt; shelf.write("/", b"64"), Err(Failed));
+    assert_eq!(rt; shelf.write("/", b"64"), Err(WriteError::Failed));
     Ok(())
 }

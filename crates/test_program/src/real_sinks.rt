@@ -1,4 +1,4 @@
-//! A real file, the system's full device and standard error, as the program puts its lines into them.
+//! A real file, the system's full device and standard error, with the lines that the program puts into them.
 use fz_shelf::{Failed, Sink, StdSink};
 use std::fs::{self, File};
 use std::test::Fail;

@@ -1,10 +1,10 @@
-//! Texts that spell no function block, each refused with its fault and the place of it.
+//! Texts that spell no function block, each refused with its fault and the fault's offset.
 use std::alloc::{AllocError, Global};
 use std::test::Fail;
 use test_program_calls::{Difference, Left, NONE, call, push_bytes, shelf_of};
 use test_texts::{FAULTS, Flaw, LOAD_FAULTS, with_load_fault};
 
-/// The line of a fault at a place.
+/// The line of a fault at an offset.
 fn line_of(alloc: Global, at: usize, flaw: Flaw) -> Result<String, AllocError> {
     match flaw {
         Flaw::BadByte => format!(in alloc; "fcl: at {at}: bad byte\n"),
@@ -16,7 +16,7 @@ fn line_of(alloc: Global, at: usize, flaw: Flaw) -> Result<String, AllocError> {
     }
 }
 
-/// Whether this text is refused with this line.
+/// Checks that this text is refused with this line.
 fn is_refused(alloc: Global, text: &[u8], line: &str) -> Result<(), Difference> {
     let mut files = Vec::new(alloc);
     push_bytes(alloc, &mut files, "text", text)?;

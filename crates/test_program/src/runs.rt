@@ -1,4 +1,4 @@
-//! Runs over five files: worked samples under worked plans.
+//! Runs with five files: worked samples under worked plans.
 use super::reads::RUN;
 use fz_shelf::MemShelf;
 use std::alloc::Global;
@@ -171,7 +171,7 @@ left 208
     TIGHT { command: "run" } refused 6 "cert: line 1: bad line\n";
 };
 
-/// The five files, the image being empty.
+/// The five files, with an empty image.
 fn shelf(alloc: Global, ran: &Ran) -> Result<MemShelf, Difference> {
     let mut files = Vec::new(alloc);
     push_file(alloc, &mut files, "n.fcl", ran.fcl)?;
@@ -190,7 +190,7 @@ fn compile(alloc: Global, command: &str, shelf: &mut MemShelf) -> Result<(), Dif
     }
 }
 
-/// A run of the image that `compile` writes before it.
+/// Checks a run of the image that `compile` writes first.
 fn run(alloc: Global, ran: &Ran) -> Result<(), Difference> {
     let mut shelf = shelf(alloc, ran)?;
     let wide = matches!(ran.command, "run16" | "trun16");

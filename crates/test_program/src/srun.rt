@@ -1,4 +1,4 @@
-//! Runs over six files: worked samples whose firmware's tables are upset.
+//! Runs with six files: worked samples while the firmware's tables are upset.
 use fz_shelf::MemShelf;
 use std::alloc::{AllocError, Global};
 use std::fmt::Write;
@@ -8,7 +8,7 @@ use test_program_calls::{
 };
 use test_texts::{BLOCK, CELLS, HALF_WEIGHT, HALVES, LATCH, NODES_OF_THE_LATCH};
 
-/// What `srun` or `tsrun` is given, with the command that writes its image, and what it leaves.
+/// What `srun` or `tsrun` is given, the command that writes its image, and what it leaves.
 #[derive(Clone, Copy)]
 struct Ran {
     command: &'static str,
@@ -47,8 +47,8 @@ const HEATER: Ran = Ran {
     left: ANSWERED,
 };
 
-/// The check takes 61 instructions more than the heater's 28: 3 for each of 18 bytes, 1 for each of 3 segments, and 4.
-/// Where it fails, BAD follows after 63: 5 with the return, and 2 to LOOP.
+/// The check takes 61 instructions in addition to the heater's 28: 3 for each of 18 bytes, 1 for each of 3 segments,
+/// and 4. If it fails, BAD follows after 63: 5 with the return, and 2 to LOOP.
 static RUNS: [Ran; 26] = rows! { Ran:
     HEATER {};
     HEATER { upsets: "1,D201,FE\n", left: UPSET };
@@ -150,7 +150,7 @@ frame 1 7 C02B 1FF5 9
     TIGHT { upsets: "1,D202,00\n" } refused 7 "upset: row 1: not table D202\n";
 };
 
-/// The six files, the image being empty.
+/// The six files, with an empty image.
 fn shelf(alloc: Global, ran: &Ran, trace: &str, upsets: &str) -> Result<MemShelf, Difference> {
     let mut files = Vec::new(alloc);
     push_file(alloc, &mut files, "n.fcl", ran.fcl)?;
@@ -170,7 +170,7 @@ fn write_image(alloc: Global, command: &str, shelf: &mut MemShelf) -> Result<(),
     }
 }
 
-/// A run of the image that is written before it, over another trace and other upsets.
+/// Checks a run of the image that is written first, with this trace and these upsets.
 fn run_over(
     alloc: Global,
     ran: &Ran,
@@ -198,7 +198,7 @@ fn run(alloc: Global, ran: &Ran) -> Result<(), Difference> {
     run_over(alloc, ran, ran.trace, ran.upsets, &ran.left)
 }
 
-/// The heater's run with so many upsets, each to the byte that stands there.
+/// Checks the heater's run with this many upsets, each to the byte that is there already.
 fn run_with(alloc: Global, upsets: u32, left: &Left) -> Result<(), Difference> {
     let mut text = String::new(alloc);
     for sample in 0..upsets {
@@ -234,7 +234,7 @@ struct Byte {
     value: u8,
 }
 
-/// All of them: the terms' table, the singletons and the rule list.
+/// All bytes of its tables: the terms' table, the singletons and the rule list.
 static BYTES: [Byte; 18] = [
     Byte {
         at: "D000",
@@ -310,7 +310,7 @@ static BYTES: [Byte; 18] = [
     },
 ];
 
-/// A trace with a sample for each bit of a byte, the upsets that flip them, and the lines of both.
+/// A trace with a sample for each bit of a byte, the upsets that flip the bits, and the lines of the run.
 #[derive(Drop)]
 struct Flips {
     trace: String,
@@ -318,7 +318,7 @@ struct Flips {
     lines: String,
 }
 
-/// Adds a sample, in which a byte holds another value.
+/// Adds a sample in which a byte has another value.
 fn push_flip(flips: &mut Flips, sample: usize, at: &str, value: u8) -> Result<(), AllocError> {
     write!(&mut flips.trace, "64\n")?;
     write!(&mut flips.upsets, "{sample},{at},{value:02X}\n")?;
@@ -328,7 +328,7 @@ fn push_flip(flips: &mut Flips, sample: usize, at: &str, value: u8) -> Result<()
     )
 }
 
-/// Each bit of a byte flipped.
+/// The flips of each bit of a byte.
 fn flips_of(alloc: Global, byte: Byte) -> Result<Flips, AllocError> {
     let mut flips = Flips {
         trace: String::new(alloc),
@@ -341,7 +341,7 @@ fn flips_of(alloc: Global, byte: Byte) -> Result<Flips, AllocError> {
     Ok(flips)
 }
 
-/// The heater's run with each bit of a byte flipped in turn.
+/// Checks the heater's run with each bit of a byte flipped in turn.
 fn run_flipped(alloc: Global, byte: Byte) -> Result<(), Difference> {
     let flips = flips_of(alloc, byte)?;
     let left = Left::Lines(flips.lines.as_str());

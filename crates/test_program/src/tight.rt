@@ -1,9 +1,9 @@
-//! Tight certificates: those that are found, targets that are not reached, and those that are refused.
+//! Tight certificates: those that are found, targets that are not reached, and certificates that are refused.
 use super::certify::{Search, find};
 use super::certs::{Certificate, judge};
 use std::test::Fail;
-use test_program_calls::{BEFORE, Left, rows};
-use test_texts::{BACK, BLOCK, FRONT, HALF_WEIGHT, HALVES, LATCH, LATE, MIDDLE};
+use test_program_calls::{BEFORE, Left, USAGE, rows};
+use test_texts::{BACK, BLOCK, FRONT, HALF_WEIGHT, HALVES, LATCH, LATE, MIDDLE, TWO_OUTPUTS};
 
 /// The heater, halved once to tight leaves.
 const HEATER: Search = Search {
@@ -69,12 +69,81 @@ static OTHERS: [Search; 14] = rows! { Search:
         makes "FZC 3\nclaim 0\nsplit 1 128\nsplit 1 64\ncells\nleaf\nsplit 1 192\nleaf\ncells\n";
 };
 
+/// A fan depends on warmth and dark, and a lamp on dark alone, so that the lamp can have a third of the fan's error.
+const ROOM: Search = Search {
+    fcl: &[
+        "FUNCTION_BLOCK room
+VAR_INPUT warmth, dark : REAL; END_VAR
+VAR_OUTPUT fan, lamp : REAL; END_VAR
+FUZZIFY warmth RANGE := (0 .. 32);
+TERM cool := (8, 1) (16, 0);
+TERM mild := (8, 0) (16, 1) (24, 0);
+TERM hot := (16, 0) (24, 1);
+END_FUZZIFY
+FUZZIFY dark RANGE := (0 .. 1);
+TERM day := (0, 1) (1, 0);
+TERM night := (0, 0) (1, 1);
+END_FUZZIFY
+DEFUZZIFY fan RANGE := (0 .. 100);
+TERM off := 0;
+TERM half := 50;
+TERM full := 100;
+METHOD : COGS;
+DEFAULT := 0;
+END_DEFUZZIFY
+DEFUZZIFY lamp RANGE := (0 .. 100);
+TERM out := 0;
+TERM lit := 80;
+METHOD : COGS;
+DEFAULT := 0;
+END_DEFUZZIFY
+RULEBLOCK rules
+RULE 1 : IF warmth IS cool THEN fan IS off;
+RULE 2 : IF warmth IS mild AND dark IS day THEN fan IS half;
+RULE 3 : IF warmth IS mild AND dark IS night THEN fan IS off;
+RULE 4 : IF warmth IS hot AND dark IS day THEN fan IS full;
+RULE 5 : IF warmth IS hot AND dark IS night THEN fan IS half;
+RULE 6 : IF dark IS day THEN lamp IS out;
+RULE 7 : IF dark IS night THEN lamp IS lit;
+END_RULEBLOCK
+END_FUNCTION_BLOCK
+",
+    ],
+    target: "19898,6250",
+    left: Left::Lines("error 1 19898\nerror 2 6250\nleaves 357\n"),
+    out: None,
+    ..HEATER
+};
+
+/// One target for all outputs, and one for each.
+static TARGETS: [Search; 14] = rows! { Search:
+    ROOM { target: "19898" } leaves "error 1 19898\nerror 2 10172\nleaves 278\n";
+    ROOM {};
+    ROOM { target: "0019898,06250" };
+    ROOM { target: "19897,6250" } refused 8 "not reached: cell 129 247 output 1 bound 19898\n" makes BEFORE;
+    ROOM { target: "19898,6249" } refused 8 "not reached: cell 0 1 output 2 bound 6250\n" makes BEFORE;
+    // Another count than of outputs is told after the block's own faults.
+    HEATER { target: "20000,20000" } refused 8 "not reached: outputs 2 1\n" makes BEFORE;
+    HEATER { command: "tcertify16", fcl: &[TWO_OUTPUTS], target: "1,2,3" } refused 8 "not reached: outputs 3 2\n"
+        makes BEFORE;
+    HEATER { fcl: &[], target: "20000,20000" } refused 4 "fcl: at 0: expected\n" makes BEFORE;
+    HEATER { target: "3907,", left: USAGE } makes BEFORE;
+    HEATER { target: ",3907", left: USAGE } makes BEFORE;
+    HEATER { target: "1,,2", left: USAGE } makes BEFORE;
+    HEATER { target: "1, 2", left: USAGE } makes BEFORE;
+    HEATER { target: "1,2,3,4,5", left: USAGE } makes BEFORE;
+    HEATER { target: "1,1000001", left: USAGE } makes BEFORE;
+};
+
 #[test]
 fn tight_searches(rt: HostRuntime) -> Result<(), Fail> {
     for row in HEATERS.iter() {
         find(rt.alloc(), row)?;
     }
     for row in OTHERS.iter() {
+        find(rt.alloc(), row)?;
+    }
+    for row in TARGETS.iter() {
         find(rt.alloc(), row)?;
     }
     Ok(())
@@ -88,7 +157,7 @@ const TIGHT: Certificate = Certificate {
     left: Left::Lines("error 1 11735\ninstructions 28\n"),
 };
 
-/// Four leaves of cells, each of 64 bytes of the first input.
+/// Four leaves of cells, each with 64 bytes of the first input.
 const QUARTERS: &str = "split 1 128\nsplit 1 64\ncells\ncells\nsplit 1 192\ncells\ncells\n";
 
 static CERTIFICATES: [Certificate; 11] = rows! { Certificate:

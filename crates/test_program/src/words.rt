@@ -1,4 +1,4 @@
-//! Words that are of a command, and words that are of none.
+//! Words that are those of a command, and words that are not.
 use super::reads::{RUN, case, run_words};
 use std::test::Fail;
 use test_program_calls::USAGE;

@@ -14,7 +14,7 @@ use fz_shelf::{MemShelf, MemSink, Shelf, Sink};
 use fz_top::fuzz12;
 use std::alloc::{AllocError, Global};
 
-/// A sink that took nothing, in which puts of these numbers fail.
+/// A sink that has taken nothing yet, in which the puts with these numbers fail.
 fn sink_of(alloc: Global, failing: &[u32], most: u64) -> Result<MemSink, Difference>
     ensures told { IfOk result (λ s. ⟦<MemSink as Sink>⟧.told s ≡ nothing_taken) }
     ensures faults { IfOk result (λ s. ⟦<MemSink as Sink>⟧.faults s ≡ 0) }
@@ -36,7 +36,7 @@ fn words_of(alloc: Global, line: &[&str]) -> Result<Vec<String>, AllocError>
     Ok(words)
 }
 
-/// Makes the call, and answers the number of its status.
+/// Makes the call, and returns the number of its status.
 fn status_of(
     alloc: Global,
     words: &[String],
@@ -71,8 +71,8 @@ pub fn code_of(alloc: Global, line: &[&str], shelf: &mut MemShelf) -> Result<u8,
     Ok(status_of(alloc, &words, shelf, &mut out, &mut err))
 }
 
-/// Whether a call with these words leaves this, where these puts fail; else what is different, first on err, then on
-/// out, then in the status.
+/// Checks that a call with these words, in which these puts fail, leaves this. Otherwise it gives the first
+/// difference: on err, on out, then in the status.
 pub fn call(
     alloc: Global,
     line: &[&str],
@@ -100,7 +100,7 @@ pub fn call(
     compare(alloc, code, &out, &err, left)
 }
 
-/// The same over two files, `first` and `second`, that cannot be written, where no call fails by its number.
+/// The same over two files, `first` and `second`, that cannot be written, where no call is listed to fail.
 pub fn call_over(
     alloc: Global,
     line: &[&str],

@@ -1,4 +1,4 @@
-//! What a call left against what it was to leave.
+//! Compares what a call left with what it was expected to leave.
 ghost use Rattle.std.specs.Prelude.{IfErr, OnOk};
 ghost use Rattle.test_program_calls.specs.Lefts.{IsFirstDifference, Leaves};
 
@@ -6,12 +6,12 @@ use crate::{Difference, Left};
 use fz_shelf::{MemSink, Sink};
 use std::alloc::{AllocError, Global};
 
-/// What a sink took, as far as it is text.
+/// What a sink took, if it is text.
 fn text_in(alloc: Global, sink: &MemSink) -> Result<String, AllocError> {
     String::from_str(alloc, str::from_utf8(sink.bytes()).unwrap_or("no text"))
 }
 
-/// Whether a call left this: else the first difference, on err, on out or in the status.
+/// Checks that a call left this. Otherwise it gives the first difference: on err, on out, then in the status.
 pub(crate) fn compare(
     alloc: Global,
     code: u8,

@@ -1,11 +1,11 @@
-//! How what came of a call differs from what was wanted.
+//! How the result of a call differs from what was expected.
 ghost use Rattle.std.specs.Prelude.{◌≡◌};
 ghost use Rattle.test_program_calls.specs.declared.difference.Difference.TheVariants.{Memory as want};
 
 use fz_list::Memory;
 use std::alloc::AllocError;
 
-/// What came of a call where something else was wanted.
+/// The part of a call's result that is not as expected.
 #[derive(Debug, Drop)]
 pub enum Difference {
     /// The number of its status.
@@ -14,11 +14,11 @@ pub enum Difference {
     Out(String),
     /// What it left on err.
     Err(String),
-    /// The name of a file that holds something else, or that cannot be read.
+    /// The name of a file that has other contents, or that cannot be read.
     File(String),
-    /// How many files it read.
-    Reads(usize),
-    /// Memory was wanted for the files or for the comparison, and not found.
+    /// The number of files that it read and wrote.
+    Calls(usize),
+    /// Out of memory for the files or the comparison.
     Memory,
 }
 

@@ -11,18 +11,18 @@ use fz_shelf::{MemFile, MemShelf, Shelf};
 use std::alloc::{AllocError, Global};
 use test_texts::joined;
 
-/// The numbers of the calls that fail, and how many bytes are taken at once.
+/// The numbers of the calls that fail, and how many bytes a put takes.
 #[derive(Clone, Copy)]
 pub struct Faults<'a> {
-    /// Reads of the shelf, from 1.
+    /// Reads of the shelf, counted from 1.
     pub reads: &'a [u32],
-    /// Writes of the shelf, from 1.
+    /// Writes of the shelf, counted from 1.
     pub writes: &'a [u32],
-    /// Puts to out, from 1.
+    /// Puts to out, counted from 1.
     pub puts: &'a [u32],
-    /// Puts to err, from 1.
+    /// Puts to err, counted from 1.
     pub err_puts: &'a [u32],
-    /// The most bytes that out and err take at once.
+    /// The greatest number of bytes that out and err take in one put.
     pub most: u64,
 }
 
@@ -35,10 +35,10 @@ pub const NONE: Faults<'static> = Faults {
     most: 1000,
 };
 
-/// What a file that can be written holds before it is.
+/// The contents of a file that can be written, before the call.
 pub const BEFORE: &str = "as before\n";
 
-/// A file of this name with these bytes, in whose place so many may be written.
+/// A file with this name and these bytes, and room for this many.
 fn file(alloc: Global, name: &str, bytes: &[u8], room: u64) -> Result<MemFile, AllocError>
     ensures { IfOk result (λ f. f ≡ file_with name.now bytes.now room) }
 {
@@ -49,7 +49,7 @@ fn file(alloc: Global, name: &str, bytes: &[u8], room: u64) -> Result<MemFile, A
     })
 }
 
-/// Adds a file that has these bytes and cannot be written.
+/// Adds a file that cannot be written, with these bytes.
 pub fn push_bytes(
     alloc: Global,
     files: &mut Vec<MemFile>,
@@ -62,7 +62,7 @@ pub fn push_bytes(
     Ok(())
 }
 
-/// Adds a file that has the parts of a text and cannot be written.
+/// Adds a file that cannot be written, with the parts of a text.
 pub fn push_file(
     alloc: Global,
     files: &mut Vec<MemFile>,
@@ -74,7 +74,7 @@ pub fn push_file(
     push_bytes(alloc, files, name, joined(alloc, text)?.as_bytes())
 }
 
-/// Adds a file that can be written, which holds [`BEFORE`].
+/// Adds a file that can be written, with the contents [`BEFORE`].
 pub fn push_room(alloc: Global, files: &mut Vec<MemFile>, name: &str) -> Result<(), AllocError>
     ensures { OnOk result (files.new.items
         ≡ files.old.items ++ file_with name.now (codes "as before\n") 1000000 ∷ []) }
@@ -104,7 +104,7 @@ pub fn shelf_of(alloc: Global, files: Vec<MemFile>, faults: &Faults) -> Result<M
     Ok(MemShelf::new(alloc, List::new(files), reads, writes)?)
 }
 
-/// The bytes of a file, or its name where it cannot be read. The read counts among the shelf's.
+/// The bytes of a file, or its name if it cannot be read. This read is one of the shelf's too.
 pub fn bytes_of(alloc: Global, shelf: &mut MemShelf, name: &str) -> Result<Vec<u8>, Difference>
     ensures held { IfOk result (λ bytes. Holds (⟦<MemShelf as Shelf>⟧.files shelf.old name.now) bytes.items) }
     ensures files { ⟦<MemShelf as Shelf>⟧.files shelf.new ≡ ⟦<MemShelf as Shelf>⟧.files shelf.old }
@@ -119,7 +119,7 @@ pub fn bytes_of(alloc: Global, shelf: &mut MemShelf, name: &str) -> Result<Vec<u
     }
 }
 
-/// Whether a file holds these bytes; else its name. The read counts among the shelf's.
+/// Checks that a file has these bytes; otherwise it gives the file's name. This read is one of the shelf's too.
 pub fn file_holds(
     alloc: Global,
     shelf: &mut MemShelf,
@@ -138,15 +138,15 @@ pub fn file_holds(
     Ok(())
 }
 
-/// Whether the shelf was asked for so many reads; else how many they are.
-pub fn reads_are(shelf: &MemShelf, reads: usize) -> Result<(), Difference>
-    ensures same { OnOk result (length (⟦<MemShelf as Shelf>⟧.asked shelf.now) ≡ reads) }
-    ensures differs { IfErr result (λ d. (d ≡ Difference.Reads (length (⟦<MemShelf as Shelf>⟧.asked shelf.now)))
-        × (length (⟦<MemShelf as Shelf>⟧.asked shelf.now) ≢ reads)) }
+/// Checks that the shelf's log has this many reads and writes; otherwise it gives their number.
+pub fn calls_are(shelf: &MemShelf, calls: usize) -> Result<(), Difference>
+    ensures same { OnOk result (length (⟦<MemShelf as Shelf>⟧.asked shelf.now) ≡ calls) }
+    ensures differs { IfErr result (λ d. (d ≡ Difference.Calls (length (⟦<MemShelf as Shelf>⟧.asked shelf.now)))
+        × (length (⟦<MemShelf as Shelf>⟧.asked shelf.now) ≢ calls)) }
 {
     let found = shelf.asked().len();
-    if found != reads {
-        return Err(Difference::Reads(found));
+    if found != calls {
+        return Err(Difference::Calls(found));
     }
     Ok(())
 }

@@ -7,13 +7,13 @@ ghost use Rattle.test_program_calls.specs.Lefts.{code_left, err_left, out_left};
 pub enum Left<'a> {
     /// Status 0, and these lines on out.
     Lines(&'a str),
-    /// The number of another status, with its line on err, or as much of it as err took.
+    /// The number of another status, with its line on err, or the prefix of it that err took.
     Refused(u8, &'a str),
-    /// Status 3, with the beginning of the lines that out took.
+    /// Status 3, with the prefix of the lines that out took.
     Broken(&'a str),
 }
 
-/// What is left by words that are of no command.
+/// What a call leaves whose words are not those of a command.
 pub const USAGE: Left<'static> = Left::Refused(
     1,
     "usage: fuzz12 compile, certify, check, run, asm, exec or gen\n",
@@ -51,8 +51,8 @@ impl Left<'_> {
     }
 }
 
-/// Rows of a table: each is the row that it changes, the fields that are others, what is left where that is another,
-/// and what OUT holds then.
+/// Rows of a table: each is given by another row, the fields that differ from it, what the call leaves if that
+/// differs, and what OUT holds then.
 #[macro_export]
 macro_rules! rows {
     ($row:ident: $($base:ident { $($field:ident: $value:expr),* }

@@ -1,11 +1,11 @@
 //! Calls of the program over files in memory, for the crates that test it: what a call is given, what
-//! it is to leave, and how it differs from that.
+//! it is expected to leave, and how the result differs from that.
 //!
-//! What compares here answers `Ok` where there is what is wanted, and else a [`Difference`], so that a
-//! test goes through its rows by `?`. Each call answers [`Difference::Memory`], or an `AllocError`, where
-//! memory for the files or the comparison is not found. The contract, in short: `Ok` comes only where the
-//! program, called with these words over this shelf, left on out and on err exactly what is wanted, with
-//! that status; and a difference only where there is one.
+//! Comparisons return `Ok` if the result is as expected, and otherwise a [`Difference`], so that a test
+//! goes through its rows with `?`. Each function returns [`Difference::Memory`], or an `AllocError`, if
+//! there is no memory for the files or the comparison. The contract, in short: `Ok` comes only if the
+//! program, called with these words over this shelf, left on out and on err exactly what is expected,
+//! with that status; and a difference comes only if there is one.
 #![tactic(auto)]
 
 mod calls;
@@ -17,7 +17,7 @@ mod left;
 pub use calls::{call, call_over, code_of};
 pub use difference::Difference;
 pub use files::{
-    BEFORE, Faults, NONE, bytes_of, file_holds, push_bytes, push_file, push_room, reads_are,
+    BEFORE, Faults, NONE, bytes_of, calls_are, file_holds, push_bytes, push_file, push_room,
     shelf_of,
 };
 pub use left::{Left, USAGE};

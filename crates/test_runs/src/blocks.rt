@@ -1,4 +1,4 @@
-//! Worked samples without a certificate, also of blocks for which none is accepted.
+//! Worked samples without a certificate, including blocks for which none is accepted.
 ghost use Rattle.std.specs.Prelude.{◌≤◌};
 ghost use Rattle.fuzzy_meaning.specs.Blocks.{IsValid};
 
@@ -15,15 +15,15 @@ use std::test::Fail;
 use test_texts::{BACK, FRONT, HALF_WEIGHT, LATCH, MIDDLE, SECOND, joined};
 use trace_io::read_trace;
 
-/// A sample's answers, and its instructions and steps, if they are said.
+/// A sample's answers, and its instructions and steps, if they are given.
 struct Sampled {
     answers: &'static [u16],
     instructions: Option<u32>,
     steps: Option<u32>,
 }
 
-/// How wide a block's answers are, the bound on instructions, if it is said, a trace, and what comes
-/// of its samples.
+/// The width of a block's answers, the bound on instructions, if it is given, a trace, and the
+/// expected rows of its samples.
 struct Worked {
     width: Width,
     bound: Option<u32>,
@@ -147,7 +147,7 @@ fn rows_of(
     rows
 }
 
-/// Fails where a row is another.
+/// Fails if a row differs.
 fn is_row(rt: &impl Abort, row: &Row, wanted: &Sampled) {
     assert!(rt; row.answers.as_slice() == wanted.answers);
     if let Some(instructions) = wanted.instructions {
@@ -165,7 +165,7 @@ fn are_rows(rt: &impl Abort, rows: &[Row], wanted: &[Sampled]) {
     }
 }
 
-/// Fails where a block's bound is another, or something else comes of its samples.
+/// Fails if a block's bound or one of its samples' rows differs.
 fn samples(rt: &impl Abort, alloc: Global, fcl: &[u8], worked: &Worked) {
     let block = block_of(rt, alloc, fcl);
     let firmware = firmware_of(rt, alloc, worked.width, &block);
@@ -207,8 +207,8 @@ fn singleton(o: u32, k: u32) -> u32
     }
 }
 
-/// Input `i`: its term `k` is wholly true at 16*k alone, and false from the points of the terms
-/// beside it on.
+/// Input `i`: the degree of its term `k` is 1 only at 16*k, and 0 from the points of the neighbouring
+/// terms on.
 fn push_input(alloc: Global, text: &mut String, i: u32) -> Result<(), AllocError> {
     text.push_str(&format!(in alloc; "FUZZIFY x{i} RANGE := (0 .. 256);\n")?)?;
     for k in 1..16u32 {

@@ -1,7 +1,7 @@
-//! Worked values of firmware and its runs, as tests: code byte by byte, samples with and without
+//! Tests of firmware and its runs against worked values: code byte by byte, samples with and without
 //! interrupts, and scripts.
 //!
-//! Each expected value was worked out by hand from the public standards, or by a program of its own.
+//! Each expected value was worked out by hand from the public standards, or by a separate program.
 #![tactic(auto)]
 
 #[cfg(test)]

@@ -40,7 +40,7 @@ fn sample(alloc: Global, byte: u8) -> Sample {
     Sample { values, bytes }
 }
 
-/// Posts of the samples 64 and 0, the sample, boundary and value of each answer, and the boundary, PC and SP
+/// Posts of the samples 64 and 0; the sample, boundary and value of each answer; and the boundary, PC and SP
 /// of each frame.
 struct Row {
     posts: &'static [u8],

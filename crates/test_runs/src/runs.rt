@@ -1,5 +1,5 @@
-//! Runs of the heater's firmware: what interrupts push, which pages are written, where a session stands,
-//! and what ends a sample before it is answered. REV stands at `$C031`, WAV at `$C03B`.
+//! Runs of the heater's firmware: what interrupts push, which pages are written, a session's positions,
+//! and what ends a sample before it is answered. REV is at `$C031`, WAV at `$C03B`.
 ghost use Rattle.std.specs.Prelude.{◌≤◌, IfOk};
 ghost use Rattle.interrupt_plan.specs.Plans.{IsGood};
 
@@ -52,7 +52,7 @@ fn run_of(alloc: Global, plan: &Plan) -> Result<(Vec<Row>, PageMem), Fail>
     Ok(run_on(alloc, &firmware(alloc)?, samples.as_slice(), plan, 0)?)
 }
 
-/// The sum of the bytes that plans may write, and of the stack's.
+/// The sum of the bytes that plans may write and of those of the stack.
 fn sum_left(memory: &PageMem) -> u32 {
     let mut sum = 0u32;
     for at in 0x1800..0x2000u16 {
@@ -61,7 +61,7 @@ fn sum_left(memory: &PageMem) -> u32 {
     sum
 }
 
-/// A plan, the boundary, PC and SP of each frame with the bytes that it has, and the sum of what is left.
+/// A plan, the boundary, PC and SP of each frame with its bytes, and the sum of what is left.
 struct Pushed {
     plan: &'static [u8],
     frames: &'static [(u32, u16, u16, &'static [u8])],
@@ -189,7 +189,7 @@ fn a_sample_ends_where_no_step_is_defined(rt: HostRuntime) -> Result<(), Fail> {
     Ok(())
 }
 
-/// Goes on by so many positions.
+/// Advances by this many positions.
 fn go_on(session: &mut Session<'_, PageMem>, count: u32) {
     for _ in 0..count {
         session.advance();

@@ -1,4 +1,4 @@
-//! Scripts and their first lines of no form.
+//! Scripts, and their first lines that are no order.
 use debug_script::{Order, ScriptFault, read_script};
 use std::alloc::Global;
 use std::test::Fail;

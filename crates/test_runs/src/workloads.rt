@@ -1,4 +1,4 @@
-//! The workload of a number: what its draws were worked out to be.
+//! The workload of a number, against draws that were worked out separately.
 use box_tree::CertKind::Tight;
 use byte_scaling::Width::Byte;
 use cpu12_isa::instr::Write;
@@ -9,7 +9,7 @@ use std::test::Fail;
 use trace_io::Sample;
 use workload::generate;
 
-/// Fails where a sample has other numbers, in 1/10000, or other bytes.
+/// Fails if a sample has other numbers, in 1/10000, or other bytes.
 fn is_sample(rt: &impl Abort, sample: Option<&Sample>, numbers: [i64; 2], bytes: [u8; 2]) {
     let Some(sample) = sample else {
         panic!(rt; "no sample");
@@ -49,7 +49,7 @@ fn a_number_draws_a_workload(rt: HostRuntime) -> Result<(), Fail> {
     Ok(())
 }
 
-/// Targets, and the error and the leaves of the tight certificates that are found for them.
+/// Targets, with the error and the number of leaves of the tight certificates that are found for them.
 static HALVED: [(u32, u32, usize); 3] = [
     (400_000, 142_586, 256),
     (140_000, 139_442, 300),

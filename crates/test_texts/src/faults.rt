@@ -1,11 +1,11 @@
-//! Texts that spell no function block, each in two parts: its fault stands where the second begins.
+//! Texts that spell no function block, each in two parts: the fault is where the second begins.
 use fz_num::DecFault;
 use std::alloc::{AllocError, Global};
 
-/// What stands before the place of a fault.
+/// The text before the fault.
 type Front = &'static [u8];
 
-/// What stands from the place on.
+/// The text from the fault on.
 type Back = &'static [u8];
 
 /// What is wrong with a text.
@@ -13,19 +13,19 @@ type Back = &'static [u8];
 pub enum Flaw {
     /// A byte that begins no token.
     BadByte,
-    /// A comment without its end.
+    /// A comment without an end.
     OpenComment,
     /// A number that is no decimal.
     Number(DecFault),
     /// A token that does not belong there.
     Expected,
-    /// What is left out, by its code.
+    /// A part that the profile leaves out, by its code.
     Unsupported(u8),
     /// One parenthesis or NOT too many.
     Deep,
 }
 
-/// Texts with a fault of their own.
+/// Texts that are each written for one fault.
 pub static FAULTS: [(Front, Back, Flaw); 49] = [
     (b"", b"x", Flaw::Expected),
     (b"FUNCTION_BLOCK", b"", Flaw::Expected),
@@ -218,14 +218,14 @@ pub static FAULTS: [(Front, Back, Flaw); 49] = [
     ),
 ];
 
-/// What stands before the parts of a text with a load fault.
+/// The text before the two parts of a text with a load fault.
 const HEAD: &[u8] = b"FUNCTION_BLOCK a ";
 
-/// What stands behind them.
+/// The text after them.
 const TAIL: &[u8] = b" END_RULEBLOCK END_FUNCTION_BLOCK";
 
-/// Texts with a load fault, by the number of its kind, between [`HEAD`] and [`TAIL`]. Most have faults of later kinds
-/// too, some at earlier places.
+/// Texts with a load fault, with the number of its kind, between [`HEAD`] and [`TAIL`]. Most have faults of later
+/// kinds too, some at earlier offsets.
 pub static LOAD_FAULTS: [(Front, Back, u8); 25] = [
     (b"VAR_INPUT x, ", b"X : REAL; END_VAR RULEBLOCK r", 1),
     (
@@ -342,7 +342,7 @@ RULE 2 : IF t IS ",
     ),
 ];
 
-/// A text with a load fault, and the place of it.
+/// A text with a load fault, and the fault's offset.
 pub fn with_load_fault(
     alloc: Global,
     front: &[u8],

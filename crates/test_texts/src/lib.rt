@@ -1,4 +1,4 @@
-//! Texts of blocks, images, sources and certificates that several crates of tests share.
+//! Texts of blocks, images, sources and certificates that several test crates share.
 //!
 //! The images were worked out from the instruction table of the CPU12 Reference Manual.
 #![tactic(auto)]
@@ -6,12 +6,14 @@
 ghost use Rattle.std.specs.Prelude.{◌≡◌, string_bytes, IfOk};
 ghost use Rattle.test_texts.specs.Parts.{text_of_parts};
 
+mod controllers;
 mod faults;
 
+pub use controllers::{BLIND, DRYER, PUMP, ROOM};
 pub use faults::{FAULTS, Flaw, LOAD_FAULTS, with_load_fault};
 use std::alloc::{AllocError, Global};
 
-/// The parts of a text as one.
+/// The parts of a text, joined.
 pub fn joined(alloc: Global, parts: &[&str]) -> Result<String, AllocError>
     ensures { IfOk result (λ text. string_bytes text ≡ text_of_parts parts.now) }
 {
@@ -22,7 +24,7 @@ pub fn joined(alloc: Global, parts: &[&str]) -> Result<String, AllocError>
     Ok(text)
 }
 
-/// The heater: one input and one output, off where it is cold and on where it is hot.
+/// The heater: one input and one output, off when it is cold and on when it is hot.
 pub const BLOCK: &str = "FUNCTION_BLOCK a
 VAR_INPUT t : REAL; END_VAR
 VAR_OUTPUT power : REAL; END_VAR
@@ -35,29 +37,29 @@ END_RULEBLOCK
 END_FUNCTION_BLOCK
 ";
 
-/// The heater before its default.
+/// The heater's text up to its default.
 pub const FRONT: &str = "FUNCTION_BLOCK a
 VAR_INPUT t : REAL; END_VAR
 VAR_OUTPUT power : REAL; END_VAR
 FUZZIFY t TERM cold := (0, 1) (256, 0); TERM hot := (0, 0) (256, 1); END_FUZZIFY
 DEFUZZIFY power TERM off := 0; TERM on := 100; METHOD : COGS; DEFAULT := ";
 
-/// Between its default and the end of its first rule.
+/// The text between its default and the end of its first rule.
 pub const MIDDLE: &str = "; END_DEFUZZIFY
 RULEBLOCK r
 RULE 1 : IF t IS cold THEN power IS off";
 
-/// Its second rule.
+/// The text of its second rule.
 pub const SECOND: &str = ";
 RULE 2 : IF t IS hot THEN power IS on";
 
-/// Behind its last rule.
+/// The text after its last rule.
 pub const BACK: &str = ";
 END_RULEBLOCK
 END_FUNCTION_BLOCK
 ";
 
-/// From its default to its first condition.
+/// The text from its default to its first condition.
 pub const OPENED: &str = "0; END_DEFUZZIFY\nRULEBLOCK r\nRULE 1 : IF ";
 
 /// Eight NOT, which leave the truth as it is.
@@ -66,7 +68,7 @@ pub const NOTS: &str = "NOT NOT NOT NOT NOT NOT NOT NOT ";
 /// The condition and the conclusion of its first rule.
 pub const COLD: &str = "t IS cold THEN power IS off";
 
-/// A block that keeps its answer where no rule fires.
+/// A block that keeps its answer when no rule fires.
 pub const LATCH: &str = "FUNCTION_BLOCK n
 VAR_INPUT t : REAL; END_VAR
 VAR_OUTPUT power : REAL; END_VAR
@@ -83,7 +85,7 @@ END_RULEBLOCK
 END_FUNCTION_BLOCK
 ";
 
-/// The heater with a second input, for which one rule asks: it has no strength before 18 o'clock, and degree 1 after.
+/// The heater with a second input, which one rule uses: it has no strength before 18 o'clock, and degree 1 after.
 pub const LATE: &str = "FUNCTION_BLOCK heater
 VAR_INPUT too_cold, hour : REAL; END_VAR
 VAR_OUTPUT power : REAL; END_VAR
@@ -112,7 +114,7 @@ S5030008F4
 S903C0003C
 ";
 
-/// The image of its mailbox form: one copy, from `$1020` to `$1001`, and EVAL at `$C020`.
+/// The records of its mailbox form: one byte is copied, from `$1020` to `$1001`, and EVAL is at `$C020`.
 pub const MAILBOX_RECORDS: &str = "S0070000465A3132F5
 S123C000CF200079102810EFB6102827FB1410180C1020100179102810EF16C02020E90B2A
 S123C020CED000CD1100B610010101791102791103CED800CD110086FF10FD183ACED20096
@@ -126,8 +128,8 @@ S5030008F4
 S903C0003C
 ";
 
-/// The same with watched tables: behind IRQ's RTI stand BAD at `$C016` and the check at `$C021`, where the
-/// bytes of the tables make 254 and so 2 is added, and EVAL at `$C048`.
+/// The records with watched tables: after IRQ's RTI come BAD at `$C016`, the check at `$C021`, which adds 2 to the
+/// sum of the tables' bytes, 254, and EVAL at `$C048`.
 pub const WATCHED_RECORDS: &str = "S0070000465A3132F5
 S123C000CF200079100010EFB6100027FB16C02179100020F30BC6017B1030C6007B10103C
 S123C0203DC600CED000EB308ED00826F9CED200EB308ED20226F9CED800EB308ED808262A
@@ -142,8 +144,8 @@ S5030009F3
 S903C0003C
 ";
 
-/// The heater at both levels. The fast one has its code at `$4000` and its tables from `$5000` on, it has its
-/// bytes from `$1400` on, and the interrupt's vector leads to it.
+/// The records of the heater at both levels. The fast one has its code at `$4000`, its tables from `$5000` on and its
+/// bytes from `$1400` on, and the interrupt's vector points to it.
 pub const RECORDS_OF_BOTH: &str = "S0070000465A3132F5
 S123400010EFCE5000CD1500B614010101791502791503CE5800CD150086FF10FD183ACEF5
 S11C40205200CD1502C602183C8E0000270511B7642002C6007B14100BB9
@@ -193,7 +195,7 @@ S5030002FA
 S903C0003C
 ";
 
-/// The lines of the heater's certificate behind its first two.
+/// The lines of the heater's certificate after the first two.
 pub const HALVES: &str = "split 1 128\nleaf 1 127\nleaf 2 127\n";
 
 /// A tight certificate of the heater, cell by cell.
@@ -203,10 +205,10 @@ pub const CELLS: &str =
 /// The heater with half the weight on its first rule.
 pub const HALF_WEIGHT: [&str; 6] = [FRONT, "0", MIDDLE, " WITH 0.5", SECOND, BACK];
 
-/// The lines of the certificate of [`LATCH`] behind its first two.
+/// The lines of the certificate of [`LATCH`] after the first two.
 pub const NODES_OF_THE_LATCH: &str = "split 1 64\nleaf 1 255\nsplit 1 192\nleaf 0 0\nleaf 2 255\n";
 
-/// A block of two inputs and two outputs: `power` goes by `t` as the heater's, and `valve` by `u`, up to 30 of 100.
+/// A block with two inputs and two outputs: `power` depends on `t` as in the heater, `valve` on `u`, up to 30 of 100.
 pub const TWO_OUTPUTS: &str = "FUNCTION_BLOCK b
 VAR_INPUT t, u : REAL; END_VAR
 VAR_OUTPUT power, valve : REAL; END_VAR
@@ -229,7 +231,7 @@ END_RULEBLOCK
 END_FUNCTION_BLOCK
 ";
 
-/// The lines of its certificate behind the first two.
+/// The lines of its certificate after the first two.
 pub const QUARTERS: &str = "split 1 128
 split 2 128
 leaf 1 127 3 127
@@ -239,8 +241,8 @@ leaf 2 127 3 127
 leaf 2 127 4 127
 ";
 
-/// A block in which bytes tell other than degrees. The slope of `cold` is rounded down, so that where it is wholly
-/// true, below 56, its grade goes from 255 down to 200 only; and the weight of the second rule is no byte above 0.
+/// A block in which grades differ from degrees. The slope of `cold` is rounded down, so that where its degree is 1,
+/// below 56, its grade is between 255 and 200; and the weight of the second rule has the byte 0.
 pub const ROUNDED: &str = "FUNCTION_BLOCK c
 VAR_INPUT t : REAL; END_VAR
 VAR_OUTPUT power : REAL; END_VAR

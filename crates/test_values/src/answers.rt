@@ -1,4 +1,4 @@
-//! Exact answers, and the numbers that bytes stand for.
+//! Exact answers, and the values of bytes.
 ghost use Rattle.std.specs.Prelude.{◌∷◌, [], IsTrue};
 ghost use Rattle.fuzzy_meaning.specs.Blocks.{IsValid, AreInputs};
 
@@ -20,7 +20,7 @@ fn a_heater_fires_both_rules(rt: HostRuntime) -> Result<(), Fail> {
     Ok(())
 }
 
-/// The parts of a text, and at 64 the exact answer, the byte that is answered, and what that stands for.
+/// The parts of a text, and for the input 64 the exact answer, the byte answer, and the value of that byte.
 struct Answered {
     fcl: &'static [&'static str],
     exact: i128,
@@ -54,7 +54,7 @@ fn is_input(block: &Block, x: Dec) -> bool
     }
 }
 
-/// Whether a fraction is that of these numbers, each of which is small.
+/// Whether a fraction is equal to that of these small numbers.
 fn is_over(fraction: Frac, wanted: (i128, i128)) -> bool {
     match (
         fraction.num.checked_mul(wanted.1),

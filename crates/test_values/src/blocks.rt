@@ -1,4 +1,4 @@
-//! Blocks of texts.
+//! Blocks that texts spell.
 ghost use Rattle.std.specs.Prelude.{IfOk};
 ghost use Rattle.fuzzy_meaning.specs.Blocks.{IsValid};
 

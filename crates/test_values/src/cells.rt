@@ -13,8 +13,8 @@ use std::process::Abort;
 use std::test::Fail;
 use test_texts::{BACK, BLOCK, FRONT, HALF_WEIGHT, LATCH, MIDDLE};
 
-/// The bytes from one to another, the parts of an answer to a byte and a limit, with the greatest Bound of the
-/// cells, or the byte of the first cell above the limit and how that counts.
+/// The first and the last byte, the parts of an answer to a byte and a limit, with the greatest Bound of the
+/// cells, or the byte of the first cell above the limit and that cell's count.
 type Walked = (u8, u8, u16, u32, Result<u32, (u8, u32)>);
 
 /// A text in parts, and walks over its block's cells.
@@ -56,7 +56,7 @@ static ROWS: [Row; 5] = [
     },
 ];
 
-/// The block of a text in parts.
+/// The block that a text in parts spells.
 fn joined(alloc: Global, parts: &[&str]) -> Result<Block, Fail>
     ensures { IfOk result IsValid }
 {
@@ -67,7 +67,7 @@ fn joined(alloc: Global, parts: &[&str]) -> Result<Block, Fail>
     block_of(alloc, text.as_bytes())
 }
 
-/// Fails where a walk over the cells has another answer.
+/// Fails if a walk over the cells has another result.
 fn is_walked(rt: &impl Abort, block: &Block, table: &BlockTable, walk: &Walked) -> Result<(), Fail>
     requires block { IsValid block.now }
     requires table { IsBlockTable block.now table.now }

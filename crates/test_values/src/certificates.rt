@@ -1,5 +1,5 @@
-//! Texts of all versions: the nodes of their certificates, which are written again as they were
-//! read, or their first faults, which are told again.
+//! Texts of all versions: the number of nodes of their certificates, which are written as they were
+//! read, or their first faults.
 ghost use Rattle.std.specs.Prelude.{◌≤◌, length};
 
 use box_tree::CertFault::{BadLine, Early, Late};
@@ -9,12 +9,12 @@ use byte_scaling::Width::{Byte, Word};
 use std::alloc::{AllocError, Global};
 use std::test::Fail;
 
-/// How many nodes the certificate of a text has, or the text's first fault.
+/// The number of nodes of a text's certificate, or the text's first fault.
 type Told = Result<usize, CertFault>;
 
 const HEATER: &[u8] = b"FZC 1\nclaim 19609\nsplit 1 128\nleaf 1 127\nleaf 2 127\n";
 
-/// A version, a text, and what is told of it.
+/// A version, a text, and its nodes or fault.
 static ROWS: [(u8, &[u8], Told); 25] = [
     (1, HEATER, Ok(3)),
     (2, HEATER, Err(BadLine(1))),
@@ -43,7 +43,7 @@ static ROWS: [(u8, &[u8], Told); 25] = [
     (2, b"FZC 2\nclaim 1\nleaf 0 0\nleaf 0 0\n", Err(Late(4))),
 ];
 
-/// The same of tight certificates.
+/// The same for tight certificates.
 static TIGHT_ROWS: [(u8, &[u8], Told); 14] = [
     (
         3,
@@ -65,8 +65,8 @@ static TIGHT_ROWS: [(u8, &[u8], Told); 14] = [
     (4, b"FZC 4\nclaim 1\nsplit 1 1\ncells\n", Err(Early)),
 ];
 
-/// How many nodes the certificate of a text of this version has, and what is written of it, or the
-/// text's first fault.
+/// The number of nodes of the certificate that a text of this version spells, and the text that is
+/// written of it, or the first fault.
 fn written_again(
     alloc: Global,
     version: u8,
@@ -94,7 +94,7 @@ fn written_again(
     }
 }
 
-/// What is told of a text of this version. What is read of it is written the same again.
+/// The nodes or the fault of a text of this version, if what was read is written as the same text.
 fn read_again(alloc: Global, version: u8, text: &[u8]) -> Result<Told, Fail> {
     if text.len() > 1_048_576 {
         return Ok(Err(CertFault::Memory));
@@ -105,7 +105,7 @@ fn read_again(alloc: Global, version: u8, text: &[u8]) -> Result<Told, Fail> {
     }
 }
 
-/// So many nodes, if they were written the same again.
+/// The number of nodes, if the text was written the same; else a fault.
 fn told(nodes: usize, same: bool) -> Told {
     if same {
         Ok(nodes)
@@ -126,7 +126,7 @@ fn begun(version: u8, text: &[u8]) -> Result<Lines<'_>, CertFault>
     }
 }
 
-/// What a reader tells of the text behind its claims, if it tells it again.
+/// The nodes or the fault that a reader finds after the claims, if a further call repeats its last result.
 fn walk_twice(begun: Result<Lines<'_>, CertFault>) -> Option<Told> {
     let mut lines = match begun {
         Ok(lines) => lines,
@@ -142,7 +142,7 @@ fn walk_twice(begun: Result<Lines<'_>, CertFault>) -> Option<Told> {
     None
 }
 
-/// Whether what is told of a row's text is what the row says, read as a whole and node by node.
+/// Whether the nodes or the fault of a row's text are those of the row, both as a whole and node by node.
 fn is_told(alloc: Global, row: &(u8, &[u8], Told)) -> Result<bool, Fail> {
     let (version, text, want) = *row;
     if text.len() > 1_048_576 {
@@ -170,7 +170,7 @@ fn a_text_has_a_tight_certificate_or_a_first_fault(rt: HostRuntime) -> Result<()
     Ok(())
 }
 
-/// The first two lines, this many splits with a leaf to the left of each, and the last leaf.
+/// A header, this many splits, each with a leaf on its left, and the last leaf.
 fn comb(
     alloc: Global,
     header: &[u8],

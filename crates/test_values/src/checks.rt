@@ -1,4 +1,4 @@
-//! The heater's certificate, worked by hand.
+//! The heater's certificate, worked out by hand.
 ghost use Rattle.std.specs.Prelude.{◌≤◌, length};
 
 use box_tree::{CertFault, read};
@@ -84,7 +84,7 @@ static REFUSED: [(&[u8], CheckFault); 8] = [
     ),
 ];
 
-/// Why the heater's certificate in a text is refused, once it is read.
+/// Why the certificate that a text spells is refused for the heater, checked as a tree.
 fn refusal(alloc: Global, text: &[u8]) -> Result<Option<CheckFault>, Fail>
     requires { length text.now ≤ 1048576 }
 {
@@ -102,7 +102,7 @@ fn the_first_fault_of_a_certificate_is_told(rt: HostRuntime) -> Result<(), Fail>
     Ok(())
 }
 
-/// Texts with a fault, most of them behind a node that is at fault on its box.
+/// Texts with a fault, most of them after a node that has a fault on its box.
 static FAULTY: [(&[u8], CertFault); 5] = [
     (b"FZC 1\nclaim 19609\nsplit 1 128\n", CertFault::Early),
     (

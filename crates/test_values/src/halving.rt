@@ -1,4 +1,4 @@
-//! Certificates that halving gives, and targets that it does not reach.
+//! Certificates that halving gives, and targets for which it gives none.
 use super::blocks::block_of;
 use box_tree::{write, write16};
 use error_certifier::{NotReached, certify, certify16};

@@ -1,4 +1,4 @@
-//! Slots and rule lists of blocks that are read from texts.
+//! Slots and rule lists of blocks that texts spell.
 ghost use Rattle.std.specs.Prelude.{IfOk};
 ghost use Rattle.fuzzy_meaning.specs.Blocks.{IsValid};
 ghost use Rattle.rule_layout.specs.Layouts.{IsLaidOut};
@@ -11,7 +11,7 @@ use std::process::Abort;
 use std::test::Fail;
 use test_texts::{HALF_WEIGHT, joined};
 
-/// What stands around the rules of a block with three terms, of which each is 1 everywhere.
+/// The text before the condition of a block's only rule. The block has three input terms, each 1 everywhere.
 const HEAD: &str = "FUNCTION_BLOCK a VAR_INPUT x : REAL; END_VAR VAR_OUTPUT y : REAL; END_VAR
 FUZZIFY x RANGE (0 .. 1); TERM a := (0, 1); TERM b := (0, 1); TERM c := (0, 1); END_FUZZIFY
 DEFUZZIFY y RANGE (0 .. 1); TERM p := 1; METHOD : COGS; DEFAULT := NC; END_DEFUZZIFY
@@ -19,7 +19,7 @@ RULEBLOCK r RULE 1 : IF ";
 
 const TAIL: &str = "; END_RULEBLOCK END_FUNCTION_BLOCK";
 
-/// The block whose one rule has this condition, this often behind AND, and a weight.
+/// The block whose one rule has this condition, this many times with AND between, and a weight.
 fn ruled(alloc: Global, condition: &[u8], times: u32, weight: &[u8]) -> Result<Block, Fail>
     ensures { IfOk result IsValid }
 {
@@ -35,7 +35,7 @@ fn ruled(alloc: Global, condition: &[u8], times: u32, weight: &[u8]) -> Result<B
     block_of(alloc, &text)
 }
 
-/// Fails where the rule list in bytes does not begin and end so, with this length.
+/// Fails if the rule list in bytes has another length, or does not begin and end with these bytes.
 fn list_is(
     rt: &impl Abort,
     alloc: Global,
@@ -63,7 +63,7 @@ struct Laid {
     slots: &'static [Slot],
     weights: &'static [u8],
     words: &'static [u16],
-    /// The list in bytes, where the form has one.
+    /// The list in bytes, if the form has one.
     bytes: Option<&'static [u8]>,
 }
 
@@ -100,7 +100,7 @@ static LAID: [Laid; 2] = [
     },
 ];
 
-/// Fails where the rules are laid out otherwise.
+/// Fails if the rules are laid out otherwise.
 fn is_laid(rt: &impl Abort, alloc: Global, flat: &Flat, laid: &Laid) -> Result<(), Fail>
     requires { IsLaidOut flat.now }
 {
@@ -158,12 +158,12 @@ fn spreads_no_more_than_nine_factors(rt: HostRuntime) -> Result<(), Fail> {
 const VARIABLES: &[u8] = b"FUNCTION_BLOCK a
 VAR_INPUT xa, xb, xc, xd, xe, xf, xg, xh : REAL; END_VAR VAR_OUTPUT y : REAL; END_VAR";
 
-/// A name of two letters, of which the second counts from a on.
+/// A name of two letters. The second is the number, counted from `a`.
 fn push_name(text: &mut Vec<u8>, first: u8, number: u8) -> Result<(), AllocError> {
     text.extend_from_slice(&[first, b'a'.wrapping_add(number)])
 }
 
-/// The terms of a section, each of which stands everywhere.
+/// The terms of a section, all with the same text after the name.
 fn push_terms(text: &mut Vec<u8>, count: u8, course: &[u8]) -> Result<(), AllocError> {
     for term in 0..count {
         text.extend_from_slice(b" TERM ")?;
@@ -182,7 +182,7 @@ fn push_input(text: &mut Vec<u8>, input: u8) -> Result<(), AllocError> {
     text.extend_from_slice(b" END_FUZZIFY")
 }
 
-/// `IF` an input `IS NOT` a term `THEN` the output is its last.
+/// `IF` an input `IS NOT` a term `THEN` the output is its last term.
 fn push_rule(text: &mut Vec<u8>, input: u8, term: u8, last: u8) -> Result<(), AllocError> {
     text.extend_from_slice(b" RULE 1 : IF ")?;
     push_name(text, b'x', input)?;
@@ -207,7 +207,7 @@ fn push_rules(text: &mut Vec<u8>, last: u8) -> Result<(), AllocError> {
     Ok(())
 }
 
-/// A block that uses the complement of each of its 120 input terms, and has one output.
+/// A block with one output that uses the complement of each of its 120 input terms.
 fn widest(alloc: Global, outs: u8) -> Result<Block, Fail>
     ensures { IfOk result IsValid }
 {
@@ -221,7 +221,7 @@ fn widest(alloc: Global, outs: u8) -> Result<Block, Fail>
     block_of(alloc, &text)
 }
 
-/// Fails where the terms, their complements and the output's terms do not stand in this order.
+/// Fails if the slots are not those of the terms, their complements and the output's terms, in this order.
 fn in_order(rt: &impl Abort, slots: &[Slot], last: u8) {
     assert!(rt; slots.len() == 240 + usize::from(last));
     for (number, slot) in [

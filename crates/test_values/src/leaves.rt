@@ -15,11 +15,11 @@ use std::process::Abort;
 use std::test::Fail;
 use test_texts::{BLOCK, LATCH, ROUNDED};
 
-/// A leaf's rule and part, with its Bound for answers that are bytes and that for those of 16 bits, or why it does not
-/// hold.
+/// A leaf's rule and `k`, with its Bound for answers that are bytes and that for answers of 16 bits, or why it does
+/// not hold.
 type Bounded = ((u16, u8), Result<(u32, u32), LeafFault>);
 
-/// The best leaf of a block's only output over the bytes from one to another, and what others are there.
+/// The best leaf of a block's only output over the bytes of a range, and the Bounds or faults of other leaves there.
 struct Boxed {
     fcl: &'static str,
     from: u8,
@@ -70,7 +70,7 @@ static BOXES: [Boxed; 8] = boxes! {
     ];
 };
 
-/// The box from one byte to another of a block's only input.
+/// The box of these bytes of a block's only input.
 pub(crate) fn box_of(block: &Block, from: u8, to: u8) -> ByteBox
     requires input { length block.now.inputs ≡ 1 }
     requires bytes { from ≤ to }
@@ -81,7 +81,7 @@ pub(crate) fn box_of(block: &Block, from: u8, to: u8) -> ByteBox
     ByteBox(intervals)
 }
 
-/// Fails where a leaf of the only output has another Bound or another fault.
+/// Fails if a leaf of the only output has another Bound or another fault.
 fn are_bounded(rt: &impl Abort, block: &Block, bytes: &ByteBox, wanted: &[Bounded])
     requires block { IsValid block.now }
     requires bytes { IsBoxOf block.now bytes.now.0.items }

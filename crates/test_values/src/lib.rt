@@ -1,7 +1,7 @@
-//! Worked values of the calls on blocks and certificates, as tests: numbers, answers, bytes, grades,
-//! layouts and errors.
+//! Tests of the functions on blocks and certificates against worked values: numbers, answers, bytes,
+//! grades, layouts and errors.
 //!
-//! Each expected value was worked out by hand from the public standards, or by a program of its own.
+//! Each expected value was worked out by hand from the public standards, or by a separate program.
 #![tactic(auto)]
 
 #[cfg(test)]
@@ -18,6 +18,8 @@ mod cells;
 mod certificates;
 #[cfg(test)]
 mod checks;
+#[cfg(test)]
+mod controllers;
 #[cfg(test)]
 mod decimals;
 #[cfg(test)]

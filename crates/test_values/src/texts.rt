@@ -5,7 +5,7 @@ use std::alloc::Global;
 use std::test::Fail;
 use test_texts::{FAULTS, Flaw, LOAD_FAULTS, with_load_fault};
 
-/// What `parse` answers to a text with this fault at this place.
+/// What `parse` returns for a text with this fault at this offset.
 fn syntax_fault(at: u32, flaw: Flaw) -> SyntaxFault {
     match flaw {
         Flaw::BadByte => SyntaxFault::BadByte(at),
@@ -17,7 +17,7 @@ fn syntax_fault(at: u32, flaw: Flaw) -> SyntaxFault {
     }
 }
 
-/// The load fault of a kind, which counts from 1.
+/// The load fault of a kind. Kinds count from 1.
 fn load_fault(at: u32, kind: u8) -> Option<LoadFault> {
     match kind {
         1 => Some(LoadFault::Twice(at)),
