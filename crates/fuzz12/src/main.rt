@@ -8,7 +8,7 @@ use std::alloc::AllocError;
 use std::io::ErrorKind;
 use std::process::ExitCode;
 
-/// The program's words. Where one can't be read, as it is no UTF-8, they are of no command, and so are none.
+/// The program's words. If one can't be read because it is not UTF-8, there are none, which is no command.
 fn words_of(rt: &HostRuntime) -> Result<Vec<String>, AllocError> {
     let alloc = rt.alloc();
     match std::env::args(rt) {
