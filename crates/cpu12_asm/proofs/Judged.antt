@@ -220,9 +220,9 @@ action_keeps value g Bytes text has = put_values_keep g Bytes (values_within val
     (limited_keep value text (limits_of Bytes))
 action_keeps value g Words text has = put_values_keep g Words (values_within value text (limits_of Words)) has
     (limited_keep value text (limits_of Words))
-action_keeps value g (Operate form) text has =
-    put_values_keep g (Operate form) (values_within value text (limits_of (Operate form))) has
-    (limited_keep value text (limits_of (Operate form)))
+action_keeps value g (Operate encoding) text has =
+    put_values_keep g (Operate encoding) (values_within value text (limits_of (Operate encoding))) has
+    (limited_keep value text (limits_of (Operate encoding)))
 
 given_keeps : (value : List ℕ → Option ℕ) (g : Given) (s : Option Statement) → StandOnce g
     → Keeps StandOnce (given value g s)

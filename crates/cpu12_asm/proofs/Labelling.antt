@@ -148,7 +148,7 @@ place_then k Equate operand next other is =
     omega (arith, (equal_is k.place (within 65535 (sum_of k.value operand)) next is).1)
 place_then k Bytes operand next other is = (plain_place k (size_of Bytes operand) next is).0
 place_then k Words operand next other is = (plain_place k (size_of Words operand) next is).0
-place_then k (Operate form) operand next other is = (plain_place k (size_of (Operate form) operand) next is).0
+place_then k (Operate encoding) operand next other is = (plain_place k (size_of (Operate encoding) operand) next is).0
 
 value_then : (k : Known) (action : Action) (operand : List ℕ) (next : Behind) → action ≢ Equate
     → behind_of k action operand ≡ Ok next → next.value ≡ k.place
@@ -157,7 +157,7 @@ value_then k Origin operand next other is = (moved_is k.place (within 65535 (sum
 value_then k Equate operand next other is = absurd (other refl)
 value_then k Bytes operand next other is = (plain_place k (size_of Bytes operand) next is).1
 value_then k Words operand next other is = (plain_place k (size_of Words operand) next is).1
-value_then k (Operate form) operand next other is = (plain_place k (size_of (Operate form) operand) next is).1
+value_then k (Operate encoding) operand next other is = (plain_place k (size_of (Operate encoding) operand) next is).1
 
 origin_then : (k : Known) (action : Action) (operand : List ℕ) (next : Behind) → action ≡ Origin
     → behind_of k action operand ≡ Ok next
@@ -192,8 +192,8 @@ module _ (value : List ℕ → Option ℕ) (done : List (List ℕ)) (place next 
       plain_line Bytes says other (moves other)
   place_behind_line Words says origin moves = let other : Words ≢ Origin = λ e. (let bad = e in cc) in
       plain_line Words says other (moves other)
-  place_behind_line (Operate form) says origin moves = let other : Operate form ≢ Origin = λ e. (let bad = e in cc) in
-      plain_line (Operate form) says other (moves other)
+  place_behind_line (Operate encoding) says origin moves = let other : Operate encoding ≢ Origin = λ e. (let bad = e in cc) in
+      plain_line (Operate encoding) says other (moves other)
 
 places : (value : List ℕ → Option ℕ) (lines done : List (List ℕ)) (k t : Known) (n : ℕ) → AreKept t.value value
     → IsPlaceBehind value done k.place

@@ -1,17 +1,17 @@
--- Mnemonics are words of their form.
+-- Mnemonics are words of their shape.
 use Rattle.std.proofs.Common.{◌≡◌, ℕ, Bool, true, false, List, [], ◌∷◌, refl, ap, inl, inr}
 use Rattle.std.specs.List.{list_all, list_any}
 use Rattle.std.proofs.lemmas.Bool.{cases_Bool}
 use Rattle.std.proofs.lemmas.Slice.Eq.{bytes_eq-Decides}
-use Rattle.cpu12_isa.specs.{declared.instr.Instr.Instr, Forms.every, Forms.form_of, Mnemonics.text_of}
+use Rattle.cpu12_isa.specs.{declared.instr.Instr.Instr, Encodings.every, Encodings.encoding_of, Mnemonics.text_of}
 use Rattle.cpu12_asm.specs.{Expressions.is_mnemonic, Expressions.names_form, Shapes.may_be_mnemonic}
 
 abbrev has_form : Instr → Bool
-has_form i = may_be_mnemonic (text_of (form_of i).mnemonic)
+has_form i = may_be_mnemonic (text_of (encoding_of i).mnemonic)
 
 names_none : (word : List ℕ) (i : Instr) → may_be_mnemonic word ≡ false → has_form i ≡ true → names_form word i ≡ false
 names_none word i other has = elim (cases_Bool (names_form word i)) [
-  | inl names ↦ (let same = ap may_be_mnemonic ((bytes_eq-Decides word (text_of (form_of i).mnemonic)).0 names) in
+  | inl names ↦ (let same = ap may_be_mnemonic ((bytes_eq-Decides word (text_of (encoding_of i).mnemonic)).0 names) in
       absurd (cc))
   | inr none ↦ none
 ]
@@ -25,6 +25,6 @@ any_none word (i ∷ rows) other all = elim (cases_Bool (has_form i)) [
   | inr bad ↦ (let no : list_all has_form (i ∷ rows) ≡ false = rw bad refl in absurd (cc))
 ]
 
--- a word of another form is no mnemonic
+-- a word of another shape is no mnemonic
 pub is_mnemonic-other : (word : List ℕ) → may_be_mnemonic word ≡ false → is_mnemonic word ≡ false
 is_mnemonic-other word other = any_none word every other refl

@@ -8,10 +8,10 @@ use Rattle.std.proofs.lemmas.Bool.{cond_both}
 use Rattle.std.proofs.lemmas.Bool.Decides.{nat_tests}
 use Rattle.std.proofs.lemmas.List.Elements.{All-append, All-from_recursion}
 use Rattle.cpu12_isa.specs.declared.instr.{Instr.Instr, Instr.TheVariants.LdaaImmediate}
-use Rattle.cpu12_isa.specs.declared.form.{Form.Form, Operand.Operand, Page.Page, Page.TheVariants.One}
-use Rattle.cpu12_isa.specs.declared.form.Operand.TheVariants.{Byte, Word, Address, Offset, ByteToAddress}
-use Rattle.cpu12_isa.specs.declared.form.Operand.TheVariants.{AddressToAddress}
-use Rattle.cpu12_isa.specs.{Code.form_bytes, Forms.every, Forms.form_of, Forms.operand_bytes, Forms.prebytes}
+use Rattle.cpu12_isa.specs.declared.encodings.{Encoding.Encoding, Operand.Operand, Page.Page, Page.TheVariants.One}
+use Rattle.cpu12_isa.specs.declared.encodings.Operand.TheVariants.{Byte, Word, Address, Offset, ByteToAddress}
+use Rattle.cpu12_isa.specs.declared.encodings.Operand.TheVariants.{AddressToAddress}
+use Rattle.cpu12_isa.specs.{Code.encoding_bytes, Encodings.every, Encodings.encoding_of, Encodings.operand_bytes, Encodings.prebytes}
 use Rattle.cpu12_isa.specs.Memory.{low_of}
 use Rattle.cpu12_asm.specs.declared.{expressions.Sum.Sum, faults.LineFault.LineFault, items.AsmFault.AsmFault}
 use Rattle.cpu12_asm.specs.declared.{operands.Limits.Limits, statements.Action.Action}
@@ -69,7 +69,7 @@ operand_limits_are o = tt
 limits_are : (a : Action) → IfSome (limits_of a) AreLimits
 limits_are Bytes = (omega arith, omega arith)
 limits_are Words = (omega arith, omega arith)
-limits_are (Operate form) = operand_limits_are form.operand
+limits_are (Operate encoding) = operand_limits_are encoding.operand
 limits_are a = tt
 
 within_are_words : (value : List ℕ → Option ℕ) (text : List ℕ) (o : Option Limits) → IfSome o AreLimits
@@ -106,7 +106,7 @@ operand_are_bytes place vs (AddressToAddress source at) words =
     (with_word (slice_index vs 1) [] (value_at vs 1 words) tt)
 operand_are_bytes place vs o words = tt
 
-opcode_is_byte : (i : Instr) → (form_of i).opcode < 2 ^ 8
+opcode_is_byte : (i : Instr) → (encoding_of i).opcode < 2 ^ 8
 opcode_is_byte (LdaaImmediate v) = omega arith
 opcode_is_byte i = omega arith
 
@@ -118,7 +118,7 @@ page_are_bytes page bytes are = (omega arith, are)
 
 -- an operation is that of an instruction
 abbrev IsInstruction : Action → Type 0
-IsInstruction (Operate form) = (i : Instr) × (form ≡ form_of i)
+IsInstruction (Operate encoding) = (i : Instr) × (encoding ≡ encoding_of i)
 IsInstruction a = Unit {0}
 
 abbrev Says : Option Action → Type 0
@@ -182,11 +182,11 @@ with_are_bytes : (place : ℕ) (a : Action) (vs : List ℕ) → IsInstruction a 
     → AreBytes (bytes_with place a vs)
 with_are_bytes place Bytes vs is words = low_bytes vs
 with_are_bytes place Words vs is words = words_are_bytes vs words
-with_are_bytes place (Operate form) vs is words =
-    let operand = operand_bytes (operand_with place vs form.operand) in
-    page_are_bytes form.page (form.opcode ∷ operand) (
-      subst (λ (n : ℕ). n < 2 ^ 8) (sym (ap (λ (f : Form). f.opcode) is.1)) (opcode_is_byte is.0),
-      operand_are_bytes place vs form.operand words,
+with_are_bytes place (Operate encoding) vs is words =
+    let operand = operand_bytes (operand_with place vs encoding.operand) in
+    page_are_bytes encoding.page (encoding.opcode ∷ operand) (
+      subst (λ (n : ℕ). n < 2 ^ 8) (sym (ap (λ (f : Encoding). f.opcode) is.1)) (opcode_is_byte is.0),
+      operand_are_bytes place vs encoding.operand words,
     )
 with_are_bytes place a vs is words = tt
 
@@ -234,9 +234,9 @@ with_fits value g Bytes text is have =
 with_fits value g Words text is have =
     values_fit g Words (values_within value text (limits_of Words)) is have
     (within_are_words value text (limits_of Words) (limits_are Words))
-with_fits value g (Operate form) text is have =
-    values_fit g (Operate form) (values_within value text (limits_of (Operate form))) is have
-    (within_are_words value text (limits_of (Operate form)) (limits_are (Operate form)))
+with_fits value g (Operate encoding) text is have =
+    values_fit g (Operate encoding) (values_within value text (limits_of (Operate encoding))) is have
+    (within_are_words value text (limits_of (Operate encoding)) (limits_are (Operate encoding)))
 
 given_fits : (value : List ℕ → Option ℕ) (g : Given) (o : Option Statement) → States o → GiveBytes g.bytes
     → Fits (given value g o)

@@ -7,9 +7,9 @@ use Rattle.std.specs.Str.{str_to_ascii_uppercase}
 use Rattle.std.proofs.lemmas.Bool.{cases_Bool}
 use Rattle.std.proofs.lemmas.Bool.Decides.{nat_tests}
 use Rattle.std.proofs.lemmas.List.{length-map}
-use Rattle.cpu12_isa.specs.{declared.form.Operand.Operand, Forms.operand_bytes, Forms.prebytes}
-use Rattle.cpu12_isa.specs.declared.form.Operand.TheVariants.{Inherent, Byte, Word, Address, Offset, ByteToAddress}
-use Rattle.cpu12_isa.specs.declared.form.Operand.TheVariants.{AddressToAddress, XToD, YToD, PostIncrementX}
+use Rattle.cpu12_isa.specs.{declared.encodings.Operand.Operand, Encodings.operand_bytes, Encodings.prebytes}
+use Rattle.cpu12_isa.specs.declared.encodings.Operand.TheVariants.{Inherent, Byte, Word, Address, Offset, ByteToAddress}
+use Rattle.cpu12_isa.specs.declared.encodings.Operand.TheVariants.{AddressToAddress, XToD, YToD, PostIncrementX}
 use Rattle.cpu12_asm.specs.declared.faults.LineFault.{LineFault}
 use Rattle.cpu12_asm.specs.declared.faults.LineFault.TheVariants as fault
 use Rattle.cpu12_asm.specs.{declared.statements.Action.Action, Bytes.IsGivenOnce, Bytes.byte_at, Bytes.placed}
@@ -85,12 +85,12 @@ size_is value place Equate operand vs is = refl
 size_is value place Bytes operand vs is = rw length-map (as_many value 255 255 operand vs is)
 size_is value place Words operand vs is = let count = as_many value 65535 65535 operand vs is in
     omega (arith, two_each vs, count)
-size_is value place (Operate form) operand vs is =
+size_is value place (Operate encoding) operand vs is =
     omega (
       arith,
-      length-append (prebytes form.page) (form.opcode ∷ operand_bytes (operand_with place vs form.operand)),
-      length-append (prebytes form.page) (form.opcode ∷ operand_bytes form.operand),
-      as_long place vs form.operand,
+      length-append (prebytes encoding.page) (encoding.opcode ∷ operand_bytes (operand_with place vs encoding.operand)),
+      length-append (prebytes encoding.page) (encoding.opcode ∷ operand_bytes encoding.operand),
+      as_long place vs encoding.operand,
     )
 
 -- ---- a line of the second pass
@@ -175,8 +175,8 @@ gives_with value g t line name Bytes operand says is =
     gives_plain value g t line name Bytes operand says (λ e. (let bad = e in cc)) is
 gives_with value g t line name Words operand says is =
     gives_plain value g t line name Words operand says (λ e. (let bad = e in cc)) is
-gives_with value g t line name (Operate form) operand says is =
-    gives_plain value g t line name (Operate form) operand says (λ e. (let bad = e in cc)) is
+gives_with value g t line name (Operate encoding) operand says is =
+    gives_plain value g t line name (Operate encoding) operand says (λ e. (let bad = e in cc)) is
 
 gives_as : (value : List ℕ → Option ℕ) (g t : Given) (line : List ℕ) (o : Option Statement) → statement_of line ≡ o
     → given value g o ≡ Ok t

@@ -13,7 +13,7 @@ given_with-bytes value g Origin text other = absurd (other refl)
 given_with-bytes value g Equate text other = refl
 given_with-bytes value g Bytes text other = refl
 given_with-bytes value g Words text other = refl
-given_with-bytes value g (Operate form) text other = refl
+given_with-bytes value g (Operate encoding) text other = refl
 
 pub through-ok : {S : Type 0} (step : S → List ℕ → Result S LineFault) (s t : S) (n : ℕ) (line : List ℕ)
     (lines : List (List ℕ)) → step s line ≡ Ok t → through step s n (line ∷ lines) ≡ through step t (n + 1) lines

@@ -5,7 +5,7 @@ use Rattle.std.specs.Prelude.{List, [], ◌∷◌, length, Option, Some, None, f
 use Rattle.std.specs.Char.{is_ascii_digit}
 use Rattle.std.specs.List.{list_all, list_any}
 use Rattle.std.specs.Str.{bytes_eq}
-use Rattle.cpu12_isa.specs.{declared.instr.Instr.Instr, Forms.form_of, Forms.every, Mnemonics.text_of}
+use Rattle.cpu12_isa.specs.{declared.instr.Instr.Instr, Encodings.encoding_of, Encodings.every, Mnemonics.text_of}
 use Rattle.cpu12_asm.specs.{declared.expressions.Term.Term, declared.expressions.Sum.Sum, Lines.pieces}
 use Rattle.cpu12_asm.specs.declared.expressions.Term.TheVariants.{Value, Large, Unknown, Bad}
 
@@ -17,7 +17,7 @@ is_in_name b = is_letter b || is_ascii_digit b
 
 -- the word is the mnemonic of an instruction
 abbrev pub names_form : List ℕ → Instr → Bool
-names_form word i = bytes_eq word (text_of (form_of i).mnemonic)
+names_form word i = bytes_eq word (text_of (encoding_of i).mnemonic)
 
 abbrev pub is_mnemonic : List ℕ → Bool
 is_mnemonic word = list_any (names_form word) every

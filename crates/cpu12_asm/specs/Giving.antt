@@ -4,9 +4,9 @@ use Rattle.std.specs.Prelude.{ℕ, ◌+◌, ◌-◌, ◌%◌, ◌^◌, ◌&&◌,
 use Rattle.std.specs.Prelude.{[], ◌∷◌, ◌++◌, length, map, drop, slice_index, Option, Some, None, is_some, Result, Ok}
 use Rattle.std.specs.Prelude.{Err}
 use Rattle.std.specs.List.{list_any, flat_map}
-use Rattle.cpu12_isa.specs.{declared.form.Operand.Operand, Code.form_bytes, Memory.high_of, Memory.low_of}
-use Rattle.cpu12_isa.specs.declared.form.Operand.TheVariants.{Byte, Word, Address, Offset, ByteToAddress}
-use Rattle.cpu12_isa.specs.declared.form.Operand.TheVariants.{AddressToAddress}
+use Rattle.cpu12_isa.specs.{declared.encodings.Operand.Operand, Code.encoding_bytes, Memory.high_of, Memory.low_of}
+use Rattle.cpu12_isa.specs.declared.encodings.Operand.TheVariants.{Byte, Word, Address, Offset, ByteToAddress}
+use Rattle.cpu12_isa.specs.declared.encodings.Operand.TheVariants.{AddressToAddress}
 use Rattle.cpu12_asm.specs.declared.faults.LineFault.{LineFault}
 use Rattle.cpu12_asm.specs.declared.faults.LineFault.TheVariants as fault
 use Rattle.cpu12_asm.specs.declared.{operands.Limits.Limits, statements.Action.Action}
@@ -30,7 +30,7 @@ operand_limits _ = None
 abbrev pub limits_of : Action → Option Limits
 limits_of Bytes = limits 0xFF 0xFF false
 limits_of Words = limits 0xFFFF 0xFFFF false
-limits_of (Operate form) = operand_limits form.operand
+limits_of (Operate encoding) = operand_limits encoding.operand
 limits_of _ = None
 
 abbrev pub any_unknown : (List ℕ → Option ℕ) → List (List ℕ) → Bool
@@ -83,11 +83,12 @@ word_bytes v = high_of v ∷ low_of v ∷ []
 abbrev pub bytes_with : ℕ → Action → List ℕ → List ℕ
 bytes_with place Bytes vs = map low_of vs
 bytes_with place Words vs = flat_map word_bytes vs
-bytes_with place (Operate form) vs = form_bytes (record form { operand = operand_with place vs form.operand })
+bytes_with place (Operate encoding) vs =
+    encoding_bytes (record encoding { operand = operand_with place vs encoding.operand })
 bytes_with place _ vs = []
 
 abbrev pub branches_far : ℕ → Action → List ℕ → Bool
-branches_far place (Operate form) vs = is_far place vs form.operand
+branches_far place (Operate encoding) vs = is_far place vs encoding.operand
 branches_far place _ vs = false
 
 -- what lines gave, and where the next stands

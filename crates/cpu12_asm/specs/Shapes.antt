@@ -1,4 +1,4 @@
--- The form of every mnemonic.
+-- The shape of every mnemonic.
 -- Beside the promise.
 use Rattle.std.specs.Prelude.{ℕ, ◌&&◌, nat_le, Bool, List, length}
 use Rattle.std.specs.Char.{is_ascii_uppercase}

@@ -4,9 +4,10 @@ use Rattle.std.specs.Prelude.{ℕ, ◌==◌, ◌&&◌, ◌||◌, nat_lt, if◌th
 use Rattle.std.specs.Prelude.{Option, Some, None, codes}
 use Rattle.std.specs.List.{list_all, find}
 use Rattle.std.specs.Str.{bytes_eq}
-use Rattle.cpu12_isa.specs.{declared.instr.Instr.Instr, declared.form.Operand.Operand, Forms.form_of, Forms.every}
-use Rattle.cpu12_isa.specs.declared.form.Operand.TheVariants.{Inherent, Byte, Word, Address, Offset, ByteToAddress}
-use Rattle.cpu12_isa.specs.declared.form.Operand.TheVariants.{AddressToAddress, XToD, YToD, PostIncrementX}
+use Rattle.cpu12_isa.specs.{declared.instr.Instr.Instr, declared.encodings.Operand.Operand, Encodings.encoding_of}
+use Rattle.cpu12_isa.specs.{Encodings.every}
+use Rattle.cpu12_isa.specs.declared.encodings.Operand.TheVariants.{Inherent, Byte, Word, Address, Offset, ByteToAddress}
+use Rattle.cpu12_isa.specs.declared.encodings.Operand.TheVariants.{AddressToAddress, XToD, YToD, PostIncrementX}
 use Rattle.cpu12_asm.specs.declared.statements.Action.{Action}
 use Rattle.cpu12_asm.specs.declared.statements.Action.TheVariants as action
 use Rattle.cpu12_asm.specs.Lines.{pieces, code_of, first_word, behind_word}
@@ -45,14 +46,14 @@ takes (ByteToAddress _ _) text = is_immediate 2 text
 takes (AddressToAddress _ _) text = has_parts 2 text
 
 abbrev pub is_form : List ℕ → List ℕ → Instr → Bool
-is_form word text i = names_form word i && takes (form_of i).operand text
+is_form word text i = names_form word i && takes (encoding_of i).operand text
 
 abbrev pub allowed : Bool → Action → Option Action
 allowed b a = if b then Some a else None
 
 abbrev pub operate : Option Instr → Option Action
 operate None = None
-operate (Some i) = Some (action.Operate (form_of i))
+operate (Some i) = Some (action.Operate (encoding_of i))
 
 -- what an operation with this operand does, on a line with or without a name
 abbrev pub action_of : Bool → List ℕ → List ℕ → Option Action
@@ -82,7 +83,7 @@ statement_with name text =
     (action_of (nat_lt 0 (length name)) (first_word text) (first_word (behind_word text)))
     else None
 
--- what a line says, or none where it has another form
+-- what a line says, or none where it has another shape
 abbrev pub statement_of : List ℕ → Option Statement
 statement_of line =
     if (length (first_word (code_of line)) == 0) || is_name (first_word (code_of line))

@@ -3,7 +3,7 @@
 use Rattle.std.specs.Prelude.{ℕ, ◌+◌, ◌*◌, ◌-◌, ◌&&◌, nat_le, if◌then◌else◌, Bool, false, not, List, [], ◌∷◌, length}
 use Rattle.std.specs.Prelude.{Option, Some, None, is_some, Result, Ok, Err}
 use Rattle.std.specs.Str.{bytes_eq}
-use Rattle.cpu12_isa.specs.Code.{form_bytes}
+use Rattle.cpu12_isa.specs.Code.{encoding_bytes}
 use Rattle.cpu12_asm.specs.declared.{expressions.Sum.Sum, faults.LineFault.LineFault, statements.Action.Action}
 use Rattle.cpu12_asm.specs.declared.faults.LineFault.TheVariants.{BadLine, UnknownName, Twice, Range}
 use Rattle.cpu12_asm.specs.declared.statements.Action.TheVariants.{Nothing, Origin, Equate, Bytes, Words, Operate}
@@ -24,7 +24,7 @@ size_of Origin text = 0
 size_of Equate text = 0
 size_of Bytes text = part_count text
 size_of Words text = 2 * part_count text
-size_of (Operate form) text = length (form_bytes form)
+size_of (Operate encoding) text = length (encoding_bytes encoding)
 
 -- what lines define: where the next stands, and the values of names
 pub record Known : Type 0 where

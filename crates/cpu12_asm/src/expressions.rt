@@ -3,7 +3,7 @@ ghost use Rattle.std.specs.Prelude.{ℕ, ◌≡◌, ◌≤◌, ◌<◌, ◌+◌,
 ghost use Rattle.std.specs.Char.{is_ascii_digit, is_ascii_uppercase};
 ghost use Rattle.std.specs.Str.{bytes_eq};
 ghost use Rattle.std.specs.List.{list_all};
-ghost use Rattle.cpu12_isa.specs.Forms.{form_of};
+ghost use Rattle.cpu12_isa.specs.Encodings.{encoding_of};
 ghost use Rattle.cpu12_asm.specs.{Names.value_in, Lines.pieces, Shapes.may_be_mnemonic};
 ghost use Rattle.cpu12_asm.specs.Left.{pieces_left, size_left};
 ghost use Rattle.cpu12_asm.specs.Expressions.{is_letter, is_in_name, is_mnemonic, is_directive, is_operation};
@@ -12,7 +12,7 @@ ghost use Rattle.cpu12_asm.specs.Expressions.{hexadecimal_value, number, plain_t
 ghost use Rattle.cpu12_asm.specs.Expressions.{sum_of};
 
 use crate::lines::cut;
-use cpu12_isa::form::EVERY;
+use cpu12_isa::encodings::EVERY;
 use std::collections::BTreeMap;
 
 /// Values by names.
@@ -73,7 +73,7 @@ fn are_letters(word: &[u8]) -> bool
     word.iter().all(|b| b.is_ascii_uppercase())
 }
 
-/// Whether a word has the form of a mnemonic: three to five letters.
+/// Whether a word has the shape of a mnemonic: three to five letters.
 fn may_be_mnemonic(word: &[u8]) -> bool
     ensures { result ≡ may_be_mnemonic word.now }
 {
@@ -83,8 +83,8 @@ fn may_be_mnemonic(word: &[u8]) -> bool
 fn is_mnemonic(word: &[u8]) -> bool
     ensures { result ≡ is_mnemonic word.now }
 {
-    // most names have another form, and need no look at the table
-    may_be_mnemonic(word) && EVERY.iter().any(|i| is(word, i.form().mnemonic.text()))
+    // most names have another shape, and need no look at the table
+    may_be_mnemonic(word) && EVERY.iter().any(|i| is(word, i.encoding().mnemonic.text()))
 }
 
 fn is_directive(word: &[u8]) -> bool

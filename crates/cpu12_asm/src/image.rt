@@ -124,7 +124,7 @@ impl ByteMap {
     pub fn write_to<M: Mem>(&self, m: &mut M)
         ensures bytes { (at : ℕ) → at < 2 ^ 16
             → slice_index (M.bytes m.new) at ≡ unwrap_or (byte_at self.now at) (slice_index (M.bytes m.old) at) }
-        ensures noted { M.noted m.new ≡ M.noted m.old }
+        ensures tags { M.tags m.new ≡ M.tags m.old }
     {
         for (at, byte) in &self.bytes {
             m.write(*at, *byte);

@@ -12,7 +12,7 @@ use crate::faults::LineFault;
 use crate::lines::cut;
 use crate::statements::Action;
 use crate::values::fits;
-use cpu12_isa::form::{Form, Operand};
+use cpu12_isa::encodings::{Encoding, Operand};
 use cpu12_isa::mem::{high_of, low_of};
 use std::alloc::{AllocError, Global};
 
@@ -54,7 +54,7 @@ fn limits_of(action: &Action) -> Option<Limits>
     match action {
         Action::Bytes => up_to(0xFF, 0xFF, false),
         Action::Words => up_to(0xFFFF, 0xFFFF, false),
-        Action::Operate(form) => operand_limits(&form.operand),
+        Action::Operate(encoding) => operand_limits(&encoding.operand),
         Action::Nothing | Action::Origin | Action::Equate => None,
     }
 }
@@ -216,7 +216,7 @@ pub(crate) fn branches_far(place: u32, action: &Action, values: &[u16]) -> bool
     ensures { result ≡ branches_far place action.now values.now }
 {
     match action {
-        Action::Operate(form) => is_far(place, values, &form.operand),
+        Action::Operate(encoding) => is_far(place, values, &encoding.operand),
         _ => false,
     }
 }
@@ -251,10 +251,10 @@ pub(crate) fn bytes_with(
     match action {
         Action::Bytes => low_bytes(alloc, values),
         Action::Words => both_bytes(alloc, values),
-        Action::Operate(form) => {
-            let filled = Form {
-                operand: operand_with(place, values, &form.operand),
-                ..*form
+        Action::Operate(encoding) => {
+            let filled = Encoding {
+                operand: operand_with(place, values, &encoding.operand),
+                ..*encoding
             };
             filled.bytes().as_slice().to_vec(alloc)
         }

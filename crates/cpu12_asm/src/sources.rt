@@ -172,7 +172,7 @@ fn read_bytes(alloc: Global, names: &Names<'_>, text: &[u8]) -> Result<ByteMap, 
 /// The image of a source text of at most 1048576 bytes.
 ///
 /// Lines end with LF or CR LF; `;` begins a comment. A line is `[name] [operation [operand]]`: a name
-/// begins in column 1, an operation after a blank. Operations are the mnemonics of the table of forms and
+/// begins in column 1, an operation after a blank. Operations are the mnemonics of the table of encodings and
 /// `ORG e`, `FCB e{,e}`, `FDB e{,e}` and `EQU e`; an expression joins numbers (`$` and hexadecimal digits,
 /// or decimal digits) and names by `+` and `-`. The case of letters does not count.
 ///

@@ -1,7 +1,7 @@
 //! What a line of source means.
 ghost use Rattle.std.specs.Prelude.{ℕ, ◌≡◌, ◌≤◌, ◌+◌, ◌^◌, ◌==◌, length, List, Option, IfSome, Some, None};
 ghost use Rattle.std.specs.List.{list_all, find};
-ghost use Rattle.cpu12_isa.specs.Forms.{every, form_of};
+ghost use Rattle.cpu12_isa.specs.Encodings.{every, encoding_of};
 ghost use Rattle.cpu12_asm.specs.{Lines.pieces, Told.told};
 ghost use Rattle.cpu12_asm.specs.Statements.{is_expression, are_expressions, part_count, has_parts, is_immediate};
 ghost use Rattle.cpu12_asm.specs.Statements.{takes, is_form, allowed, action_of, operate, statement_with};
@@ -9,7 +9,7 @@ ghost use Rattle.cpu12_asm.specs.Statements.{statement_of};
 
 use crate::expressions::{expression, is, is_name};
 use crate::lines::{behind_word, code, cut, first_word};
-use cpu12_isa::form::{EVERY, Form, Operand};
+use cpu12_isa::encodings::{EVERY, Encoding, Operand};
 use cpu12_isa::instr::Instr;
 use std::alloc::Global;
 use std::collections::BTreeMap;
@@ -26,8 +26,8 @@ pub(crate) enum Action {
     Bytes,
     /// `FDB`: gives words.
     Words,
-    /// An instruction of this form, whose operand is filled in later.
-    Operate(Form),
+    /// An instruction of this encoding, whose operand is filled in later.
+    Operate(Encoding),
 }
 
 /// A line with its name, which is empty if it has none.
@@ -116,9 +116,9 @@ fn first_form(alloc: Global, word: &[u8], text: &[u8], mut rows: &[Instr]) -> Op
     ensures { result ≡ operate (find (is_form word.now text.now) rows.now) }
 {
     while let [i, rest @ ..] = rows {
-        let form = i.form();
-        if is(word, form.mnemonic.text()) && takes(alloc, form.operand, text) {
-            return Some(Action::Operate(form));
+        let encoding = i.encoding();
+        if is(word, encoding.mnemonic.text()) && takes(alloc, encoding.operand, text) {
+            return Some(Action::Operate(encoding));
         }
         rows = rest;
     }

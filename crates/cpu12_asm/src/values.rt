@@ -38,7 +38,7 @@ pub(crate) fn size(action: &Action, text: &[u8]) -> u64
         Action::Nothing | Action::Origin | Action::Equate => 0,
         Action::Bytes => part_count(text) as u64,
         Action::Words => 2 * part_count(text) as u64,
-        Action::Operate(form) => form.bytes().len() as u64,
+        Action::Operate(encoding) => encoding.bytes().len() as u64,
     }
 }
 

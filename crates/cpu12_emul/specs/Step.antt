@@ -1,10 +1,11 @@
 -- One step of the machine: a plain instruction, or one part of REV, REVW or WAV.
 -- Reached by the promise.
-use Rattle.std.specs.Prelude.{ℕ, Bool, true, false, Result, Ok, Err, Option, List, slice_index}
-use Rattle.cpu12_isa.specs.{Memory.word_of, Meaning.Effect, Meaning.act_of, Code.decode_of, Code.six_from}
+use Rattle.std.specs.Prelude.{◌≡◌, ℕ, Bool, true, false, Result, Ok, Err, Option, List, slice_index}
+use Rattle.cpu12_isa.specs.{Memory.word_of, Code.decode_of, Code.six_from}
+use Rattle.cpu12_isa.specs.Operations.{Effect, Operation, AtOnce, RevParts, RevwParts, WavParts, WavrParts}
+use Rattle.cpu12_isa.specs.Operations.{operation_of}
 use Rattle.cpu12_isa.specs.Act.{Act, Give, outcome, bind, get_all, write_all}
 use Rattle.cpu12_isa.specs.declared.{instr.Regs.Regs, instr.Instr.Instr}
-use Rattle.cpu12_isa.specs.declared.instr.Instr.TheVariants.{Rev, Revw, Wav, Wavr}
 use Rattle.cpu12_parts.specs.{declared.temps.Temps.Temps, declared.temps.PartEnd.PartEnd, State.State, State.Outcome}
 use Rattle.cpu12_parts.specs.Parts.{rev_act, revw_act, wav_act, wav_pull}
 use Rattle.cpu12_parts.specs.declared.temps.Temps.TheVariants.{Free, Running, OnStack}
@@ -18,12 +19,15 @@ is_part Plain = false
 is_part Part = true
 is_part LastPart = false
 
--- the machine: its state, the byte from which open flags are taken, and for each address the byte that it is compared
--- with, where it is watched
+-- the machine: its state, the byte from which open flags are taken, and the tags of its memory
 pub record Whole : Type 0 where
   pub state : State
   pub flags : ℕ
-  pub noted : List (Option ℕ)
+  pub tags : List (Option ℕ)
+
+-- the same machine, whatever its state
+abbrev pub SameMachine : Whole → Whole → Type 0
+SameMachine old new = new ≡ record old { state = new.state }
 
 -- the state that reset gives with a memory
 abbrev pub reset_with : List ℕ → State
@@ -58,14 +62,18 @@ left_by_part o = Give (Ok (record { regs = o.regs; temps = o.temps; writes = o.w
 abbrev pub left_by_plain : Temps → Effect → Act (Result Left ℕ)
 left_by_plain t e = Give (Ok (record { regs = e.regs; temps = t; writes = e.writes; kind = Plain }))
 
+-- the step of an operation: all of it, or its next part
+abbrev pub operation_act : ℕ → Regs → Temps → Operation → Act (Result Left ℕ)
+operation_act flags r t (AtOnce act) = bind act (left_by_plain t)
+operation_act flags r t RevParts = bind (rev_act flags r t) left_by_part
+operation_act flags r t RevwParts = bind (revw_act flags r t) left_by_part
+operation_act flags r t WavParts = bind (wav_act flags r t) left_by_part
+operation_act flags r t WavrParts = bind (wav_pull r t) (λ o. bind (wav_act flags o.regs o.temps) left_by_part)
+
 -- the step of an instruction that stands at PC, where no sums run; or the byte that is in no table
 abbrev pub instruction_act : ℕ → Regs → Temps → Result Instr ℕ → Act (Result Left ℕ)
 instruction_act flags r t (Err byte) = Give (Err byte)
-instruction_act flags r t (Ok Rev) = bind (rev_act flags r t) left_by_part
-instruction_act flags r t (Ok Revw) = bind (revw_act flags r t) left_by_part
-instruction_act flags r t (Ok Wav) = bind (wav_act flags r t) left_by_part
-instruction_act flags r t (Ok Wavr) = bind (wav_pull r t) (λ o. bind (wav_act flags o.regs o.temps) left_by_part)
-instruction_act flags r t (Ok i) = bind (act_of flags i r) (left_by_plain t)
+instruction_act flags r t (Ok i) = operation_act flags r t (operation_of flags i r)
 
 -- one step: where sums run the next part of WAV, else by the bytes at PC
 abbrev pub step_act : ℕ → Regs → Temps → Act (Result Left ℕ)

@@ -4,7 +4,7 @@ ghost use Rattle.arrayvec.specs.ArrayVec.{array_vec_len};
 ghost use Rattle.cpu12_isa.specs.{Act.write_all, Memory.from, Memory.bytes_at};
 ghost use Rattle.cpu12_parts.specs.{State.State, Parts.suspended, Parts.wav};
 ghost use Rattle.cpu12_emul.specs.Take.{may_interrupt, pairs_of, pushed, written, taken, entered, frame_of};
-ghost use Rattle.cpu12_emul.specs.Take.{frame_seen, frame_size};
+ghost use Rattle.cpu12_emul.specs.{Take.frame_seen, Take.frame_size, Step.SameMachine};
 
 use crate::ends::Frame;
 use crate::machine::Machine;
@@ -31,8 +31,7 @@ impl<M: Mem> Machine<M> {
         requires { IsTrue (may_interrupt self.old.state) }
         ensures state { self.new.state ≡ taken writes.now self.old.state }
         ensures frame { frame_seen result ≡ frame_of self.old.state }
-        ensures flags { self.new.flags ≡ self.old.flags }
-        ensures noted { self.new.noted ≡ self.old.noted }
+        ensures machine { SameMachine self.old self.new }
     {
         let frame = self.push();
         write_each(&mut self.mem, writes);
@@ -46,8 +45,7 @@ impl<M: Mem> Machine<M> {
         requires { IsTrue (may_interrupt self.old.state) }
         ensures state { self.new.state ≡ entered writes.now self.old.state }
         ensures frame { frame_seen result ≡ frame_of self.old.state }
-        ensures flags { self.new.flags ≡ self.old.flags }
-        ensures noted { self.new.noted ≡ self.old.noted }
+        ensures machine { SameMachine self.old self.new }
     {
         let frame = self.push();
         write_each(&mut self.mem, writes);
@@ -59,8 +57,7 @@ impl<M: Mem> Machine<M> {
     fn push(&mut self) -> Frame
         ensures state { self.new.state ≡ pushed (suspended wav self.old.state) }
         ensures frame { frame_seen result ≡ frame_of self.old.state }
-        ensures flags { self.new.flags ≡ self.old.flags }
-        ensures noted { self.new.noted ≡ self.old.noted }
+        ensures machine { SameMachine self.old self.new }
     {
         let size = size_of(&self.temps);
         Wav.suspend(&mut self.regs, &mut self.mem, &mut self.temps);
@@ -105,7 +102,7 @@ fn bytes_from<M: Mem>(m: &M, at: u16, n: usize) -> ArrayVec<u8, 15>
 /// Does writes in their order.
 fn write_each<M: Mem>(m: &mut M, writes: &[Write])
     ensures mem { M.bytes m.new ≡ write_all (pairs_of writes.now) (M.bytes m.old) }
-    ensures noted { M.noted m.new ≡ M.noted m.old }
+    ensures tags { M.tags m.new ≡ M.tags m.old }
 {
     for w in writes {
         m.write(w.at, w.value);

@@ -3,8 +3,7 @@
 //!
 //! A step is one plain instruction or one part of REV, REVW or WAV, and does exactly what its definition states; a
 //! trap leaves the machine unchanged. An interrupt pushes WAV's sums if they are running, and its frame, does the
-//! handler's writes and pulls the frame; no step and no interrupt allocates memory. A machine over a
-//! [`cpu12_isa::watching::WatchedMem`] reports whether watched bytes have changed.
+//! handler's writes and pulls the frame; no step and no interrupt allocates memory.
 #![tactic(auto)]
 
 pub mod ends;
@@ -15,4 +14,3 @@ pub mod load;
 pub mod machine;
 mod ruling;
 pub mod run;
-pub mod watching;

@@ -1,6 +1,6 @@
 //! A machine from an image.
 ghost use Rattle.std.specs.Prelude.{ℕ, ◌≡◌, IfOk};
-ghost use Rattle.cpu12_isa.specs.Watching.{nothing_noted};
+ghost use Rattle.cpu12_isa.specs.Tags.{untagged};
 ghost use Rattle.cpu12_emul.specs.{Image.image_memory, Step.reset_with};
 
 use crate::machine::Machine;
@@ -16,7 +16,7 @@ impl<M: Mem> Machine<M> {
         ensures { IfOk result (λ m. m ≡ record {
           state = reset_with (image_memory image.now.bytes);
           flags = flags;
-          noted = nothing_noted;
+          tags = untagged 65536;
         }) }
     {
         let mut mem = M::fresh(alloc)?;

@@ -2,7 +2,8 @@
 ghost use Rattle.std.specs.Prelude.{ℕ, ◌≡◌, ◌⊎◌, MatchResult, IfErr, Ok, Err, length, slice_index, slice_set};
 ghost use Rattle.cpu12_isa.specs.{Act.outcome, Act.write_all, Code.decode_at};
 ghost use Rattle.cpu12_parts.specs.Laws.{IsOff};
-ghost use Rattle.cpu12_emul.specs.Step.{Whole, kind_of, instruction_act, next_of, applied, reset_with};
+ghost use Rattle.cpu12_emul.specs.Step.{Whole, SameMachine, kind_of, instruction_act, next_of, applied};
+ghost use Rattle.cpu12_emul.specs.Step.{reset_with};
 
 use crate::ends::Stepped;
 use crate::fetch::{is_rev, is_revw};
@@ -23,7 +24,8 @@ const RESET_VECTOR: u16 = 0xFFFE;
 pub struct Machine<M: Mem> {
     pub(crate) regs: Regs,
     pub(crate) temps: Temps,
-    pub(crate) mem: M,
+    /// What it reads and writes.
+    pub mem: M,
     pub(crate) flags: u8,
 }
 
@@ -35,7 +37,7 @@ impl<M: Mem> Model for Machine<M> {
     ghost view = { λ a. record {
       state = record { regs = a.regs; temps = a.temps; mem = M.bytes a.mem };
       flags = a.flags;
-      noted = M.noted a.mem;
+      tags = M.tags a.mem;
     } };
 }
 
@@ -52,7 +54,7 @@ fn kind_of(end: PartEnd) -> Stepped
 impl<M: Mem> Machine<M> {
     /// A machine after reset with this memory: registers 0, CCR `$D0`, PC from `$FFFE`.
     pub fn reset(mem: M, flags: u8) -> Machine<M>
-        ensures { result ≡ record { state = reset_with (M.bytes mem); flags = flags; noted = M.noted mem } }
+        ensures { result ≡ record { state = reset_with (M.bytes mem); flags = flags; tags = M.tags mem } }
     {
         let pc = word_of(mem.read(RESET_VECTOR), mem.read(RESET_VECTOR + 1));
         let regs = Regs {
@@ -97,8 +99,7 @@ impl<M: Mem> Machine<M> {
     /// Sets the byte at an address.
     pub fn poke(&mut self, at: u16, value: u8)
         ensures state { self.new.state ≡ record (self.old.state) { mem = slice_set self.old.state.mem at value } }
-        ensures flags { self.new.flags ≡ self.old.flags }
-        ensures noted { self.new.noted ≡ self.old.noted }
+        ensures machine { SameMachine self.old self.new }
     {
         self.mem.write(at, value);
     }
@@ -106,7 +107,7 @@ impl<M: Mem> Machine<M> {
     /// The memory, without the rest of the machine.
     pub fn into_mem(self) -> M
         ensures bytes { M.bytes result ≡ self.state.mem }
-        ensures noted { M.noted result ≡ self.noted }
+        ensures tags { M.tags result ≡ self.tags }
     {
         let Machine {
             regs: _,
@@ -130,8 +131,7 @@ impl<M: Mem> Machine<M> {
         ensures kind { result
             ≡ kind_of
             (outcome (R.act k.now self.old.flags self.old.state.regs self.old.state.temps) self.old.state.mem).end }
-        ensures flags { self.new.flags ≡ self.old.flags }
-        ensures noted { self.new.noted ≡ self.old.noted }
+        ensures machine { SameMachine self.old self.new }
     {
         let end = k.part(&mut self.regs, &mut self.mem, &mut self.temps, self.flags);
         kind_of(end)
@@ -145,8 +145,7 @@ impl<M: Mem> Machine<M> {
             (outcome (instruction_act self.old.flags self.old.state.regs self.old.state.temps (Ok i.now))
             self.old.state.mem) self.old.state.mem
             ≡ Ok (record { state = self.new.state; kind = result }) }
-        ensures flags { self.new.flags ≡ self.old.flags }
-        ensures noted { self.new.noted ≡ self.old.noted }
+        ensures machine { SameMachine self.old self.new }
     {
         match *i {
             Instr::Rev => self.part(&Rev),
@@ -173,8 +172,7 @@ impl<M: Mem> Machine<M> {
             (λ t. (next_of self.old.flags self.old.state ≡ Err t.byte) × (t.pc ≡ self.old.state.regs.pc)
             × (self.new ≡ self.old)) }
         ensures trap { IfErr result (λ t. decode_at self.old.state.mem self.old.state.regs.pc ≡ Err t.byte) }
-        ensures flags { self.new.flags ≡ self.old.flags }
-        ensures noted { self.new.noted ≡ self.old.noted }
+        ensures machine { SameMachine self.old self.new }
     {
         match instruction_at(&self.mem, self.regs.pc) {
             Ok(i) => Ok(self.instruction(&i)),
@@ -194,8 +192,7 @@ impl<M: Mem> Machine<M> {
             × (self.new ≡ self.old)) }
         ensures trap { IfErr result (λ t. decode_at self.old.state.mem self.old.state.regs.pc ≡ Err t.byte) }
         ensures running { IfErr result (λ _. IsOff self.old.state.temps) }
-        ensures flags { self.new.flags ≡ self.old.flags }
-        ensures noted { self.new.noted ≡ self.old.noted }
+        ensures machine { SameMachine self.old self.new }
     {
         if let Temps::Running(_, _) = self.temps {
             return Ok(self.part(&Wav));

@@ -3,6 +3,7 @@ ghost use Rattle.std.specs.Prelude.{◌≡◌, ◌≢◌, ◌≤◌, true};
 ghost use Rattle.cpu12_isa.specs.Memory.{plus};
 ghost use Rattle.cpu12_parts.specs.Laws.{IsOff, state_of};
 ghost use Rattle.cpu12_emul.specs.{Ruling.Stands, Ruling.RevGoesOn, Ruling.RevwGoesOn, Ruling.Ruled, Run.PartsTo};
+ghost use Rattle.cpu12_emul.specs.Step.{SameMachine};
 
 use crate::fetch::{is_rev, is_revw};
 use crate::machine::Machine;
@@ -47,7 +48,7 @@ fn rev_parts<M: Mem>(m: &mut M, regs: Regs, temps: Temps, flags: u8, most: u32) 
     ensures parts { Ruled 0x3A flags (state_of regs temps (M.bytes m.old))
         (state_of result.0 temps (M.bytes m.new)) result.1 }
     ensures most { result.1 ≤ most }
-    ensures noted { M.noted m.new ≡ M.noted m.old }
+    ensures tags { M.tags m.new ≡ M.tags m.old }
 {
     rev_stays();
     rev_steady();
@@ -69,7 +70,7 @@ fn revw_parts<M: Mem>(m: &mut M, regs: Regs, temps: Temps, flags: u8, most: u32)
     ensures parts { Ruled 0x3B flags (state_of regs temps (M.bytes m.old))
         (state_of result.0 temps (M.bytes m.new)) result.1 }
     ensures most { result.1 ≤ most }
-    ensures noted { M.noted m.new ≡ M.noted m.old }
+    ensures tags { M.tags m.new ≡ M.tags m.old }
 {
     revw_stays();
     revw_steady();
@@ -92,8 +93,7 @@ impl<M: Mem> Machine<M> {
         ensures steps { PartsTo (λ s. (s.regs.pc ≡ self.old.state.regs.pc) × (s.regs.sp ≡ self.old.state.regs.sp))
             self.old.flags result self.old.state self.new.state }
         ensures most { result ≤ most }
-        ensures flags { self.new.flags ≡ self.old.flags }
-        ensures noted { self.new.noted ≡ self.old.noted }
+        ensures machine { SameMachine self.old self.new }
     {
         if let Temps::Running(_, _) = self.temps {
             return 0;

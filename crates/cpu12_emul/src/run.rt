@@ -1,6 +1,6 @@
 //! Runs to a branch to itself.
 ghost use Rattle.std.specs.Prelude.{ℕ, ◌≡◌};
-ghost use Rattle.cpu12_emul.specs.Run.{is_at_rest, EndsRun};
+ghost use Rattle.cpu12_emul.specs.{Run.is_at_rest, Run.EndsRun, Step.SameMachine};
 
 use crate::ends::RunEnd;
 use crate::machine::Machine;
@@ -19,8 +19,7 @@ impl<M: Mem> Machine<M> {
     /// arriving. The machine is left as those steps left it.
     pub fn run(&mut self, budget: u32) -> RunEnd
         ensures ends { EndsRun self.old.flags budget self.old.state result self.new.state }
-        ensures flags { self.new.flags ≡ self.old.flags }
-        ensures noted { self.new.noted ≡ self.old.noted }
+        ensures machine { SameMachine self.old self.new }
     {
         let mut steps = 0;
         while !self.is_at_rest() {

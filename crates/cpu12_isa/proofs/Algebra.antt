@@ -5,3 +5,4 @@ pub use Rattle.cpu12_isa.proofs.Agreements.{shown_append, shown_left, shown_righ
 pub use Rattle.cpu12_isa.proofs.Bits.{bit, bit_or_is, bit_and_is, same_ccr, fits_put, fits_opened}
 pub use Rattle.cpu12_isa.proofs.Fitting.{leaves_outcome, bytes_at_fit}
 pub use Rattle.cpu12_isa.proofs.Placing.{place_of, read_placed, bytes_unwritten, bytes_split, same_bytes}
+pub use Rattle.cpu12_isa.proofs.Masks.{masked_put, masked_opened, masked_tested, masked_four, masked_five}

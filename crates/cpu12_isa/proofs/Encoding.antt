@@ -1,13 +1,13 @@
 -- The bytes of an instruction.
 use Rattle.std.proofs.Common.{ℕ, ◌^◌, ◌<◌, ◌≤◌, ◌++◌, List, [], ◌∷◌, length, All, arith}
 use Rattle.std.proofs.lemmas.List.Elements.{All-nil, All-cons}
-use Rattle.cpu12_isa.specs.declared.{instr.Instr.Instr, instr.Instr.TheVariants.LdaaImmediate, form.Page.Page}
-use Rattle.cpu12_isa.specs.declared.form.Page.TheVariants.{One, Two, Transfer, AddIndexed}
-use Rattle.cpu12_isa.specs.declared.form.Operand.{Operand}
-use Rattle.cpu12_isa.specs.declared.form.Operand.TheVariants.{Byte, Word, Address, Offset, ByteToAddress}
-use Rattle.cpu12_isa.specs.declared.form.Operand.TheVariants.{AddressToAddress}
+use Rattle.cpu12_isa.specs.declared.{instr.Instr.Instr, instr.Instr.TheVariants.LdaaImmediate, encodings.Page.Page}
+use Rattle.cpu12_isa.specs.declared.encodings.Page.TheVariants.{One, Two, Transfer, AddIndexed}
+use Rattle.cpu12_isa.specs.declared.encodings.Operand.{Operand}
+use Rattle.cpu12_isa.specs.declared.encodings.Operand.TheVariants.{Byte, Word, Address, Offset, ByteToAddress}
+use Rattle.cpu12_isa.specs.declared.encodings.Operand.TheVariants.{AddressToAddress}
 use Rattle.cpu12_isa.specs.{Fits.EncodedIsShort, Fits.EncodedAreBytes, Memory.high_of, Memory.low_of}
-use Rattle.cpu12_isa.specs.Forms.{form_of, prebytes, operand_bytes, FitsOperand}
+use Rattle.cpu12_isa.specs.Encodings.{encoding_of, prebytes, operand_bytes, FitsOperand}
 
 operand_short : (o : Operand) → length (operand_bytes o) ≤ 4
 operand_short (Byte v) = omega arith
@@ -20,8 +20,8 @@ behind_page page opcode bytes h = omega arith
 
 pub encoded_is_short : EncodedIsShort
 encoded_is_short i =
-    behind_page (form_of i).page (form_of i).opcode (operand_bytes (form_of i).operand)
-    (operand_short (form_of i).operand)
+    behind_page (encoding_of i).page (encoding_of i).opcode (operand_bytes (encoding_of i).operand)
+    (operand_short (encoding_of i).operand)
 
 -- ---- bytes
 
@@ -54,12 +54,12 @@ page_is_bytes Two bytes h = All-cons IsByte 0x18 bytes (omega arith) h
 page_is_bytes Transfer bytes h = All-cons IsByte 0xB7 bytes (omega arith) h
 page_is_bytes AddIndexed bytes h = All-cons IsByte 0xEB bytes (omega arith) h
 
-opcode_is_byte : (i : Instr) → (form_of i).opcode < 2 ^ 8
+opcode_is_byte : (i : Instr) → (encoding_of i).opcode < 2 ^ 8
 opcode_is_byte (LdaaImmediate v) = omega arith
 opcode_is_byte i = omega arith
 
 pub encoded_are_bytes : EncodedAreBytes
 encoded_are_bytes i h =
-    let operand = operand_bytes (form_of i).operand in
-    page_is_bytes (form_of i).page ((form_of i).opcode ∷ operand)
-    (All-cons IsByte (form_of i).opcode operand (opcode_is_byte i) (operand_is_bytes (form_of i).operand h))
+    let operand = operand_bytes (encoding_of i).operand in
+    page_is_bytes (encoding_of i).page ((encoding_of i).opcode ∷ operand)
+    (All-cons IsByte (encoding_of i).opcode operand (opcode_is_byte i) (operand_is_bytes (encoding_of i).operand h))

@@ -11,7 +11,7 @@ use Rattle.std.proofs.lemmas.List.{get_or_past, length-set}
 use Rattle.std.proofs.lemmas.Nat.{widths}
 use Rattle.cpu12_isa.specs.declared.{instr.Regs.Regs, instr.Instr.Instr}
 use Rattle.cpu12_isa.specs.declared.instr.Instr.TheVariants.{LdaaImmediate, Fdiv}
-use Rattle.cpu12_isa.specs.declared.form.Page.TheVariants.{One, Two, Transfer, AddIndexed}
+use Rattle.cpu12_isa.specs.declared.encodings.Page.TheVariants.{One, Two, Transfer, AddIndexed}
 use Rattle.cpu12_isa.specs.Act.{Act, Give, Get, outcome}
 use Rattle.cpu12_isa.specs.{Memory.plus, Memory.word_of, Memory.bytes_at, Registers.divided_fraction, Meaning.act_of}
 use Rattle.cpu12_isa.specs.Flags.{put, carry, overflow, zero_result}

@@ -4,13 +4,13 @@ use Rattle.std.proofs.Common.{ap, sym, ◌∙◌, subst, inl, inr, ◌⊎◌}
 use Rattle.std.specs.Prelude.{if◌then◌else◌}
 use Rattle.std.proofs.lemmas.Bool.Decides.{nat_tests}
 use Rattle.std.proofs.Common.{arith}
-use Rattle.cpu12_isa.specs.{declared.instr.Instr.Instr, declared.form.Page.Page, Forms.form_of, Forms.prebytes}
-use Rattle.cpu12_isa.specs.declared.form.Page.TheVariants.{One, Two, Transfer, AddIndexed}
+use Rattle.cpu12_isa.specs.{declared.instr.Instr.Instr, declared.encodings.Page.Page, Encodings.encoding_of, Encodings.prebytes}
+use Rattle.cpu12_isa.specs.declared.encodings.Page.TheVariants.{One, Two, Transfer, AddIndexed}
 use Rattle.cpu12_isa.specs.Code.{is_on, entry, page_of, StandFrom, DecodedHasOpcode}
 
 -- the entry is an instruction of the page, at its opcode
 abbrev is_entry : Page → ℕ → Instr → Bool
-is_entry page n i = is_on page (form_of i).page && ((form_of i).opcode == n)
+is_entry page n i = is_on page (encoding_of i).page && ((encoding_of i).opcode == n)
 
 abbrev are_entries : Page → List (ℕ × Instr) → Bool
 are_entries page [] = true
@@ -57,24 +57,24 @@ found_is_entry page (e ∷ es) n i a h = elim (cases_of (n == e.0)) [
 on_page_with : (page : Page) (bytes : List ℕ) (before : ℕ) (i : Instr) → are_entries page (page_of page bytes) ≡ true
     → prebytes page ≡ before ∷ []
     → get_or bytes 0 0 ≡ before → entry (page_of page bytes) (get_or bytes 1 0) ≡ Ok i
-    → StandFrom bytes 0 (prebytes (form_of i).page ++ ((form_of i).opcode ∷ []))
+    → StandFrom bytes 0 (prebytes (encoding_of i).page ++ ((encoding_of i).opcode ∷ []))
 on_page_with page bytes before i all pre first found =
-    let both = both_true (is_on page (form_of i).page) ((form_of i).opcode == get_or bytes 1 0)
+    let both = both_true (is_on page (encoding_of i).page) ((encoding_of i).opcode == get_or bytes 1 0)
     (found_is_entry page (page_of page bytes) (get_or bytes 1 0) i all found) in
-    let opcode = same_number (form_of i).opcode (get_or bytes 1 0) both.1 in
-    let wanted : prebytes (form_of i).page ≡ before ∷ [] =
-    ap prebytes (sym (same_page page (form_of i).page both.0)) ∙ pre in
-    subst (λ (front : List ℕ). StandFrom bytes 0 (front ++ ((form_of i).opcode ∷ []))) (sym wanted)
+    let opcode = same_number (encoding_of i).opcode (get_or bytes 1 0) both.1 in
+    let wanted : prebytes (encoding_of i).page ≡ before ∷ [] =
+    ap prebytes (sym (same_page page (encoding_of i).page both.0)) ∙ pre in
+    subst (λ (front : List ℕ). StandFrom bytes 0 (front ++ ((encoding_of i).opcode ∷ []))) (sym wanted)
     (first, (sym opcode, tt))
 
 on_first_page : (bytes : List ℕ) (i : Instr) → entry (page_of One bytes) (get_or bytes 0 0) ≡ Ok i
-    → StandFrom bytes 0 (prebytes (form_of i).page ++ ((form_of i).opcode ∷ []))
+    → StandFrom bytes 0 (prebytes (encoding_of i).page ++ ((encoding_of i).opcode ∷ []))
 on_first_page bytes i found =
-    let both = both_true (is_on One (form_of i).page) ((form_of i).opcode == get_or bytes 0 0)
+    let both = both_true (is_on One (encoding_of i).page) ((encoding_of i).opcode == get_or bytes 0 0)
     (found_is_entry One (page_of One bytes) (get_or bytes 0 0) i refl found) in
-    let opcode = same_number (form_of i).opcode (get_or bytes 0 0) both.1 in
-    let wanted : prebytes (form_of i).page ≡ [] = ap prebytes (sym (same_page One (form_of i).page both.0)) in
-    subst (λ (front : List ℕ). StandFrom bytes 0 (front ++ ((form_of i).opcode ∷ []))) (sym wanted) (sym opcode, tt)
+    let opcode = same_number (encoding_of i).opcode (get_or bytes 0 0) both.1 in
+    let wanted : prebytes (encoding_of i).page ≡ [] = ap prebytes (sym (same_page One (encoding_of i).page both.0)) in
+    subst (λ (front : List ℕ). StandFrom bytes 0 (front ++ ((encoding_of i).opcode ∷ []))) (sym wanted) (sym opcode, tt)
 
 pub decoded_has_opcode : DecodedHasOpcode
 decoded_has_opcode bytes i h = elim (cases_of (get_or bytes 0 0 == 0x18)) [
@@ -94,7 +94,7 @@ decoded_has_opcode bytes i h = elim (cases_of (get_or bytes 0 0 == 0x18)) [
     first b = if b then entry (page_of Two bytes) (get_or bytes 1 0) else second (get_or bytes 0 0 == 0xB7)
 
     last : third (get_or bytes 0 0 == 0xEB) ≡ Ok i
-        → StandFrom bytes 0 (prebytes (form_of i).page ++ ((form_of i).opcode ∷ []))
+        → StandFrom bytes 0 (prebytes (encoding_of i).page ++ ((encoding_of i).opcode ∷ []))
     last e = elim (cases_of (get_or bytes 0 0 == 0xEB)) [
       | inl t ↦ on_page_with AddIndexed bytes 0xEB i refl refl (same_number (get_or bytes 0 0) 0xEB t)
           (sym (ap (λ (b : Bool). third b) t) ∙ e)
@@ -102,7 +102,7 @@ decoded_has_opcode bytes i h = elim (cases_of (get_or bytes 0 0 == 0x18)) [
     ]
 
     behind : second (get_or bytes 0 0 == 0xB7) ≡ Ok i
-        → StandFrom bytes 0 (prebytes (form_of i).page ++ ((form_of i).opcode ∷ []))
+        → StandFrom bytes 0 (prebytes (encoding_of i).page ++ ((encoding_of i).opcode ∷ []))
     behind e = elim (cases_of (get_or bytes 0 0 == 0xB7)) [
       | inl t ↦ on_page_with Transfer bytes 0xB7 i refl refl (same_number (get_or bytes 0 0) 0xB7 t)
           (sym (ap (λ (b : Bool). second b) t) ∙ e)

@@ -4,9 +4,9 @@ use Rattle.std.proofs.Common.{set, Option, Some, None, option_map, refl, ap, sym
 use Rattle.std.proofs.Common.{get_or-set_other, get_or-set_same}
 use Rattle.std.proofs.lemmas.Bool.{cases_lt, eq-eqb, eqb-true, or_left, or_right, or_cases, false_from_ne_true}
 use Rattle.std.proofs.lemmas.Bool.{false≢true, not-false}
-use Rattle.std.proofs.lemmas.List.{get_or-replicate, get_or_past}
-use Rattle.cpu12_isa.specs.Watching.{unwatched, length_unwatched, noted_again, is_changed, any_changed, is_listed}
-use Rattle.cpu12_isa.specs.Watching.{AreListed, NothingIsWatched}
+use Rattle.std.proofs.lemmas.List.{get_or-replicate, get_or_past, length-replicate}
+use Rattle.cpu12_isa.specs.Tags.{untagged}
+use Rattle.cpu12_isa.specs.Watching.{noted_again, is_changed, any_changed, is_listed, AreListed, NothingIsWatched}
 
 -- whether the byte at an address is another than the noted one
 abbrev pub changed_at : List (Option ℕ) → List ℕ → ℕ → Bool
@@ -130,16 +130,20 @@ changed_within ns mem at c = elim (cases_lt at (length ns)) [
 ]
 
 -- where nothing is watched
-unwatched_at : (n at : ℕ) → get_or (unwatched n) at None ≡ None
-unfolding unwatched
-unwatched_at n at = elim (cases_lt at n) [
+pub length_untagged : (n : ℕ) → length (untagged n) ≡ n
+unfolding untagged
+length_untagged n = length-replicate n None
+
+untagged_at : (n at : ℕ) → get_or (untagged n) at None ≡ None
+unfolding untagged
+untagged_at n at = elim (cases_lt at n) [
   | inl l ↦ get_or-replicate n at None None l
-  | inr l ↦ get_or_past (unwatched n) at None (let e = length_unwatched n in omega (arith, e, l))
+  | inr l ↦ get_or_past (untagged n) at None (let e = length_untagged n in omega (arith, e, l))
 ]
 
-pub unwatched_stays : (mem : List ℕ) (n at : ℕ) → changed_at (unwatched n) mem at ≡ true → ⊥
-unwatched_stays mem n at c =
-    false≢true (ap (λ (o : Option ℕ). is_changed o (get_or mem at 0)) (sym (unwatched_at n at)) ∙ c)
+pub untagged_stays : (mem : List ℕ) (n at : ℕ) → changed_at (untagged n) mem at ≡ true → ⊥
+untagged_stays mem n at c =
+    false≢true (ap (λ (o : Option ℕ). is_changed o (get_or mem at 0)) (sym (untagged_at n at)) ∙ c)
 
 pub nothing_is_watched : NothingIsWatched
-nothing_is_watched = (length_unwatched 65536, unwatched_at 65536)
+nothing_is_watched = (length_untagged 65536, untagged_at 65536)

@@ -1,6 +1,6 @@
 -- Memories that agree but for hidden bytes, and what an act does on them.
 -- Beside the promise.
-use Rattle.std.specs.Prelude.{◌≡◌, ℕ, Bool, false, List, [], ◌∷◌, length, slice_index, ◌⊎◌}
+use Rattle.std.specs.Prelude.{◌≡◌, ℕ, ◌<◌, ◌≤◌, Bool, false, List, [], ◌∷◌, length, slice_index, ◌⊎◌}
 use Rattle.cpu12_isa.specs.Act.{Act, outcome, read_by, write_all}
 
 -- two memories have the same bytes but at hidden addresses
@@ -8,10 +8,23 @@ pub record Agree (hidden : ℕ → Bool) (m n : List ℕ) : Type 0 where
   pub size : length m ≡ length n
   pub bytes : (at : ℕ) → hidden at ≡ false → slice_index m at ≡ slice_index n at
 
+-- n has the bytes of m from an address on
+abbrev pub AgreeFrom : ℕ → List ℕ → List ℕ → Type 0
+AgreeFrom from m n = (at : ℕ) → from ≤ at → slice_index n at ≡ slice_index m at
+
+-- so it has up to another
+abbrev pub AgreeBetween : ℕ → ℕ → List ℕ → List ℕ → Type 0
+AgreeBetween from to m n = (at : ℕ) → from ≤ at → at < to → slice_index n at ≡ slice_index m at
+
 -- none of these addresses is hidden
 abbrev pub AllShown : (ℕ → Bool) → List ℕ → Type 0
 AllShown hidden [] = Unit {0}
 AllShown hidden (at ∷ ats) = (hidden at ≡ false) × AllShown hidden ats
+
+-- the addresses of writes
+abbrev pub addresses : List (ℕ × ℕ) → List ℕ
+addresses [] = []
+addresses (w ∷ ws) = w.0 ∷ addresses ws
 
 -- an address is one of those written
 abbrev pub IsWritten : List (ℕ × ℕ) → ℕ → Type 0

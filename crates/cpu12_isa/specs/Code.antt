@@ -2,23 +2,25 @@
 -- Reached by the promise.
 use Rattle.std.specs.Prelude.{◌≡◌, ◌+◌, ◌==◌, ◌++◌, ℕ, Bool, true, false, if◌then◌else◌, Result, Ok, Err, List, [], ◌∷◌}
 use Rattle.std.specs.Prelude.{length, slice_index}
-use Rattle.cpu12_isa.specs.declared.{instr.Instr.Instr, form.Form.Form, form.Page.Page, form.Operand.Operand}
-use Rattle.cpu12_isa.specs.declared.form.Page.TheVariants.{One, Two, Transfer, AddIndexed}
-use Rattle.cpu12_isa.specs.declared.form.Operand.TheVariants.{Word, Address, AddressToAddress}
+use Rattle.cpu12_isa.specs.declared.{instr.Instr.Instr, encodings.Encoding.Encoding, encodings.Page.Page}
+use Rattle.cpu12_isa.specs.declared.{encodings.Operand.Operand}
+use Rattle.cpu12_isa.specs.declared.encodings.Page.TheVariants.{One, Two, Transfer, AddIndexed}
+use Rattle.cpu12_isa.specs.declared.encodings.Operand.TheVariants.{Word, Address, AddressToAddress}
 use Rattle.cpu12_isa.specs.Memory.{plus, word_of, bytes_at}
-use Rattle.cpu12_isa.specs.Forms.{form_of, Made, Alone, Of, OfBoth, every_form, prebytes, operand_bytes, FitsOperand}
+use Rattle.cpu12_isa.specs.Encodings.{encoding_of, Made, Alone, Of, OfBoth, every_encoding, prebytes, operand_bytes}
+use Rattle.cpu12_isa.specs.Encodings.{FitsOperand}
 
--- the bytes of a form
-abbrev pub form_bytes : Form → List ℕ
-form_bytes form = prebytes form.page ++ (form.opcode ∷ operand_bytes form.operand)
+-- the bytes of an encoding
+abbrev pub encoding_bytes : Encoding → List ℕ
+encoding_bytes encoding = prebytes encoding.page ++ (encoding.opcode ∷ operand_bytes encoding.operand)
 
 -- the bytes of an instruction
 abbrev pub encode_of : Instr → List ℕ
-encode_of i = form_bytes (form_of i)
+encode_of i = encoding_bytes (encoding_of i)
 
 -- operands that are bytes and words
 abbrev pub FitsOperands : Instr → Type 0
-FitsOperands i = FitsOperand (form_of i).operand
+FitsOperands i = FitsOperand (encoding_of i).operand
 
 -- the word in bytes from a place
 abbrev pub word_in : List ℕ → ℕ → ℕ
@@ -36,17 +38,18 @@ second_in (AddressToAddress _ _) bytes k = word_in bytes (k + 2)
 second_in _ bytes k = word_in bytes (k + 1)
 
 -- where operands begin
-abbrev pub operands_at : Form → ℕ
-operands_at form = length (prebytes form.page) + 1
+abbrev pub operands_at : Encoding → ℕ
+operands_at encoding = length (prebytes encoding.page) + 1
 
--- an instruction of a form, with the operands that stand in bytes
+-- an instruction of an encoding, with the operands that stand in bytes
 abbrev pub made_from : List ℕ → Made → Instr
 made_from bytes (Alone i) = i
-made_from bytes (Of make) = let form = form_of (make 0) in make (first_in form.operand bytes (operands_at form))
+made_from bytes (Of make) =
+    let encoding = encoding_of (make 0) in make (first_in encoding.operand bytes (operands_at encoding))
 made_from bytes (OfBoth make) =
-    let form =
-    form_of (make 0 0) in make (first_in form.operand bytes (operands_at form))
-    (second_in form.operand bytes (operands_at form))
+    let encoding = encoding_of (make 0 0) in
+    make (first_in encoding.operand bytes (operands_at encoding))
+    (second_in encoding.operand bytes (operands_at encoding))
 
 abbrev pub is_on : Page → Page → Bool
 is_on One One = true
@@ -60,11 +63,11 @@ abbrev pub on_page : Page → List ℕ → List Made → List (ℕ × Instr)
 on_page page bytes [] = []
 on_page page bytes (made ∷ mades) =
     let i = made_from bytes made in
-    let form = form_of i in
-    if is_on page form.page then (form.opcode, i) ∷ on_page page bytes mades else on_page page bytes mades
+    let encoding = encoding_of i in
+    if is_on page encoding.page then (encoding.opcode, i) ∷ on_page page bytes mades else on_page page bytes mades
 
 abbrev pub page_of : Page → List ℕ → List (ℕ × Instr)
-page_of page bytes = on_page page bytes every_form
+page_of page bytes = on_page page bytes every_encoding
 
 -- the entry of a byte in a table, or that byte
 abbrev pub entry : List (ℕ × Instr) → ℕ → Result Instr ℕ
@@ -110,4 +113,4 @@ StandFrom bytes k (v ∷ vs) = (slice_index bytes k ≡ v) × StandFrom bytes (k
 abbrev pub DecodedHasOpcode : Type 0
 DecodedHasOpcode =
     (bytes : List ℕ) (i : Instr) → decode_of bytes ≡ Ok i
-    → StandFrom bytes 0 (prebytes (form_of i).page ++ ((form_of i).opcode ∷ []))
+    → StandFrom bytes 0 (prebytes (encoding_of i).page ++ ((encoding_of i).opcode ∷ []))

@@ -1,24 +1,13 @@
 -- What a memory notes: for each address the byte that it is compared with, where it is watched.
 -- Beside the promise.
 use Rattle.std.specs.Prelude.{◌≡◌, ◌==◌, ◌||◌, ℕ, Bool, true, false, not, Option, Some, None, option_map, List, [], ◌∷◌}
-use Rattle.std.specs.Prelude.{length, replicate, slice_index, slice_index_or}
+use Rattle.std.specs.Prelude.{length, slice_index, slice_index_or}
 use Rattle.std.specs.List.{list_any}
-use Rattle.std.proofs.lemmas.List.{length-replicate}
-
--- n addresses that are not watched. It does not unfold, since at a numeral as 65536 a copy would be made of each
-unfoldable pub unwatched : ℕ → List (Option ℕ)
-unwatched n = replicate n None
-
-pub length_unwatched : (n : ℕ) → length (unwatched n) ≡ n
-unfolding unwatched
-length_unwatched n = length-replicate n None
+use Rattle.cpu12_isa.specs.Tags.{untagged}
 
 -- none of the 65536 addresses is watched
 abbrev pub nothing_noted : List (Option ℕ)
-nothing_noted = unwatched 65536
-
-pub length_nothing_noted : length nothing_noted ≡ 65536
-length_nothing_noted = length_unwatched 65536
+nothing_noted = untagged 65536
 
 -- each noted byte becomes that of memory
 abbrev pub noted_again : List (Option ℕ) → List ℕ → List (Option ℕ)

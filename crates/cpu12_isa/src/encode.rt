@@ -1,10 +1,10 @@
 //! Instructions as bytes.
 ghost use Rattle.std.specs.Prelude.{◌≡◌, ◌≤◌, ◌+◌, [], ◌∷◌, ◌++◌};
 ghost use Rattle.arrayvec.specs.ArrayVec.{array_vec_len};
-ghost use Rattle.cpu12_isa.specs.{Memory.high_of, Memory.low_of, Forms.prebytes, Forms.operand_bytes};
-ghost use Rattle.cpu12_isa.specs.Code.{encode_of, form_bytes};
+ghost use Rattle.cpu12_isa.specs.{Memory.high_of, Memory.low_of, Encodings.prebytes, Encodings.operand_bytes};
+ghost use Rattle.cpu12_isa.specs.Code.{encode_of, encoding_bytes};
 
-use crate::form::{Form, Operand, Page};
+use crate::encodings::{Encoding, Operand, Page};
 use crate::instr::Instr;
 use crate::mem::{high_of, low_of};
 use arrayvec::ArrayVec;
@@ -50,10 +50,10 @@ fn push_operand(bytes: &mut ArrayVec<u8, 6>, operand: Operand)
     }
 }
 
-impl Form {
-    /// The bytes of this form, 1 to 6 of them.
+impl Encoding {
+    /// The bytes of this encoding, 1 to 6 of them.
     pub fn bytes(&self) -> ArrayVec<u8, 6>
-        ensures bytes { result.items ≡ form_bytes self.now }
+        ensures bytes { result.items ≡ encoding_bytes self.now }
         ensures some { 1 ≤ array_vec_len result }
         ensures most { array_vec_len result ≤ 6 }
     {
@@ -71,5 +71,5 @@ pub fn encode(i: &Instr) -> ArrayVec<u8, 6>
     ensures some { 1 ≤ array_vec_len result }
     ensures most { array_vec_len result ≤ 6 }
 {
-    i.form().bytes()
+    i.encoding().bytes()
 }

@@ -24,7 +24,7 @@ pub fn exec<M: Mem>(i: &Instr, r: &mut Regs, m: &mut M, flags: u8)
     requires { IsTrue (is_plain i.now) }
     ensures regs { r.new ≡ (effect flags i.now r.old (M.bytes m.old)).regs }
     ensures mem { M.bytes m.new ≡ write_all (effect flags i.now r.old (M.bytes m.old)).writes (M.bytes m.old) }
-    ensures noted { M.noted m.new ≡ M.noted m.old }
+    ensures tags { M.tags m.new ≡ M.tags m.old }
 {
     match *i {
         Instr::LdaaImmediate(v) => r.load_a(v, 2),
@@ -137,7 +137,7 @@ pub fn exec<M: Mem>(i: &Instr, r: &mut Regs, m: &mut M, flags: u8)
 fn grade_membership<M: Mem>(r: &mut Regs, m: &mut M, flags: u8)
     ensures regs { r.new ≡ (effect flags Instr.Mem r.old (M.bytes m.old)).regs }
     ensures mem { M.bytes m.new ≡ write_all (effect flags Instr.Mem r.old (M.bytes m.old)).writes (M.bytes m.old) }
-    ensures noted { M.noted m.new ≡ M.noted m.old }
+    ensures tags { M.tags m.new ≡ M.tags m.old }
 {
     let first = m.read(r.x);
     let second = m.read(r.x.wrapping_add(1));

@@ -32,7 +32,7 @@ pub struct Trap {
     pub byte: u8,
 }
 
-/// An instruction in one of its byte forms, with its operands in order. A branch holds its offset from the next
+/// An instruction in one of its encodings, with its operands in order. A branch holds its offset from the next
 /// instruction as a byte in two's complement.
 #[derive(Clone, Copy, Drop)]
 pub enum Instr {

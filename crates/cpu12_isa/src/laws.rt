@@ -3,9 +3,10 @@ ghost use Rattle.std.specs.Prelude.{◌≡◌};
 ghost use Rattle.cpu12_isa.specs.Code.{DecodedHasOpcode, DecodesEncoded};
 ghost use Rattle.cpu12_isa.specs.Fits.{StaysFit, BytesStay, DecodedFits, EncodedIsShort, EncodedAreBytes};
 ghost use Rattle.cpu12_isa.specs.Agreement.{ReadsAlone, WritesAgree, WritesStay};
+ghost use Rattle.cpu12_isa.specs.Plain.{PlainLeavesByTables, StraightGoesOn};
 ghost use Rattle.cpu12_isa.specs.Interrupts.{FrameComesBack, HidesMoreAbove, ShowsFromSp, HidesPushed};
-ghost use Rattle.cpu12_isa.specs.declared.form.TheConstants.{EVERY};
-ghost use Rattle.cpu12_isa.specs.{Meaning.Effect, Watching.NothingIsWatched, Pages.GivenAreWritten, Forms.every};
+ghost use Rattle.cpu12_isa.specs.declared.encodings.TheConstants.{EVERY};
+ghost use Rattle.cpu12_isa.specs.{Meaning.Effect, Watching.NothingIsWatched, Pages.GivenAreWritten, Encodings.every};
 
 /// What an instruction does depends only on the bytes that it reads.
 pub fn reads_alone()
@@ -30,6 +31,13 @@ pub fn stays_fit()
 /// A memory of bytes remains one.
 pub fn bytes_stay()
     ensures { BytesStay }
+{}
+
+/// What every plain instruction leaves: where PC goes on, how SP moves, which leave I and X, and what is written; and
+/// of those that go straight on the same in short.
+pub fn plain_instructions_leave()
+    ensures tables { PlainLeavesByTables }
+    ensures straight { StraightGoesOn }
 {}
 
 /// A memory that notes nothing watches no address.
@@ -70,8 +78,8 @@ pub fn stack_is_hidden()
     ensures pushed { HidesPushed }
 {}
 
-/// [`EVERY`](crate::form::EVERY) has an instruction of each form in the table.
-pub fn every_form_stands()
+/// [`EVERY`](crate::encodings::EVERY) has an instruction of each encoding in the table.
+pub fn every_encoding_stands()
     ensures { EVERY ≡ every }
 {}
 

@@ -1,6 +1,6 @@
 //! The instructions of the CPU12 that generated code, interrupt handlers and tools use, by the CPU12 Reference
 //! Manual in its edition S12CPUV2, whose sections are cited throughout: registers ([`instr::Regs`],
-//! [`instr::Ccr`]), instructions in their byte forms ([`instr::Instr`]), memory of 65536 bytes ([`mem::Mem`],
+//! [`instr::Ccr`]), instructions by their encodings ([`instr::Instr`]), memory of 65536 bytes ([`mem::Mem`],
 //! [`pages::PageMem`], [`mem::FlatMem`]), and the calls [`decode::decode`], [`encode::encode`] and [`exec::exec`].
 //!
 //! What an instruction does is defined as an *act*: the addresses that it reads one after the other, then the new
@@ -12,8 +12,8 @@
 pub mod ccr;
 pub mod decode;
 pub mod encode;
+pub mod encodings;
 pub mod exec;
-pub mod form;
 pub mod instr;
 pub mod laws;
 pub mod mem;

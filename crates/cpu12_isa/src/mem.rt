@@ -1,7 +1,7 @@
 //! Memory, and words made of bytes.
 ghost use Rattle.std.specs.Prelude.{ℕ, ◌≡◌, List, Option, length, slice_index, slice_set, IfOk};
 ghost use Rattle.cpu12_isa.specs.Memory.{zeros, word_of, high_of, low_of};
-ghost use Rattle.cpu12_isa.specs.{Regions.is_free, Watching.nothing_noted, Watching.length_nothing_noted};
+ghost use Rattle.cpu12_isa.specs.{Regions.is_free, Tags.untagged};
 
 use fz_list::Memory;
 use std::alloc::{AllocError, Global};
@@ -27,13 +27,13 @@ pub trait Mem: Sized {
     /// The 65536 bytes.
     ghost bytes: { Self → List ℕ };
 
-    /// For each of the 65536 addresses the byte that it is compared with, if it is watched. No write changes this.
-    ghost noted: { Self → List (Option ℕ) };
+    /// For each address the tag that it has beside its byte, if it has one. No write changes this.
+    ghost tags: { Self → List (Option ℕ) };
 
-    /// A memory of zeros, with no address watched.
+    /// A memory of zeros without a tag.
     fn fresh(alloc: Global) -> Result<Self, Memory>
         ensures bytes { IfOk result (λ m. bytes m ≡ zeros 65536) }
-        ensures noted { IfOk result (λ m. noted m ≡ nothing_noted) };
+        ensures tags { IfOk result (λ m. tags m ≡ untagged 65536) };
 
     /// The byte at an address.
     fn read(&self, at: u16) -> u8
@@ -42,11 +42,9 @@ pub trait Mem: Sized {
     /// Sets the byte at an address.
     fn write(&mut self, at: u16, value: u8)
         ensures bytes { bytes self.new ≡ slice_set (bytes self.old) at value }
-        ensures noted { noted self.new ≡ noted self.old };
+        ensures tags { tags self.new ≡ tags self.old };
 
     ghost size: { (m : Self) → length (bytes m) ≡ 65536 };
-
-    ghost noted_size: { (m : Self) → length (noted m) ≡ 65536 };
 }
 
 /// A memory with all its bytes in one vector, for tests and small tools.
@@ -67,11 +65,9 @@ pub(crate) fn zeroed(alloc: Global, n: usize) -> Result<Vec<u8>, AllocError>
 impl Mem for FlatMem {
     ghost bytes = { λ m. m.cells.items };
 
-    ghost noted = { λ m. nothing_noted };
+    ghost tags = { λ m. untagged 65536 };
 
     ghost size = { λ m. m.full };
-
-    ghost noted_size = { λ m. length_nothing_noted };
 
     #[tactic(auto, using(crate::proofs::Zeros::length_zeros))]
     fn fresh(alloc: Global) -> Result<Self, Memory> {

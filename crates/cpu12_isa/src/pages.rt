@@ -2,7 +2,7 @@
 ghost use Rattle.std.specs.Prelude.{ℕ, ◌≡◌, ◌≢◌, ◌==◌, ◌/◌, ◌<◌, true, false, if◌then◌else◌, count_by, length};
 ghost use Rattle.std.specs.Prelude.{replicate, slice_index, slice_set, IfOk};
 ghost use Rattle.cpu12_isa.specs.Pages.{ArePages, bytes_in, given_in, given_with};
-ghost use Rattle.cpu12_isa.specs.{Memory.zeros, Watching.nothing_noted, Watching.length_nothing_noted};
+ghost use Rattle.cpu12_isa.specs.{Memory.zeros, Tags.untagged};
 
 use crate::mem::{Mem, zeroed};
 use fz_list::Memory;
@@ -94,18 +94,16 @@ impl PageMem {
 impl Mem for PageMem {
     ghost bytes = { λ m. bytes_in m.table m.pool.items 65536 };
 
-    ghost noted = { λ m. nothing_noted };
+    ghost tags = { λ m. untagged 65536 };
 
     ghost size = { λ m. m.full };
-
-    ghost noted_size = { λ m. length_nothing_noted };
 
     ghost use Rattle.cpu12_isa.specs.PageMemory.{given};
 
     /// All bytes 0, and no page with its own slot.
     fn fresh(alloc: Global) -> Result<Self, Memory>
         ensures bytes { IfOk result (λ m. ⟦<PageMem as Mem>⟧.bytes m ≡ zeros 65536) }
-        ensures noted { IfOk result (λ m. ⟦<PageMem as Mem>⟧.noted m ≡ nothing_noted) }
+        ensures tags { IfOk result (λ m. ⟦<PageMem as Mem>⟧.tags m ≡ untagged 65536) }
         ensures none { IfOk result (λ m. given m ≡ replicate 256 false) }
     {
         PageMem::new(alloc)
@@ -119,7 +117,7 @@ impl Mem for PageMem {
     /// Sets the byte at an address. A byte other than 0 gives its page its own slot.
     fn write(&mut self, at: u16, value: u8)
         ensures bytes { ⟦<PageMem as Mem>⟧.bytes self.new ≡ slice_set (⟦<PageMem as Mem>⟧.bytes self.old) at value }
-        ensures noted { ⟦<PageMem as Mem>⟧.noted self.new ≡ ⟦<PageMem as Mem>⟧.noted self.old }
+        ensures tags { ⟦<PageMem as Mem>⟧.tags self.new ≡ ⟦<PageMem as Mem>⟧.tags self.old }
         ensures given { given self.new ≡ given_with (given self.old) at value }
     {
         self.set(at, value)

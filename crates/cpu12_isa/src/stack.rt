@@ -9,7 +9,7 @@ use crate::mem::{Mem, high_of, low_of, word_of};
 /// Writes bytes one after the other, starting at an address.
 pub fn place<M: Mem>(m: &mut M, at: u16, bytes: &[u8])
     ensures mem { M.bytes m.new ≡ write_all (placed at bytes.now) (M.bytes m.old) }
-    ensures noted { M.noted m.new ≡ M.noted m.old }
+    ensures tags { M.tags m.new ≡ M.tags m.old }
 {
     let mut to = at;
     for v in bytes {
@@ -44,7 +44,7 @@ pub fn pull_word<M: Mem>(r: &mut Regs, m: &M) -> u16
 pub fn push_frame<M: Mem>(r: &mut Regs, m: &mut M)
     ensures regs { r.new ≡ record r.old { sp = plus r.old.sp 65527 } }
     ensures mem { M.bytes m.new ≡ write_all (placed (plus r.old.sp 65527) (frame_bytes r.old)) (M.bytes m.old) }
-    ensures noted { M.noted m.new ≡ M.noted m.old }
+    ensures tags { M.tags m.new ≡ M.tags m.old }
 {
     r.sp = r.sp.wrapping_sub(9);
     let bytes = [

@@ -2,9 +2,8 @@
 ghost use Rattle.std.specs.Prelude.{ℕ, ◌≡◌, ◌<◌, List, Option, Some, None, true, length, option_map, slice_index};
 ghost use Rattle.std.specs.Prelude.{slice_index_or, slice_set, IfOk};
 ghost use Rattle.arrayvec.specs.ArrayVec.{array_vec_len};
-ghost use Rattle.cpu12_isa.specs.Memory.{zeros};
-ghost use Rattle.cpu12_isa.specs.Watching.{nothing_noted, unwatched, noted_again, is_changed, any_changed, is_listed};
-ghost use Rattle.cpu12_isa.specs.Watching.{AreListed};
+ghost use Rattle.cpu12_isa.specs.{Memory.zeros, Tags.untagged};
+ghost use Rattle.cpu12_isa.specs.Watching.{noted_again, is_changed, any_changed, is_listed, AreListed};
 
 use crate::mem::Mem;
 use arrayvec::ArrayVec;
@@ -12,7 +11,8 @@ use fz_list::Memory;
 use std::alloc::{AllocError, Global};
 
 /// A memory over another that notes the bytes at watched addresses, and reports whether any of them differs from
-/// what was noted. As long as no watched byte has changed, this takes one test.
+/// what was noted: a watched address has the noted byte as its tag. As long as no watched byte has changed, this
+/// takes one test.
 #[derive(Drop)]
 pub struct WatchedMem<M: Mem> {
     inner: M,
@@ -26,9 +26,9 @@ pub struct WatchedMem<M: Mem> {
 }
 
 /// A table of n addresses, none watched.
-#[tactic(auto, unfolding(crate::specs::Watching::unwatched))]
+#[tactic(auto, unfolding(crate::specs::Tags::untagged))]
 fn unwatched(alloc: Global, n: usize) -> Result<Vec<Option<u8>>, AllocError>
-    ensures { IfOk result (λ v. v.items ≡ unwatched n) }
+    ensures { IfOk result (λ v. v.items ≡ untagged n) }
 {
     vec![in alloc; None; n]
 }
@@ -119,11 +119,9 @@ fn note_again<M: Mem>(table: &mut [Option<u8>], m: &M, written: &ArrayVec<u16, 6
 impl<M: Mem> Mem for WatchedMem<M> {
     ghost bytes = { λ m. M.bytes m.inner };
 
-    ghost noted = { λ m. m.table.items };
+    ghost tags = { λ m. m.table.items };
 
     ghost size = { λ m. M.size m.inner };
-
-    ghost noted_size = { λ m. m.size };
 
     fn fresh(alloc: Global) -> Result<Self, Memory> {
         let Ok(table) = unwatched(alloc, 65536) else {
@@ -154,7 +152,7 @@ impl<M: Mem> WatchedMem<M> {
     /// Watches an address: notes the byte that is there.
     pub fn watch(&mut self, at: u16)
         ensures bytes { ⟦<WatchedMem<M> as Mem>⟧.bytes self.new ≡ ⟦<WatchedMem<M> as Mem>⟧.bytes self.old }
-        ensures noted { ⟦<WatchedMem<M> as Mem>⟧.noted self.new ≡ slice_set (⟦<WatchedMem<M> as Mem>⟧.noted self.old)
+        ensures noted { ⟦<WatchedMem<M> as Mem>⟧.tags self.new ≡ slice_set (⟦<WatchedMem<M> as Mem>⟧.tags self.old)
             at (Some (slice_index (⟦<WatchedMem<M> as Mem>⟧.bytes self.old) at)) }
     {
         self.table[at as usize] = Some(self.inner.read(at));
@@ -163,7 +161,7 @@ impl<M: Mem> WatchedMem<M> {
     /// Stops watching an address.
     pub fn unwatch(&mut self, at: u16)
         ensures bytes { ⟦<WatchedMem<M> as Mem>⟧.bytes self.new ≡ ⟦<WatchedMem<M> as Mem>⟧.bytes self.old }
-        ensures noted { ⟦<WatchedMem<M> as Mem>⟧.noted self.new ≡ slice_set (⟦<WatchedMem<M> as Mem>⟧.noted self.old)
+        ensures noted { ⟦<WatchedMem<M> as Mem>⟧.tags self.new ≡ slice_set (⟦<WatchedMem<M> as Mem>⟧.tags self.old)
             at None }
     {
         self.table[at as usize] = None;
@@ -173,8 +171,8 @@ impl<M: Mem> WatchedMem<M> {
     #[inline(always)]
     pub fn note(&mut self)
         ensures bytes { ⟦<WatchedMem<M> as Mem>⟧.bytes self.new ≡ ⟦<WatchedMem<M> as Mem>⟧.bytes self.old }
-        ensures noted { ⟦<WatchedMem<M> as Mem>⟧.noted self.new
-            ≡ noted_again (⟦<WatchedMem<M> as Mem>⟧.noted self.old) (⟦<WatchedMem<M> as Mem>⟧.bytes self.old) }
+        ensures noted { ⟦<WatchedMem<M> as Mem>⟧.tags self.new
+            ≡ noted_again (⟦<WatchedMem<M> as Mem>⟧.tags self.old) (⟦<WatchedMem<M> as Mem>⟧.bytes self.old) }
     {
         if !self.written.is_empty() {
             self.note_written();
@@ -185,7 +183,7 @@ impl<M: Mem> WatchedMem<M> {
     #[inline(always)]
     pub fn has_changed(&self) -> bool
         ensures { result
-            ≡ any_changed (⟦<WatchedMem<M> as Mem>⟧.noted self.now) (⟦<WatchedMem<M> as Mem>⟧.bytes self.now) }
+            ≡ any_changed (⟦<WatchedMem<M> as Mem>⟧.tags self.now) (⟦<WatchedMem<M> as Mem>⟧.bytes self.now) }
     {
         !self.written.is_empty() && self.is_written_changed()
     }
@@ -194,8 +192,8 @@ impl<M: Mem> WatchedMem<M> {
     #[inline(never)]
     fn note_written(&mut self)
         ensures bytes { ⟦<WatchedMem<M> as Mem>⟧.bytes self.new ≡ ⟦<WatchedMem<M> as Mem>⟧.bytes self.old }
-        ensures noted { ⟦<WatchedMem<M> as Mem>⟧.noted self.new
-            ≡ noted_again (⟦<WatchedMem<M> as Mem>⟧.noted self.old) (⟦<WatchedMem<M> as Mem>⟧.bytes self.old) }
+        ensures noted { ⟦<WatchedMem<M> as Mem>⟧.tags self.new
+            ≡ noted_again (⟦<WatchedMem<M> as Mem>⟧.tags self.old) (⟦<WatchedMem<M> as Mem>⟧.bytes self.old) }
     {
         note_again(&mut self.table, &self.inner, &self.written);
         self.written.clear();
@@ -205,7 +203,7 @@ impl<M: Mem> WatchedMem<M> {
     #[inline(never)]
     fn is_written_changed(&self) -> bool
         ensures { result
-            ≡ any_changed (⟦<WatchedMem<M> as Mem>⟧.noted self.now) (⟦<WatchedMem<M> as Mem>⟧.bytes self.now) }
+            ≡ any_changed (⟦<WatchedMem<M> as Mem>⟧.tags self.now) (⟦<WatchedMem<M> as Mem>⟧.bytes self.now) }
     {
         if self.written.is_full() {
             any_of_all(&self.table, &self.inner)
@@ -218,7 +216,7 @@ impl<M: Mem> WatchedMem<M> {
     #[inline(never)]
     fn list(&mut self, at: u16)
         ensures bytes { ⟦<WatchedMem<M> as Mem>⟧.bytes self.new ≡ ⟦<WatchedMem<M> as Mem>⟧.bytes self.old }
-        ensures noted { ⟦<WatchedMem<M> as Mem>⟧.noted self.new ≡ ⟦<WatchedMem<M> as Mem>⟧.noted self.old }
+        ensures noted { ⟦<WatchedMem<M> as Mem>⟧.tags self.new ≡ ⟦<WatchedMem<M> as Mem>⟧.tags self.old }
         ensures listed { array_vec_len self.new.written < 64 → is_listed self.new.written.items at ≡ true }
     {
         if !self.written.is_full() {

@@ -1,11 +1,11 @@
 -- What stands between two parts, and what is pushed there.
 use Rattle.std.proofs.Common.{◌≡◌, ◌==◌, ℕ, ◌+◌, ◌-◌, ◌*◌, ◌%◌, ◌^◌, min, Bool, true, false, List, [], get_or, refl, ap}
-use Rattle.std.proofs.Common.{sym, ◌∙◌, inl, inr}
+use Rattle.std.proofs.Common.{sym, ◌∙◌, inl, inr, arith}
 use Rattle.std.specs.Prelude.{if◌then◌else◌}
 use Rattle.cpu12_isa.specs.declared.{instr.Regs.Regs, instr.Ccr.Ccr}
 use Rattle.cpu12_isa.specs.Flags.{has, put, opened, interrupts_masked, overflow, carry, hnzc, hnz, hnzvc}
-use Rattle.cpu12_isa.specs.{Act.Act, Act.outcome, Memory.plus, Memory.word_of}
-use Rattle.cpu12_isa.proofs.Algebra.{bit, bit_or_is, bit_and_is}
+use Rattle.cpu12_isa.specs.{Act.Act, Act.outcome, Memory.plus, Memory.word_of, Plain.interrupt_masks}
+use Rattle.cpu12_isa.proofs.Algebra.{masked_opened, masked_put}
 use Rattle.cpu12_parts.specs.declared.temps.Temps.{Temps}
 use Rattle.cpu12_parts.specs.declared.temps.Temps.TheVariants.{Free, Running, OnStack}
 use Rattle.cpu12_parts.specs.declared.temps.PartEnd.TheVariants.{More, Done}
@@ -15,19 +15,13 @@ use Rattle.cpu12_parts.specs.Inside.{own_address, second_byte, GoesOnAt, LeavesS
 use Rattle.cpu12_parts.specs.Inside.{PushesNone}
 use Rattle.cpu12_parts.specs.{State.State, State.Outcome, Laws.state_of}
 
--- I where the open flags are taken, and where V is set
-masked_opened : (c : Ccr) (f : ℕ) → has (opened c hnzc f) interrupts_masked ≡ has c interrupts_masked
-masked_opened c f = let m : bit (opened c hnzc f).0 4 ≡ bit c.0 4 = simp (bit_or_is, bit_and_is) in m
+-- I stays where flags are taken from FLAGS, and where V is set
+same_opened : (c : Ccr) (mask flags : ℕ) → interrupt_masks (opened c mask flags) ≡ interrupt_masks c
+    → has (opened c mask flags) interrupts_masked ≡ has c interrupts_masked
+same_opened c mask flags e = ap (λ (m : Bool × Bool). m.0) e
 
-masked_opened_word : (c : Ccr) (f : ℕ) → has (opened c hnz f) interrupts_masked ≡ has c interrupts_masked
-masked_opened_word c f = let m : bit (opened c hnz f).0 4 ≡ bit c.0 4 = simp (bit_or_is, bit_and_is) in m
-
-masked_opened_sums : (c : Ccr) (f : ℕ) → has (opened c hnzvc f) interrupts_masked ≡ has c interrupts_masked
-masked_opened_sums c f = let m : bit (opened c hnzvc f).0 4 ≡ bit c.0 4 = simp (bit_or_is, bit_and_is) in m
-
-masked_put : (c : Ccr) (b : Bool) → has (put c overflow b) interrupts_masked ≡ has c interrupts_masked
-masked_put c true = let m : bit (put c overflow true).0 4 ≡ bit c.0 4 = simp (bit_or_is) in m
-masked_put c false = let m : bit (put c overflow false).0 4 ≡ bit c.0 4 = simp (bit_and_is) in m
+same_put : (c : Ccr) (b : Bool) → has (put c overflow b) interrupts_masked ≡ has c interrupts_masked
+same_put c b = ap (λ (m : Bool × Bool). m.0) (masked_put c 1 b (omega arith))
 
 -- a choice between two acts
 choice : (P : Outcome → Type 0) (m : List ℕ) (b : Bool) (x y : Act Outcome) → P (outcome x m) → P (outcome y m)
@@ -54,31 +48,31 @@ met_leaves r t x c at m e =
 rev_leaves : (flags : ℕ) (r : Regs) (t : Temps) (e : ℕ) (m : List ℕ) → Leaves r t (outcome (rev_element flags r t e) m)
 rev_leaves flags r t e m =
     let c = opened r.ccr hnzc flags in
-    let same = masked_opened r.ccr flags in
+    let same = same_opened r.ccr hnzc flags (masked_opened r.ccr hnzc flags (refl, refl) (refl, refl)) in
     let s : Regs = record r { x = plus r.x 1; ccr = c } in
     choice (Leaves r t) m (e == 255) (leaving (record s { pc = plus s.pc 2 }) t Done) _
     (record { sums = refl; inside = not_more })
     (choice (Leaves r t) m (e == 254) _ (met r s t (plus r.y e))
     (choice (Leaves r t) m (has r.ccr overflow) (leaving (record s { a = 255; ccr = put c overflow false }) t More)
     (leaving (record s { ccr = put c overflow true }) t More)
-    (record { sums = refl; inside = λ _. (masked_put c false ∙ same, refl) })
-    (record { sums = refl; inside = λ _. (masked_put c true ∙ same, refl) }))
+    (record { sums = refl; inside = λ _. (same_put c false ∙ same, refl) })
+    (record { sums = refl; inside = λ _. (same_put c true ∙ same, refl) }))
     (met_leaves r t (plus r.x 1) c (plus r.y e) m same))
 
 revw_leaves : (flags : ℕ) (r : Regs) (t : Temps) (e : ℕ) (m : List ℕ)
     → Leaves r t (outcome (revw_element flags r t e) m)
 revw_leaves flags r t e m =
     let c = opened r.ccr hnz flags in
-    let same = masked_opened_word r.ccr flags in
+    let same = same_opened r.ccr hnz flags (masked_opened r.ccr hnz flags (refl, refl) (refl, refl)) in
     let s : Regs = record r { x = plus r.x 2; ccr = c } in
     choice (Leaves r t) m (e == 65535) (leaving (record s { pc = plus s.pc 2 }) t Done) _
     (record { sums = refl; inside = not_more })
     (choice (Leaves r t) m (e == 65534) _ (met r s t e)
     (choice (Leaves r t) m (has r.ccr overflow) (leaving (record s { a = 255; ccr = put c overflow false }) t More) _
-    (record { sums = refl; inside = λ _. (masked_put c false ∙ same, refl) })
+    (record { sums = refl; inside = λ _. (same_put c false ∙ same, refl) })
     (choice (Leaves r t) m (has r.ccr carry) _ (leaving (record s { ccr = put c overflow true }) t More)
-    (record { sums = refl; inside = λ _. (masked_put c true ∙ same, refl) })
-    (record { sums = refl; inside = λ _. (masked_put c true ∙ same, refl) })))
+    (record { sums = refl; inside = λ _. (same_put c true ∙ same, refl) })
+    (record { sums = refl; inside = λ _. (same_put c true ∙ same, refl) })))
     (met_leaves r t (plus r.x 2) c e m same))
 
 pub rev_goes_on : GoesOnAt own_address rev
@@ -114,12 +108,13 @@ adds flags r p w pc m =
     let v = get_or m r.y 0 in
     let p2 = (p + u * v) % 2 ^ 32 in
     let w2 = (w + v) % 2 ^ 16 in
+    let same = same_opened r.ccr hnzvc flags (masked_opened r.ccr hnzvc flags (refl, refl) (refl, refl)) in
     let next : Regs = record r
     { x = plus r.x 1; y = plus r.y 1; b = r.b - 1; pc = pc; ccr = opened r.ccr hnzvc flags } in
     choice (Adds r pc) m (r.b == 0) (leaving (wav_end flags r p w pc) Free Done) _ (ended r (wav_end flags r p w pc) pc)
     (choice (Adds r pc) m (r.b == 1) (leaving (wav_end flags r p2 w2 pc) Free Done) (leaving next (Running p2 w2) More)
     (ended r (wav_end flags r p2 w2 pc) pc)
-    (record { writes = refl; inside = λ _. (masked_opened_sums r.ccr flags, refl) }))
+    (record { writes = refl; inside = λ _. (same, refl) }))
 
 adds_by : (flags : ℕ) (r : Regs) (t : Temps) (m : List ℕ) → Adds r (second_byte t r.pc) (outcome (wav_act flags r t) m)
 adds_by flags r Free m = adds flags r 0 0 (plus r.pc 1) m

@@ -5,7 +5,7 @@ use Rattle.std.proofs.Common.{arith}
 use Rattle.cpu12_isa.specs.{declared.instr.Instr.Instr, Code.decode_at, Memory.plus, Meaning.is_plain}
 use Rattle.cpu12_isa.specs.declared.instr.Instr.TheVariants.{Rev, Revw, Wav, Nop}
 use Rattle.cpu12_parts.specs.{State.State, Whole.after_plain, Whole.IsRulesStep, Whole.IsWholeStep}
-use Rattle.cpu12_parts.specs.Rules.{Rule, Form, rev_form, revw_form, elements_of, Listed, AreNames, AreRules}
+use Rattle.cpu12_parts.specs.Rules.{Rule, RuleOperands, rev_operands, revw_operands, elements_of, Listed, AreNames, AreRules}
 use Rattle.cpu12_parts.specs.Rules.{AreWeights, rules_whole}
 use Rattle.cpu12_parts.specs.Executions.{Execution, IsStepBefore, ExecutionsAreOne}
 
@@ -33,14 +33,14 @@ plain_kind Wav h = absurd (never h)
 plain_kind i h = refl
 
 -- names up to a mark, and what follows
-record Split (f : Form) (mem xs ys : List ℕ) (m n : ℕ) (rs ts : List ℕ) : Type 0 where
+record Split (f : RuleOperands) (mem xs ys : List ℕ) (m n : ℕ) (rs ts : List ℕ) : Type 0 where
   names : xs ≡ ys
   marks : m ≡ n
   at : ℕ
   left : Listed f mem at rs
   right : Listed f mem at ts
 
-split : (f : Form) (mem : List ℕ) (x : ℕ) (xs ys : List ℕ) (m n : ℕ) (rs ts : List ℕ) → f.separator ≤ m
+split : (f : RuleOperands) (mem : List ℕ) (x : ℕ) (xs ys : List ℕ) (m n : ℕ) (rs ts : List ℕ) → f.separator ≤ m
     → f.separator ≤ n → AreNames f xs → AreNames f ys
     → Listed f mem x (xs ++ m ∷ rs) → Listed f mem x (ys ++ n ∷ ts) → Split f mem xs ys m n rs ts
 split f mem x [] [] m n rs ts a b ns ks h g =
@@ -80,7 +80,7 @@ rule_is p q a c w =
     record { antecedents = q.antecedents; conclusions = q.conclusions; weight = k } in r) w
 
 -- the rules that stand there are one list
-rules_are : (f : Form) (b : Bool) (mem : List ℕ) (x y : ℕ) (p q : Rule) (ps qs : List Rule) → f.separator < f.stop
+rules_are : (f : RuleOperands) (b : Bool) (mem : List ℕ) (x y : ℕ) (p q : Rule) (ps qs : List Rule) → f.separator < f.stop
     → AreRules f (p ∷ ps) → AreRules f (q ∷ qs)
     → Listed f mem x (elements_of f p ps) → Listed f mem x (elements_of f q qs) → AreWeights b mem y (p ∷ ps)
     → AreWeights b mem y (q ∷ qs)
@@ -115,7 +115,7 @@ rules_are f b mem x y p q (p' ∷ ps) (q' ∷ qs) lt rp rq h g v w =
       ap₂ (λ (m : Rule) (ms : List Rule). m ∷ ms) e.0 e.1,
     )
 
-rules_one : (i : Instr) (f : Form) (flags d e : ℕ) (p q : Rule) (ps qs : List Rule) (s t u : State)
+rules_one : (i : Instr) (f : RuleOperands) (flags d e : ℕ) (p q : Rule) (ps qs : List Rule) (s t u : State)
     → f.separator < f.stop → IsRulesStep i f flags d p ps s t
     → IsRulesStep i f flags e q qs s u → (d ≡ e) × (t ≡ u)
 rules_one i f flags d e p q ps qs s t u lt h g =
@@ -141,9 +141,9 @@ one_step flags d e s t u (inl p) (inl q) = (
       ∙ sym q.1.0.after,
 )
 one_step flags d e s t u (inr (inl p)) (inr (inl q)) =
-    rules_one Rev (rev_form s.regs.y) flags d e p.0 q.0 p.1 q.1 s t u (omega arith) p.2 q.2
+    rules_one Rev (rev_operands s.regs.y) flags d e p.0 q.0 p.1 q.1 s t u (omega arith) p.2 q.2
 one_step flags d e s t u (inr (inr (inl p))) (inr (inr (inl q))) =
-    rules_one Revw revw_form flags d e p.0 q.0 p.1 q.1 s t u (omega arith) p.2 q.2
+    rules_one Revw revw_operands flags d e p.0 q.0 p.1 q.1 s t u (omega arith) p.2 q.2
 one_step flags d e s t u (inr (inr (inr p))) (inr (inr (inr q))) = (p.parts ∙ sym q.parts, p.after ∙ sym q.after)
 one_step flags d e s t u (inl p) (inr (inl q)) =
     absurd (omega (arith, plain_kind p.0 p.1.0.plain, other s p.0 Rev p.1.0.decoded q.2.decoded))

@@ -7,7 +7,7 @@ use Rattle.cpu12_isa.specs.declared.{instr.Regs.Regs, instr.Ccr.Ccr}
 use Rattle.cpu12_isa.specs.Flags.{has, put, opened, carry, overflow, hnzc, hnz}
 use Rattle.cpu12_isa.specs.{Act.outcome, Act.read_by, Memory.plus, Memory.word_of}
 use Rattle.cpu12_isa.proofs.Algebra.{bit, bit_or_is, bit_and_is, same_ccr, fits_put, fits_opened}
-use Rattle.cpu12_parts.specs.{declared.temps.Temps.Temps, Parts.rev, Parts.revw, Rules.rev_form, Rules.revw_form}
+use Rattle.cpu12_parts.specs.{declared.temps.Temps.Temps, Parts.rev, Parts.revw, Rules.rev_operands, Rules.revw_operands}
 use Rattle.cpu12_parts.specs.Laws.{RevIsWhole, RevwIsWhole}
 use Rattle.cpu12_parts.specs.{State.Outcome, Parts.rev_element, Parts.revw_element, Parts.weighted}
 use Rattle.cpu12_parts.proofs.RuleParts.{at_rules, gives, last_gives, Does, Walks, rules_are_whole}
@@ -130,7 +130,7 @@ revw_weighing : (c : Ccr) (b : Bool) → has (put c overflow b) carry ≡ has c 
 revw_weighing c true = simp bit_or_is
 revw_weighing c false = simp bit_and_is
 
-pub rev_walks : (flags : ℕ) (r : Regs) (t : Temps) → Walks rev flags (rev_form r.y) r t
+pub rev_walks : (flags : ℕ) (r : Regs) (t : Temps) → Walks rev flags (rev_operands r.y) r t
 rev_walks flags r t = record {
   stops = λ a x y c mem is. rev_by flags r t a x y 255 c mem (last_gives r t a (plus x 1) y (opened c hnzc flags)) []
       is refl refl;
@@ -156,7 +156,7 @@ rev_walks flags r t = record {
   ends_set = λ c f g v. opened_last hnzc flags c (inl refl) f g v;
 }
 
-pub revw_walks : (flags : ℕ) (r : Regs) (t : Temps) → Walks revw flags revw_form r t
+pub revw_walks : (flags : ℕ) (r : Regs) (t : Temps) → Walks revw flags revw_operands r t
 revw_walks flags r t = record {
   stops = λ a x y c mem is. revw_by flags r t a x y 65535 c mem (last_gives r t a (plus x 2) y (opened c hnz flags)) []
       is refl refl;
@@ -181,8 +181,8 @@ revw_walks flags r t = record {
 
 pub rev_is_whole : RevIsWhole
 rev_is_whole flags r t mem p ps d h g ff fc ready len shown kept =
-    rules_are_whole rev flags (rev_form r.y) r t (rev_walks flags r t) mem p ps d h g ff fc ready len shown kept
+    rules_are_whole rev flags (rev_operands r.y) r t (rev_walks flags r t) mem p ps d h g ff fc ready len shown kept
 
 pub revw_is_whole : RevwIsWhole
 revw_is_whole flags r t mem p ps d h g ff fc ready len shown kept =
-    rules_are_whole revw flags revw_form r t (revw_walks flags r t) mem p ps d h g ff fc ready len shown kept
+    rules_are_whole revw flags revw_operands r t (revw_walks flags r t) mem p ps d h g ff fc ready len shown kept

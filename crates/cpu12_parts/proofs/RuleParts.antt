@@ -12,7 +12,7 @@ use Rattle.cpu12_parts.specs.declared.temps.Temps.{Temps}
 use Rattle.cpu12_parts.specs.declared.temps.PartEnd.TheVariants.{More, Done}
 use Rattle.cpu12_parts.specs.State.{State, Outcome, state_after}
 use Rattle.cpu12_parts.specs.{Parts.weighted, Parts.Kind, Parts.part_of, Laws.PartsTo, Laws.addresses, Laws.state_of}
-use Rattle.cpu12_parts.specs.Rules.{Rule, Form, elements_of, Listed, behind, AreNames, AreRules, AreWeights}
+use Rattle.cpu12_parts.specs.Rules.{Rule, RuleOperands, elements_of, Listed, behind, AreNames, AreRules, AreWeights}
 use Rattle.cpu12_parts.specs.Rules.{behind_weights, least, strength, raised, concluded, all_concluded, last_strength}
 use Rattle.cpu12_parts.specs.Rules.{element_bytes, weight_bytes, named, rules_named, rules_target, rules_read}
 use Rattle.cpu12_parts.specs.Rules.{rules_written, NotIn, AreApart, AreReady, rules_whole}
@@ -35,11 +35,11 @@ pub record Does (k : Kind) (flags : ℕ) (s : State) (o : Outcome) (ats : List �
   pub reads : read_by (k.act flags s.regs s.temps) s.mem ≡ ats
 
 -- the flags at the end
-abbrev pub last_flags : Form → ℕ → Ccr → Ccr
+abbrev pub last_flags : RuleOperands → ℕ → Ccr → Ccr
 last_flags f flags c = put (opened c f.mask flags) overflow true
 
 -- what the parts of an instruction do, by the element at X
-pub record Walks (k : Kind) (flags : ℕ) (f : Form) (r : Regs) (t : Temps) : Type 0 where
+pub record Walks (k : Kind) (flags : ℕ) (f : RuleOperands) (r : Regs) (t : Temps) : Type 0 where
   pub stops : (a x y : ℕ) (c : Ccr) (mem : List ℕ) → f.element mem x ≡ f.stop
       → Does k flags (at_rules r t a x y c mem) (last_gives r t a (plus x f.size) y (opened c f.mask flags))
       (from x f.size)
@@ -91,12 +91,12 @@ on_part k flags h g d s o ats end does more shown kept rest = (
 )
 
 -- what the parts keep of the flags
-record Kept (f : Form) (flags : ℕ) (c0 c : Ccr) : Type 0 where
+record Kept (f : RuleOperands) (flags : ℕ) (c0 c : Ccr) : Type 0 where
   fits : c.0 < 2 ^ 8
   ends : last_flags f flags c ≡ last_flags f flags c0
   weighing : f.weighs c ≡ f.weighs c0
 
-kept_opened : (k : Kind) (flags : ℕ) (f : Form) (r : Regs) (t : Temps) (c0 c : Ccr) → Walks k flags f r t
+kept_opened : (k : Kind) (flags : ℕ) (f : RuleOperands) (r : Regs) (t : Temps) (c0 c : Ccr) → Walks k flags f r t
     → flags < 2 ^ 8 → Kept f flags c0 c
     → Kept f flags c0 (opened c f.mask flags)
 kept_opened k flags f r t c0 c w ff m = record {
@@ -105,7 +105,7 @@ kept_opened k flags f r t c0 c w ff m = record {
   weighing = w.weighs_opened c ∙ m.weighing;
 }
 
-kept_put : (k : Kind) (flags : ℕ) (f : Form) (r : Regs) (t : Temps) (c0 c : Ccr) (b : Bool) → Walks k flags f r t
+kept_put : (k : Kind) (flags : ℕ) (f : RuleOperands) (r : Regs) (t : Temps) (c0 c : Ccr) (b : Bool) → Walks k flags f r t
     → flags < 2 ^ 8 → Kept f flags c0 c
     → Kept f flags c0 (put (opened c f.mask flags) overflow b)
 kept_put k flags f r t c0 c b w ff m = record {
@@ -120,12 +120,12 @@ put_v c true = simp bit_or_is
 put_v c false = simp bit_and_is
 
 -- lists one after the other
-listed_tail : (f : Form) (mem : List ℕ) (x : ℕ) (es rest : List ℕ) → Listed f mem x (es ++ rest)
+listed_tail : (f : RuleOperands) (mem : List ℕ) (x : ℕ) (es rest : List ℕ) → Listed f mem x (es ++ rest)
     → Listed f mem (behind f x es) rest
 listed_tail f mem x [] rest l = l
 listed_tail f mem x (e ∷ es) rest l = listed_tail f mem (plus x f.size) es rest l.1
 
-shown_tail : (h : ℕ → Bool) (f : Form) (x : ℕ) (es rest : List ℕ) → AllShown h (element_bytes f x (es ++ rest))
+shown_tail : (h : ℕ → Bool) (f : RuleOperands) (x : ℕ) (es rest : List ℕ) → AllShown h (element_bytes f x (es ++ rest))
     → AllShown h (element_bytes f (behind f x es) rest)
 shown_tail h f x [] rest s = s
 shown_tail h f x (e ∷ es) rest s =
@@ -140,7 +140,7 @@ not_right : (i : ℕ) (xs ys : List ℕ) → NotIn i (xs ++ ys) → NotIn i ys
 not_right i [] ys n = n
 not_right i (x ∷ xs) ys n = not_right i xs ys n.1
 
-not_tail : (i : ℕ) (f : Form) (x : ℕ) (es rest : List ℕ) → NotIn i (element_bytes f x (es ++ rest))
+not_tail : (i : ℕ) (f : RuleOperands) (x : ℕ) (es rest : List ℕ) → NotIn i (element_bytes f x (es ++ rest))
     → NotIn i (element_bytes f (behind f x es) rest)
 not_tail i f x [] rest n = n
 not_tail i f x (e ∷ es) rest n =
@@ -158,17 +158,17 @@ apart_behind : (is xs ys : List ℕ) → AreApart is (xs ++ ys) → AreApart is 
 apart_behind [] xs ys a = tt
 apart_behind (i ∷ is) xs ys a = (not_right i xs ys a.0, apart_behind is xs ys a.1)
 
-apart_tail : (f : Form) (x : ℕ) (is es rest : List ℕ) → AreApart is (element_bytes f x (es ++ rest))
+apart_tail : (f : RuleOperands) (x : ℕ) (is es rest : List ℕ) → AreApart is (element_bytes f x (es ++ rest))
     → AreApart is (element_bytes f (behind f x es) rest)
 apart_tail f x [] es rest a = tt
 apart_tail f x (i ∷ is) es rest a = (not_tail i f x es rest a.0, apart_tail f x is es rest a.1)
 
-behind_append : (f : Form) (x : ℕ) (es fs : List ℕ) → behind f x (es ++ fs) ≡ behind f (behind f x es) fs
+behind_append : (f : RuleOperands) (x : ℕ) (es fs : List ℕ) → behind f x (es ++ fs) ≡ behind f (behind f x es) fs
 behind_append f x [] fs = refl
 behind_append f x (e ∷ es) fs = behind_append f (plus x f.size) es fs
 
 -- what is written elsewhere leaves the list and the weights
-listed_set : (k : Kind) (flags : ℕ) (f : Form) (r : Regs) (t : Temps) → Walks k flags f r t
+listed_set : (k : Kind) (flags : ℕ) (f : RuleOperands) (r : Regs) (t : Temps) → Walks k flags f r t
     → (mem : List ℕ) (i v x : ℕ) (es : List ℕ)
     → NotIn i (element_bytes f x es) → Listed f mem x es → Listed f (set mem i v) x es
 listed_set k flags f r t w mem i v x [] n l = tt
@@ -178,7 +178,7 @@ listed_set k flags f r t w mem i v x (e ∷ es) n l = (
       (not_right i (from x f.size) (element_bytes f (plus x f.size) es) n) l.1,
 )
 
-listed_raised : (k : Kind) (flags : ℕ) (f : Form) (r : Regs) (t : Temps) → Walks k flags f r t
+listed_raised : (k : Kind) (flags : ℕ) (f : RuleOperands) (r : Regs) (t : Temps) → Walks k flags f r t
     → (es : List ℕ) (a x : ℕ) (mem fs : List ℕ)
     → AreApart (named f es) (element_bytes f x fs) → Listed f mem x fs
     → Listed f (raised f a mem es) x fs
@@ -196,7 +196,7 @@ weights_set true mem i v y (p ∷ ps) n l =
 weights_set false mem i v y [] n l = tt
 weights_set false mem i v y (p ∷ ps) n l = (l.0, weights_set false mem i v y ps tt l.1)
 
-weights_raised : (f : Form) (on : Bool) (es : List ℕ) (a y : ℕ) (mem : List ℕ) (ps : List Rule)
+weights_raised : (f : RuleOperands) (on : Bool) (es : List ℕ) (a y : ℕ) (mem : List ℕ) (ps : List Rule)
     → AreApart (named f es) (weight_bytes on y ps)
     → AreWeights on mem y ps → AreWeights on (raised f a mem es) y ps
 weights_raised f on [] a y mem ps ap l = l
@@ -215,7 +215,7 @@ more [] d = d
 more (e ∷ es) d = suc (more es d)
 
 -- the antecedents
-antecedents : (k : Kind) (flags : ℕ) (f : Form) (r : Regs) (t : Temps) → Walks k flags f r t → flags < 2 ^ 8
+antecedents : (k : Kind) (flags : ℕ) (f : RuleOperands) (r : Regs) (t : Temps) → Walks k flags f r t → flags < 2 ^ 8
     → (h g : ℕ → Bool) (d y : ℕ) (c0 : Ccr) (end : State) → (f.weighs c0 ≡ false → y ≡ r.y)
     → (es rest : List ℕ) (a x : ℕ) (c : Ccr) (mem : List ℕ) → AreNames f es → Listed f mem x (es ++ rest)
     → has c overflow ≡ false → Kept f flags c0 c
@@ -237,7 +237,7 @@ antecedents k flags f r t w ff h g d y c0 end at_y (e ∷ es) rest a x c mem ns 
     (shown_right h (from x f.size) (element_bytes f (plus x f.size) (es ++ rest)) sl) sn.1 go)
 
 -- the conclusions
-conclusions : (k : Kind) (flags : ℕ) (f : Form) (r : Regs) (t : Temps) → Walks k flags f r t → flags < 2 ^ 8
+conclusions : (k : Kind) (flags : ℕ) (f : RuleOperands) (r : Regs) (t : Temps) → Walks k flags f r t → flags < 2 ^ 8
     → (h g : ℕ → Bool) (d y : ℕ) (c0 : Ccr) (end : State) → (f.weighs c0 ≡ false → y ≡ r.y)
     → (es rest : List ℕ) (a x : ℕ) (c : Ccr) (mem : List ℕ) → AreNames f es → Listed f mem x (es ++ rest)
     → has c overflow ≡ true → Kept f flags c0 c
@@ -294,7 +294,7 @@ next_at true y y0 h e = absurd (false≢true (sym e))
 next_at false y y0 h e = h refl
 
 -- the separator between antecedents and conclusions, where the weight is applied
-separator : (k : Kind) (flags : ℕ) (f : Form) (r : Regs) (t : Temps) → Walks k flags f r t
+separator : (k : Kind) (flags : ℕ) (f : RuleOperands) (r : Regs) (t : Temps) → Walks k flags f r t
     → (h g : ℕ → Bool) (d : ℕ) (on : Bool) (a x y : ℕ) (c : Ccr) (mem : List ℕ) (p : Rule) (ps : List Rule)
     (end : State)
     → f.element mem x ≡ f.separator → has c overflow ≡ false → f.weighs c ≡ on → AreWeights on mem y (p ∷ ps)
@@ -321,18 +321,18 @@ separator k flags f r t w h g d false a x y c mem p ps end e v o ws sx sw rest =
     (ap (weighted a) ws.0 ∙ whole_weight a) rest)
 
 -- where the bytes of a rule's parts stand
-abbrev turn_of : Form → ℕ → Rule → ℕ
+abbrev turn_of : RuleOperands → ℕ → Rule → ℕ
 turn_of f x p = behind f x p.antecedents
 
-abbrev end_of : Form → ℕ → Rule → ℕ
+abbrev end_of : RuleOperands → ℕ → Rule → ℕ
 end_of f x p = behind f (plus (turn_of f x p) f.size) p.conclusions
 
 -- the elements of a rule, and others behind it
-abbrev rule_elements : Form → Rule → List ℕ → List ℕ
+abbrev rule_elements : RuleOperands → Rule → List ℕ → List ℕ
 rule_elements f p rest = p.antecedents ++ (f.separator ∷ (p.conclusions ++ rest))
 
 -- a rule: its antecedents, the separator, its conclusions
-one_rule : (k : Kind) (flags : ℕ) (f : Form) (r : Regs) (t : Temps) → Walks k flags f r t → flags < 2 ^ 8
+one_rule : (k : Kind) (flags : ℕ) (f : RuleOperands) (r : Regs) (t : Temps) → Walks k flags f r t → flags < 2 ^ 8
     → (h g : ℕ → Bool) (d : ℕ) (on : Bool) (c0 : Ccr) (end : State)
     → (p : Rule) (ps : List Rule) (rest : List ℕ) (x y : ℕ) (c : Ccr) (mem : List ℕ) → f.weighs c0 ≡ on
     → (on ≡ false → y ≡ r.y)
@@ -375,7 +375,7 @@ count p [] = more p.antecedents (suc (more p.conclusions 0))
 count p (q ∷ qs) = more p.antecedents (suc (more p.conclusions (suc (count q qs))))
 
 -- the end from here on
-abbrev rules_end : Form → Bool → Regs → Temps → ℕ → ℕ → Ccr → List ℕ → Rule → List Rule → State
+abbrev rules_end : RuleOperands → Bool → Regs → Temps → ℕ → ℕ → Ccr → List ℕ → Rule → List Rule → State
 rules_end f on r t x y c mem p ps = state_of (record r {
   a = last_strength f mem p ps;
   x = behind f x (elements_of f p ps);
@@ -384,14 +384,14 @@ rules_end f on r t x y c mem p ps = state_of (record r {
   pc = plus r.pc 2;
 }) t (all_concluded f mem p ps)
 
-behind_rule : (f : Form) (x : ℕ) (p : Rule) (rest : List ℕ)
+behind_rule : (f : RuleOperands) (x : ℕ) (p : Rule) (rest : List ℕ)
     → behind f x (rule_elements f p rest) ≡ behind f (end_of f x p) rest
 behind_rule f x p rest =
     behind_append f x p.antecedents (f.separator ∷ (p.conclusions ++ rest))
     ∙ behind_append f (plus (turn_of f x p) f.size) p.conclusions rest
 
 -- what stands behind a rule
-listed_behind : (k : Kind) (flags : ℕ) (f : Form) (r : Regs) (t : Temps) → Walks k flags f r t
+listed_behind : (k : Kind) (flags : ℕ) (f : RuleOperands) (r : Regs) (t : Temps) → Walks k flags f r t
     → (p : Rule) (rest : List ℕ) (x : ℕ) (mem : List ℕ)
     → AreApart (named f p.conclusions) (element_bytes f x (rule_elements f p rest))
     → Listed f mem x (rule_elements f p rest)
@@ -401,7 +401,7 @@ listed_behind k flags f r t w p rest x mem aw l =
     listed_tail f (concluded f mem p) (plus (turn_of f x p) f.size) p.conclusions rest
     (listed_tail f (concluded f mem p) x p.antecedents (f.separator ∷ (p.conclusions ++ rest)) l2).1
 
-shown_behind : (h : ℕ → Bool) (f : Form) (p : Rule) (rest : List ℕ) (x : ℕ)
+shown_behind : (h : ℕ → Bool) (f : RuleOperands) (p : Rule) (rest : List ℕ) (x : ℕ)
     → AllShown h (element_bytes f x (rule_elements f p rest))
     → AllShown h (element_bytes f (end_of f x p) rest)
 shown_behind h f p rest x s =
@@ -410,7 +410,7 @@ shown_behind h f p rest x s =
     (shown_right h (from (turn_of f x p) f.size)
     (element_bytes f (plus (turn_of f x p) f.size) (p.conclusions ++ rest)) s1)
 
-apart_behind_rule : (f : Form) (is : List ℕ) (p : Rule) (rest : List ℕ) (x : ℕ)
+apart_behind_rule : (f : RuleOperands) (is : List ℕ) (p : Rule) (rest : List ℕ) (x : ℕ)
     → AreApart is (element_bytes f x (rule_elements f p rest))
     → AreApart is (element_bytes f (end_of f x p) rest)
 apart_behind_rule f is p rest x a =
@@ -419,7 +419,7 @@ apart_behind_rule f is p rest x a =
     (apart_behind is (from (turn_of f x p) f.size)
     (element_bytes f (plus (turn_of f x p) f.size) (p.conclusions ++ rest)) a1)
 
-rules_parts : (k : Kind) (flags : ℕ) (f : Form) (r : Regs) (t : Temps) → Walks k flags f r t → flags < 2 ^ 8
+rules_parts : (k : Kind) (flags : ℕ) (f : RuleOperands) (r : Regs) (t : Temps) → Walks k flags f r t → flags < 2 ^ 8
     → (h g : ℕ → Bool) (on : Bool) (c0 : Ccr)
     → f.weighs c0 ≡ on
     → (ps : List Rule) (p : Rule) (x y : ℕ) (c : Ccr) (mem : List ℕ) → (on ≡ false → y ≡ r.y) → AreRules f (p ∷ ps)
@@ -523,7 +523,7 @@ more_length : (es rest : List ℕ) (d : ℕ) → length rest ≡ suc d → lengt
 more_length [] rest d e = e
 more_length (x ∷ es) rest d e = ap suc (more_length es rest d e)
 
-count_length : (f : Form) (p : Rule) (ps : List Rule) → length (elements_of f p ps) ≡ suc (count p ps)
+count_length : (f : RuleOperands) (p : Rule) (ps : List Rule) → length (elements_of f p ps) ≡ suc (count p ps)
 count_length f p [] =
     more_length p.antecedents (f.separator ∷ (p.conclusions ++ (f.stop ∷ []))) (suc (more p.conclusions 0))
     (ap suc (more_length p.conclusions (f.stop ∷ []) 0 refl))
@@ -534,7 +534,7 @@ count_length f p (q ∷ qs) =
     (ap suc (count_length f q qs))))
 
 -- the whole list
-pub rules_are_whole : (k : Kind) (flags : ℕ) (f : Form) (r : Regs) (t : Temps) → Walks k flags f r t
+pub rules_are_whole : (k : Kind) (flags : ℕ) (f : RuleOperands) (r : Regs) (t : Temps) → Walks k flags f r t
     → (mem : List ℕ) (p : Rule) (ps : List Rule) (d : ℕ) (h g : ℕ → Bool) → flags < 2 ^ 8 → r.ccr.0 < 2 ^ 8
     → AreReady f r mem p ps → length (elements_of f p ps) ≡ suc d → AllShown h (rules_read f r p ps)
     → AllShown g (rules_written f p ps)

@@ -1,21 +1,17 @@
 -- The laws of instructions in parts.
 -- Beside the promise.
-use Rattle.std.specs.Prelude.{◌≡◌, ℕ, zero, suc, ◌+◌, ◌-◌, ◌%◌, ◌^◌, ◌<◌, ◌⊎◌, Bool, true, nat_lt, List, [], ◌∷◌}
+use Rattle.std.specs.Prelude.{◌≡◌, ℕ, zero, suc, ◌+◌, ◌-◌, ◌%◌, ◌^◌, ◌<◌, ◌⊎◌, Bool, true, nat_lt, List, []}
 use Rattle.std.specs.Prelude.{length}
 use Rattle.cpu12_isa.specs.declared.instr.Regs.{Regs}
 use Rattle.cpu12_isa.specs.{Act.outcome, Act.read_by, Agreement.Agree, Agreement.AllShown, Agreement.IsWritten}
+pub use Rattle.cpu12_isa.specs.Agreement.{addresses}
 use Rattle.cpu12_parts.specs.declared.temps.Temps.{Temps}
 use Rattle.cpu12_parts.specs.declared.temps.Temps.TheVariants.{Free, Running, OnStack}
 use Rattle.cpu12_parts.specs.declared.temps.PartEnd.TheVariants.{More, Done}
 use Rattle.cpu12_parts.specs.Parts.{Kind, rev, revw, wav, part_of, after_part, suspended, resumed, cut_run, EndsWith}
-use Rattle.cpu12_parts.specs.Rules.{Rule, rev_form, revw_form, elements_of, rules_read, rules_written, AreReady}
+use Rattle.cpu12_parts.specs.Rules.{Rule, rev_operands, revw_operands, elements_of, rules_read, rules_written, AreReady}
 use Rattle.cpu12_parts.specs.Rules.{rules_whole}
 use Rattle.cpu12_parts.specs.{State.State, Averages.wav_read, Averages.wav_whole}
-
--- the addresses of writes
-abbrev pub addresses : List (ℕ × ℕ) → List ℕ
-addresses [] = []
-addresses (w ∷ ws) = w.0 ∷ addresses ws
 
 -- the next part reads at no address of one set, and writes at none of another
 abbrev pub Touches : Kind → ℕ → (ℕ → Bool) → (ℕ → Bool) → State → Type 0
@@ -87,18 +83,19 @@ abbrev pub RevIsWhole : Type 0
 RevIsWhole =
     (flags : ℕ) (r : Regs) (t : Temps) (mem : List ℕ) (p : Rule) (ps : List Rule) (d : ℕ) (unread unwritten : ℕ → Bool)
     → flags < 2 ^ 8 → r.ccr.0 < 2 ^ 8
-    → AreReady (rev_form r.y) r mem p ps → length (elements_of (rev_form r.y) p ps) ≡ suc d
-    → AllShown unread (rules_read (rev_form r.y) r p ps) → AllShown unwritten (rules_written (rev_form r.y) p ps)
-    → PartsTo rev flags unread unwritten d (state_of r t mem) (rules_whole (rev_form r.y) flags r t mem p ps)
+    → AreReady (rev_operands r.y) r mem p ps → length (elements_of (rev_operands r.y) p ps) ≡ suc d
+    → AllShown unread (rules_read (rev_operands r.y) r p ps)
+    → AllShown unwritten (rules_written (rev_operands r.y) p ps)
+    → PartsTo rev flags unread unwritten d (state_of r t mem) (rules_whole (rev_operands r.y) flags r t mem p ps)
 
 -- So do REVW's.
 abbrev pub RevwIsWhole : Type 0
 RevwIsWhole =
     (flags : ℕ) (r : Regs) (t : Temps) (mem : List ℕ) (p : Rule) (ps : List Rule) (d : ℕ) (unread unwritten : ℕ → Bool)
     → flags < 2 ^ 8 → r.ccr.0 < 2 ^ 8
-    → AreReady revw_form r mem p ps → length (elements_of revw_form p ps) ≡ suc d
-    → AllShown unread (rules_read revw_form r p ps) → AllShown unwritten (rules_written revw_form p ps)
-    → PartsTo revw flags unread unwritten d (state_of r t mem) (rules_whole revw_form flags r t mem p ps)
+    → AreReady revw_operands r mem p ps → length (elements_of revw_operands p ps) ≡ suc d
+    → AllShown unread (rules_read revw_operands r p ps) → AllShown unwritten (rules_written revw_operands p ps)
+    → PartsTo revw flags unread unwritten d (state_of r t mem) (rules_whole revw_operands flags r t mem p ps)
 
 -- the sums do not run
 abbrev pub IsOff : Temps → Type 0
@@ -119,19 +116,19 @@ abbrev pub RevOverCuts : Type 0
 RevOverCuts =
     (flags : ℕ) (r : Regs) (t : Temps) (mem : List ℕ) (p : Rule) (ps : List Rule) (cs : List Bool) → flags < 2 ^ 8
     → r.ccr.0 < 2 ^ 8 → length mem ≡ 65536 → r.sp < 2 ^ 16
-    → AreReady (rev_form r.y) r mem p ps → AllShown (below 6 r.sp) (rules_read (rev_form r.y) r p ps)
-    → length (elements_of (rev_form r.y) p ps) ≡ suc (length cs)
+    → AreReady (rev_operands r.y) r mem p ps → AllShown (below 6 r.sp) (rules_read (rev_operands r.y) r p ps)
+    → length (elements_of (rev_operands r.y) p ps) ≡ suc (length cs)
     → EndsWith rev flags cs (state_of r t mem)
-    × IsLike (cut_run rev flags cs (state_of r t mem)) (rules_whole (rev_form r.y) flags r t mem p ps)
+    × IsLike (cut_run rev flags cs (state_of r t mem)) (rules_whole (rev_operands r.y) flags r t mem p ps)
 
 abbrev pub RevwOverCuts : Type 0
 RevwOverCuts =
     (flags : ℕ) (r : Regs) (t : Temps) (mem : List ℕ) (p : Rule) (ps : List Rule) (cs : List Bool) → flags < 2 ^ 8
     → r.ccr.0 < 2 ^ 8 → length mem ≡ 65536 → r.sp < 2 ^ 16
-    → AreReady revw_form r mem p ps → AllShown (below 6 r.sp) (rules_read revw_form r p ps)
-    → length (elements_of revw_form p ps) ≡ suc (length cs)
+    → AreReady revw_operands r mem p ps → AllShown (below 6 r.sp) (rules_read revw_operands r p ps)
+    → length (elements_of revw_operands p ps) ≡ suc (length cs)
     → EndsWith revw flags cs (state_of r t mem)
-    × IsLike (cut_run revw flags cs (state_of r t mem)) (rules_whole revw_form flags r t mem p ps)
+    × IsLike (cut_run revw flags cs (state_of r t mem)) (rules_whole revw_operands flags r t mem p ps)
 
 abbrev pub WavOverCuts : Type 0
 WavOverCuts =

@@ -4,7 +4,8 @@ use Rattle.std.specs.Prelude.{◌≡◌, ℕ, suc, ◌-◌, ◌^◌, ◌<◌, Bo
 use Rattle.cpu12_isa.specs.Agreement.{AllShown}
 use Rattle.cpu12_parts.specs.{State.State, Averages.wav_read, Averages.wav_whole}
 use Rattle.cpu12_parts.specs.Parts.{Kind, cut_run, EndsWith}
-use Rattle.cpu12_parts.specs.Rules.{Rule, Form, rev_form, revw_form, elements_of, rules_read, rules_written, AreReady}
+use Rattle.cpu12_parts.specs.Rules.{Rule, RuleOperands, rev_operands, revw_operands, elements_of, rules_read}
+use Rattle.cpu12_parts.specs.Rules.{rules_written, AreReady}
 use Rattle.cpu12_parts.specs.Rules.{rules_whole}
 use Rattle.cpu12_parts.specs.Laws.{PartsTo, below, IsLike, IsOff}
 
@@ -14,7 +15,7 @@ abbrev pub Whole : Type 1
 Whole = ℕ → ℕ → List ℕ → List ℕ → State → State → Type 0
 
 -- REV and REVW, whose rules stand in memory
-pub record WholeRules (f : State → Form) (flags d : ℕ) (reads writes : List ℕ) (s t : State) : Type 0 where
+pub record WholeRules (f : State → RuleOperands) (flags d : ℕ) (reads writes : List ℕ) (s t : State) : Type 0 where
   pub rule : Rule
   pub rules : List Rule
   pub flags_fit : flags < 2 ^ 8
@@ -26,10 +27,10 @@ pub record WholeRules (f : State → Form) (flags d : ℕ) (reads writes : List 
   pub leads : t ≡ rules_whole (f s) flags s.regs s.temps s.mem rule rules
 
 abbrev pub whole_rev : Whole
-whole_rev = WholeRules (λ s. rev_form s.regs.y)
+whole_rev = WholeRules (λ s. rev_operands s.regs.y)
 
 abbrev pub whole_revw : Whole
-whole_revw = WholeRules (λ s. revw_form)
+whole_revw = WholeRules (λ s. revw_operands)
 
 -- WAV, which writes nothing
 pub record WholeAverage (flags d : ℕ) (reads writes : List ℕ) (s t : State) : Type 0 where

@@ -1,5 +1,5 @@
--- One part of REV, REVW and WAV: one element of its list; the sums of WAV; and the boundaries between two parts where an
--- interrupt may cut in (CPU12 Reference Manual, sections 9.5 and 9.6).
+-- One part of REV, REVW and WAV: one element of its list; the sums of WAV; and the boundaries between two parts where
+-- an interrupt may cut in (CPU12 Reference Manual, sections 9.5 and 9.6).
 -- Reached by the promise.
 use Rattle.std.specs.Prelude.{ℕ, ◌+◌, ◌-◌, ◌*◌, ◌/◌, ◌%◌, ◌^◌, ◌==◌, min, max, true, false, if◌then◌else◌, [], ◌∷◌}
 use Rattle.cpu12_isa.specs.declared.instr.Regs.{Regs}

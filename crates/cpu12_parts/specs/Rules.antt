@@ -15,7 +15,7 @@ pub record Rule : Type 0 where
 
 -- How a list lies in memory: the bytes of an element, the element that stands at an address, the element that parts
 -- and that which ends, the byte that an element names, whether weights are read, and the flags that are left open.
-pub record Form : Type 0 where
+pub record RuleOperands : Type 0 where
   pub size : ℕ
   pub element : List ℕ → ℕ → ℕ
   pub separator : ℕ
@@ -25,8 +25,8 @@ pub record Form : Type 0 where
   pub mask : ℕ
 
 -- REV's list has offsets from Y
-abbrev pub rev_form : ℕ → Form
-rev_form y = record {
+abbrev pub rev_operands : ℕ → RuleOperands
+rev_operands y = record {
   size = 1;
   element = slice_index;
   separator = 254;
@@ -37,8 +37,8 @@ rev_form y = record {
 }
 
 -- REVW's has addresses
-abbrev pub revw_form : Form
-revw_form = record {
+abbrev pub revw_operands : RuleOperands
+revw_operands = record {
   size = 2;
   element = λ mem x. word_of (slice_index mem x) (slice_index mem (plus x 1));
   separator = 65534;
@@ -49,29 +49,29 @@ revw_form = record {
 }
 
 -- the elements of rules, of which p is the first
-abbrev pub further_elements : Form → List Rule → List ℕ
+abbrev pub further_elements : RuleOperands → List Rule → List ℕ
 further_elements f [] = f.stop ∷ []
 further_elements f (p ∷ ps) = f.separator ∷ (p.antecedents ++ (f.separator ∷ (p.conclusions ++ further_elements f ps)))
 
-abbrev pub elements_of : Form → Rule → List Rule → List ℕ
+abbrev pub elements_of : RuleOperands → Rule → List Rule → List ℕ
 elements_of f p ps = p.antecedents ++ (f.separator ∷ (p.conclusions ++ further_elements f ps))
 
 -- these elements stand in memory from x on, also over its end
-abbrev pub Listed : Form → List ℕ → ℕ → List ℕ → Type 0
+abbrev pub Listed : RuleOperands → List ℕ → ℕ → List ℕ → Type 0
 Listed f mem x [] = Unit {0}
 Listed f mem x (e ∷ es) = (f.element mem x ≡ e) × Listed f mem (plus x f.size) es
 
 -- the address behind elements
-abbrev pub behind : Form → ℕ → List ℕ → ℕ
+abbrev pub behind : RuleOperands → ℕ → List ℕ → ℕ
 behind f x [] = x
 behind f x (e ∷ es) = behind f (plus x f.size) es
 
 -- elements that name bytes
-abbrev pub AreNames : Form → List ℕ → Type 0
+abbrev pub AreNames : RuleOperands → List ℕ → Type 0
 AreNames f [] = Unit {0}
 AreNames f (e ∷ es) = (e < f.separator) × AreNames f es
 
-abbrev pub AreRules : Form → List Rule → Type 0
+abbrev pub AreRules : RuleOperands → List Rule → Type 0
 AreRules f [] = Unit {0}
 AreRules f (p ∷ ps) = AreNames f p.antecedents × AreNames f p.conclusions × AreRules f ps
 
@@ -89,34 +89,34 @@ behind_weights true y (p ∷ ps) = behind_weights true (plus y 1) ps
 behind_weights false y ps = y
 
 -- the least of t and the antecedents' bytes
-abbrev pub least : Form → List ℕ → ℕ → List ℕ → ℕ
+abbrev pub least : RuleOperands → List ℕ → ℕ → List ℕ → ℕ
 least f mem t [] = t
 least f mem t (e ∷ es) = least f mem (min t (slice_index mem (f.place e))) es
 
 -- the strength of a rule: the least of its antecedents' bytes and 255, cut by its weight
-abbrev pub strength : Form → List ℕ → Rule → ℕ
+abbrev pub strength : RuleOperands → List ℕ → Rule → ℕ
 strength f mem p = weighted (least f mem 255 p.antecedents) p.weight
 
 -- each conclusion's byte is raised to t
-abbrev pub raised : Form → ℕ → List ℕ → List ℕ → List ℕ
+abbrev pub raised : RuleOperands → ℕ → List ℕ → List ℕ → List ℕ
 raised f t mem [] = mem
 raised f t mem (e ∷ es) = raised f t (slice_set mem (f.place e) (max (slice_index mem (f.place e)) t)) es
 
 -- the memory after one rule
-abbrev pub concluded : Form → List ℕ → Rule → List ℕ
+abbrev pub concluded : RuleOperands → List ℕ → Rule → List ℕ
 concluded f mem p = raised f (strength f mem p) mem p.conclusions
 
 -- the memory after all rules, and the strength of the last
-abbrev pub all_concluded : Form → List ℕ → Rule → List Rule → List ℕ
+abbrev pub all_concluded : RuleOperands → List ℕ → Rule → List Rule → List ℕ
 all_concluded f mem p [] = concluded f mem p
 all_concluded f mem p (q ∷ qs) = all_concluded f (concluded f mem p) q qs
 
-abbrev pub last_strength : Form → List ℕ → Rule → List Rule → ℕ
+abbrev pub last_strength : RuleOperands → List ℕ → Rule → List Rule → ℕ
 last_strength f mem p [] = strength f mem p
 last_strength f mem p (q ∷ qs) = last_strength f (concluded f mem p) q qs
 
 -- the bytes of elements from x on
-abbrev pub element_bytes : Form → ℕ → List ℕ → List ℕ
+abbrev pub element_bytes : RuleOperands → ℕ → List ℕ → List ℕ
 element_bytes f x [] = []
 element_bytes f x (e ∷ es) = from x f.size ++ element_bytes f (plus x f.size) es
 
@@ -127,24 +127,24 @@ weight_bytes true y (p ∷ ps) = y ∷ weight_bytes true (plus y 1) ps
 weight_bytes false y ps = []
 
 -- the bytes that elements name
-abbrev pub named : Form → List ℕ → List ℕ
+abbrev pub named : RuleOperands → List ℕ → List ℕ
 named f [] = []
 named f (e ∷ es) = f.place e ∷ named f es
 
-abbrev pub rules_named : Form → List Rule → List ℕ
+abbrev pub rules_named : RuleOperands → List Rule → List ℕ
 rules_named f [] = []
 rules_named f (p ∷ ps) = named f p.antecedents ++ (named f p.conclusions ++ rules_named f ps)
 
-abbrev pub rules_target : Form → List Rule → List ℕ
+abbrev pub rules_target : RuleOperands → List Rule → List ℕ
 rules_target f [] = []
 rules_target f (p ∷ ps) = named f p.conclusions ++ rules_target f ps
 
 -- what the whole instruction reads and writes
-abbrev pub rules_read : Form → Regs → Rule → List Rule → List ℕ
+abbrev pub rules_read : RuleOperands → Regs → Rule → List Rule → List ℕ
 rules_read f r p ps =
     element_bytes f r.x (elements_of f p ps) ++ (rules_named f (p ∷ ps) ++ weight_bytes (f.weighs r.ccr) r.y (p ∷ ps))
 
-abbrev pub rules_written : Form → Rule → List Rule → List ℕ
+abbrev pub rules_written : RuleOperands → Rule → List Rule → List ℕ
 rules_written f p ps = rules_target f (p ∷ ps)
 
 -- no address of one list is in the other
@@ -157,7 +157,7 @@ AreApart [] ats = Unit {0}
 AreApart (k ∷ ks) ats = NotIn k ats × AreApart ks ats
 
 -- where the whole instruction is defined: the rules stand at X, and no conclusion is a byte of the list or of a weight
-pub record AreReady (f : Form) (r : Regs) (mem : List ℕ) (p : Rule) (ps : List Rule) : Type 0 where
+pub record AreReady (f : RuleOperands) (r : Regs) (mem : List ℕ) (p : Rule) (ps : List Rule) : Type 0 where
   pub a : r.a ≡ 255
   pub v : has r.ccr overflow ≡ false
   pub rules : AreRules f (p ∷ ps)
@@ -167,7 +167,7 @@ pub record AreReady (f : Form) (r : Regs) (mem : List ℕ) (p : Rule) (ps : List
   pub weights_stay : AreApart (rules_written f p ps) (weight_bytes (f.weighs r.ccr) r.y (p ∷ ps))
 
 -- the state after it
-abbrev pub rules_whole : Form → ℕ → Regs → Temps → List ℕ → Rule → List Rule → State
+abbrev pub rules_whole : RuleOperands → ℕ → Regs → Temps → List ℕ → Rule → List Rule → State
 rules_whole f flags r t mem p ps = record {
   regs = record r {
     a = last_strength f mem p ps;

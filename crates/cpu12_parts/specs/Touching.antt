@@ -4,7 +4,7 @@ use Rattle.std.specs.Prelude.{◌≡◌, ℕ, ◌+◌, ◌<◌, ◌≤◌, ◌�
 use Rattle.cpu12_isa.specs.declared.{instr.Instr.Instr, instr.Instr.TheVariants.Rev, instr.Instr.TheVariants.Revw}
 use Rattle.cpu12_isa.specs.{Act.read_by, Fits.FitsRegs, Fits.AreBytes, Meaning.act_of, Meaning.effect}
 use Rattle.cpu12_parts.specs.{State.State, Averages.wav_read, Laws.addresses, Laws.IsOff}
-use Rattle.cpu12_parts.specs.Rules.{Rule, Form, rev_form, revw_form, rules_read, rules_written}
+use Rattle.cpu12_parts.specs.Rules.{Rule, RuleOperands, rev_operands, revw_operands, rules_read, rules_written}
 use Rattle.cpu12_parts.specs.Whole.{IsPlainStep, IsRulesStep, IsAverageStep}
 
 -- an address is one of a region's, which is where it begins and how many bytes it has; and of one of some regions
@@ -26,7 +26,7 @@ pub record IsPlainOver (R W : ℕ → Type 0) (flags : ℕ) (i : Instr) (s t : S
   pub reads : Each R (read_by (act_of flags i s.regs) s.mem)
   pub writes : Each W (addresses (effect flags i s.regs s.mem).writes)
 
-pub record IsRulesOver (R W : ℕ → Type 0) (i : Instr) (f : Form) (flags d : ℕ) (p : Rule) (ps : List Rule)
+pub record IsRulesOver (R W : ℕ → Type 0) (i : Instr) (f : RuleOperands) (flags d : ℕ) (p : Rule) (ps : List Rule)
     (s t : State) : Type 0 where
   pub step : IsRulesStep i f flags d p ps s t
   pub reads : Each R (rules_read f s.regs p ps)
@@ -40,8 +40,8 @@ pub record IsAverageOver (R : ℕ → Type 0) (flags d : ℕ) (s t : State) : Ty
 abbrev pub IsInstructionOver : (ℕ → Type 0) → (ℕ → Type 0) → ℕ → ℕ → State → State → Type 0
 IsInstructionOver R W flags d s t =
     ((i : Instr) × (IsPlainOver R W flags i s t × (d ≡ 0)))
-    ⊎ (((p : Rule) × (ps : List Rule) × IsRulesOver R W Rev (rev_form s.regs.y) flags d p ps s t)
-    ⊎ (((p : Rule) × (ps : List Rule) × IsRulesOver R W Revw revw_form flags d p ps s t)
+    ⊎ (((p : Rule) × (ps : List Rule) × IsRulesOver R W Rev (rev_operands s.regs.y) flags d p ps s t)
+    ⊎ (((p : Rule) × (ps : List Rule) × IsRulesOver R W Revw revw_operands flags d p ps s t)
     ⊎ IsAverageOver R flags d s t))
 
 -- a state between whole instructions: no sums run, and its memory and registers have their sizes

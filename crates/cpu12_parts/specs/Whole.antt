@@ -5,7 +5,7 @@ use Rattle.cpu12_isa.specs.declared.instr.Instr.{Instr}
 use Rattle.cpu12_isa.specs.declared.instr.Instr.TheVariants.{Rev, Revw, Wav}
 use Rattle.cpu12_isa.specs.{Act.write_all, Code.decode_at, Meaning.effect, Meaning.is_plain}
 use Rattle.cpu12_parts.specs.{State.State, Averages.wav_whole, Laws.IsOff}
-use Rattle.cpu12_parts.specs.Rules.{Rule, Form, rev_form, revw_form, elements_of, AreReady, rules_whole}
+use Rattle.cpu12_parts.specs.Rules.{Rule, RuleOperands, rev_operands, revw_operands, elements_of, AreReady, rules_whole}
 
 -- the state after a plain instruction
 abbrev pub after_plain : ℕ → Instr → State → State
@@ -26,7 +26,8 @@ PlainExecution flags at (suc n) s t =
     (u : State) × ((s.regs.pc ≢ at) × ((i : Instr) × IsPlainStep flags i s u) × PlainExecution flags at n u t)
 
 -- REV or REVW stands at PC with its rules, and leads from s to t by d parts more than one
-pub record IsRulesStep (i : Instr) (f : Form) (flags d : ℕ) (p : Rule) (ps : List Rule) (s t : State) : Type 0 where
+pub record IsRulesStep (i : Instr) (f : RuleOperands) (flags d : ℕ) (p : Rule) (ps : List Rule) (s t : State)
+    : Type 0 where
   pub decoded : decode_at s.mem s.regs.pc ≡ Ok i
   pub ready : AreReady f s.regs s.mem p ps
   pub parts : length (elements_of f p ps) ≡ suc d
@@ -43,6 +44,6 @@ pub record IsAverageStep (flags d : ℕ) (s t : State) : Type 0 where
 abbrev pub IsWholeStep : ℕ → ℕ → State → State → Type 0
 IsWholeStep flags d s t =
     ((i : Instr) × (IsPlainStep flags i s t × (d ≡ 0)))
-    ⊎ (((p : Rule) × (ps : List Rule) × IsRulesStep Rev (rev_form s.regs.y) flags d p ps s t)
-    ⊎ (((p : Rule) × (ps : List Rule) × IsRulesStep Revw revw_form flags d p ps s t)
+    ⊎ (((p : Rule) × (ps : List Rule) × IsRulesStep Rev (rev_operands s.regs.y) flags d p ps s t)
+    ⊎ (((p : Rule) × (ps : List Rule) × IsRulesStep Revw revw_operands flags d p ps s t)
     ⊎ IsAverageStep flags d s t))

@@ -49,7 +49,7 @@ pub trait Resumable {
         ensures regs { r.new ≡ (outcome (act self.now flags r.old t.old) (M.bytes m.old)).regs }
         ensures mem { M.bytes m.new ≡ write_all (outcome (act self.now flags r.old t.old)
             (M.bytes m.old)).writes (M.bytes m.old) }
-        ensures noted { M.noted m.new ≡ M.noted m.old }
+        ensures tags { M.tags m.new ≡ M.tags m.old }
         ensures temps { t.new ≡ (outcome (act self.now flags r.old t.old) (M.bytes m.old)).temps }
         ensures end { result ≡ (outcome (act self.now flags r.old t.old) (M.bytes m.old)).end };
 
@@ -58,7 +58,7 @@ pub trait Resumable {
         ensures regs { r.new ≡ (outcome (push self.now r.old t.old) (M.bytes m.old)).regs }
         ensures mem { M.bytes m.new ≡ write_all (outcome (push self.now r.old t.old)
             (M.bytes m.old)).writes (M.bytes m.old) }
-        ensures noted { M.noted m.new ≡ M.noted m.old }
+        ensures tags { M.tags m.new ≡ M.tags m.old }
         ensures temps { t.new ≡ (outcome (push self.now r.old t.old) (M.bytes m.old)).temps };
 
     /// Pulls what was kept between parts.
@@ -66,7 +66,7 @@ pub trait Resumable {
         ensures regs { r.new ≡ (outcome (pull self.now r.old t.old) (M.bytes m.old)).regs }
         ensures mem { M.bytes m.new ≡ write_all (outcome (pull self.now r.old t.old)
             (M.bytes m.old)).writes (M.bytes m.old) }
-        ensures noted { M.noted m.new ≡ M.noted m.old }
+        ensures tags { M.tags m.new ≡ M.tags m.old }
         ensures temps { t.new ≡ (outcome (pull self.now r.old t.old) (M.bytes m.old)).temps };
 
     /// `resume` restores what `suspend` pushed: all is as it was, except for the six bytes below SP.

@@ -2,7 +2,7 @@
 use Rattle.handler_check.proofs.Words.{◌<◌, ◌==◌, ◌≡◌, ◌≤◌, ◌⊎◌, ap, arith, Bool, false, false≢true, get_or, given}
 use Rattle.handler_check.proofs.Words.{inl, inr, Instr, is_allowed, Kind, kind_of, LdaaImmediate, List, refl, Returns}
 use Rattle.handler_check.proofs.Words.{Rti, size_of, StandsAt, true, ℕ}
-use Rattle.cpu12_isa.specs.declared.instr.Instr.TheVariants.{Rev, Revw, Wav, Wavr}
+use Rattle.std.proofs.Common.{rules}
 use Rattle.cpu12_isa.specs.{Meaning.is_plain}
 
 -- whether an instruction is allowed and is not RTI
@@ -19,11 +19,8 @@ first_byte mem pc Rti a s = absurd (false≢true a)
 first_byte mem pc i a s = ap (λ (k : ℕ). k == 11) s.0
 
 pub plain_of : (i : Instr) → is_stepping i ≡ true → is_plain i ≡ true
-plain_of Rev h = h
-plain_of Revw h = h
-plain_of Wav h = h
-plain_of Wavr h = h
-plain_of i h = refl
+plain_of (LdaaImmediate v) h = refl
+plain_of i h = search rules
 
 pub size_low : (i : Instr) → (0 < size_of i) × (size_of i ≤ 6)
 size_low (LdaaImmediate v) = (omega arith, omega arith)

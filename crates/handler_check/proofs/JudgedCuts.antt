@@ -7,9 +7,9 @@ use Rattle.handler_check.proofs.Words.{unwrap_or, zero, ℕ}
 use Rattle.std.specs.Prelude.{Err}
 use Rattle.std.proofs.Common.{append_assoc}
 use Rattle.std.proofs.lemmas.List.{append-nil}
-use Rattle.cpu12_isa.specs.declared.form.Operand.{Operand}
-use Rattle.cpu12_isa.specs.declared.form.Operand.TheVariants.{Byte, Offset, Word, Address, ByteToAddress, AddressToAddress}
-use Rattle.cpu12_isa.specs.Forms.{FitsOperand, form_of}
+use Rattle.cpu12_isa.specs.declared.encodings.Operand.{Operand}
+use Rattle.cpu12_isa.specs.declared.encodings.Operand.TheVariants.{Byte, Offset, Word, Address, ByteToAddress, AddressToAddress}
+use Rattle.cpu12_isa.specs.Encodings.{FitsOperand, encoding_of}
 use Rattle.handler_check.specs.{Images.IsRun}
 use Rattle.handler_check.proofs.{Decoding.size_low, Places.bytes-push, Places.fits-push, Extents.below_run}
 use Rattle.handler_check.proofs.{Extents.has_bytes}
@@ -70,7 +70,7 @@ module _ (decodes : DecodesEncoded) (image : List (ℕ × ℕ)) (m : List ℕ) (
         where
           none : StandsThere image at → ⊥
           none (i, (fits, gives)) = let f = decoded i fits gives in cc
-      by_decoding (Ok i) e = elim (both_or (fits_or (form_of i).operand) (gives_or image at (encode_of i))) [
+      by_decoding (Ok i) e = elim (both_or (fits_or (encoding_of i).operand) (gives_or image at (encode_of i))) [
         | inl there ↦ inl (i, there)
         | inr none ↦ inr (not_there i e none)
       ]

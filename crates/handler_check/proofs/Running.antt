@@ -1,16 +1,17 @@
 -- An accepted handler runs to its RTI.
-use Rattle.handler_check.proofs.Words.{[], ◌++◌, ◌+◌, ◌<◌, ◌==◌, ◌∙◌, ◌∷◌, ◌≡◌, ◌≤◌, act_of, addresses, Agree, AllFit}
-use Rattle.handler_check.proofs.Words.{ap, applied, AreOpen, arith, bit, Bool, code_bytes, effect, false, FitsHeight}
+use Rattle.handler_check.proofs.Words.{[], ◌++◌, ◌+◌, ◌<◌, ◌==◌, ◌∙◌, ◌∷◌, ◌≡◌, ◌≤◌, Agree, AllFit, ap, applied}
+use Rattle.handler_check.proofs.Words.{AreOpen, arith, bit, Bool, code_bytes, effect, false, false≢true, FitsHeight}
 use Rattle.handler_check.proofs.Words.{FitsOperands, get_or, HasCode, height_after, inl, inr, Instr, is_free}
 use Rattle.handler_check.proofs.Words.{IsAccepted, IsAt, IsFrom, IsIn, IsOff, LdaaImmediate, leads, Left, length}
 use Rattle.handler_check.proofs.Words.{List, May, Next, next_of, Ok, pairs_of, Path, Plain, Psha, Pula, refl, Result}
 use Rattle.handler_check.proofs.Words.{Rti, size_of, StandsAt, State, subst, suc, sym, Temps, true, Write, write_all}
 use Rattle.handler_check.proofs.Words.{written_by, zero, ℕ}
-use Rattle.cpu12_isa.specs.{Meaning.Effect}
+use Rattle.std.proofs.Common.{rules}
+use Rattle.cpu12_isa.specs.declared.{instr.Regs.Regs, instr.Instr.TheVariants.JsrExtended, instr.Instr.TheVariants.Mem}
+use Rattle.cpu12_isa.specs.{Plain.sp_behind, Plain.written_by as written_at}
 use Rattle.handler_check.proofs.{Grounds.Grounds, Places.within, Back.ToRti}
 use Rattle.handler_check.proofs.Decoding.{is_stepping, first_byte, plain_of, size_low, rti_or}
-use Rattle.handler_check.proofs.Acts.{Always, always_outcome, there, sp_after, sp_moves, written_at, writes_are}
-use Rattle.handler_check.proofs.Acts.{height_after-low, pc_leads, leads_on, x_kept}
+use Rattle.handler_check.proofs.Acts.{height_after-low, pc_leads, leads_on, keeps_of}
 use Rattle.handler_check.proofs.Bytes.{under, IsFine, AllFine, fine_by, shadow, code_stays, write_append, open_append}
 
 -- the state at a place, with h bytes pushed: base is SP without them, t the sums, x the X flag, m the memory with free
@@ -44,19 +45,22 @@ fits_at start (j ∷ js) at i f w =
     elim w [ inl e ↦ subst FitsOperands (sym e.1) f.0 | inr k ↦ fits_at (start + size_of j) js at i f.1 k ]
 
 -- SP and the height
-sp_goes : (base : ℕ) (i : Instr) (sp h : ℕ) → FitsHeight i h → 8175 ≤ base → base ≤ 8192 → h ≤ 15 → sp + h ≡ base
-    → sp_after i sp + height_after i h ≡ base
-sp_goes base (LdaaImmediate v) sp h f lo hi l e = e
-sp_goes base Psha sp h f lo hi l e = omega arith
-sp_goes base Pula sp h f lo hi l e = omega arith
-sp_goes base i sp h f lo hi l e = e
+sp_goes : (base : ℕ) (i : Instr) (sp h : ℕ) → is_stepping i ≡ true → FitsHeight i h → 8175 ≤ base → base ≤ 8192
+    → h ≤ 15 → sp + h ≡ base → sp_behind i sp + height_after i h ≡ base
+sp_goes base (LdaaImmediate v) sp h p f lo hi l e = e
+sp_goes base Psha sp h p f lo hi l e = omega arith
+sp_goes base Pula sp h p f lo hi l e = omega arith
+sp_goes base i sp h p f lo hi l e = search rules
 
 -- what it writes is free or below SP
-fine_at : (base : ℕ) (i : Instr) (sp h : ℕ) → ((at : ℕ) → IsIn (written_by i) at → is_free at ≡ true) → FitsHeight i h
-    → 8175 ≤ base → base ≤ 8192 → sp + h ≡ base → (at : ℕ) → IsIn (written_at i sp) at → IsFine base at
-fine_at base (LdaaImmediate v) sp h f g lo hi e at w = absurd w
-fine_at base Psha sp h f g lo hi e at w = elim w [ inl k ↦ inr (omega arith, omega arith) | inr k ↦ absurd k ]
-fine_at base i sp h f g lo hi e at w = inl (f at w)
+fine_at : (base : ℕ) (i : Instr) (r : Regs) (h : ℕ) → is_stepping i ≡ true
+    → ((at : ℕ) → IsIn (written_by i) at → is_free at ≡ true) → FitsHeight i h → 8175 ≤ base → base ≤ 8192
+    → r.sp + h ≡ base → (at : ℕ) → IsIn (written_at i r) at → IsFine base at
+fine_at base (LdaaImmediate v) r h p f g lo hi e at w = absurd w
+fine_at base Psha r h p f g lo hi e at w = elim w [ inl k ↦ inr (omega arith, omega arith) | inr k ↦ absurd k ]
+fine_at base (JsrExtended to) r h p f g lo hi e at w = absurd (false≢true p)
+fine_at base Mem r h p f g lo hi e at w = absurd (false≢true p)
+fine_at base i r h p f g lo hi e at w = inl (f at w)
 
 -- one step
 record Onward (is : List Instr) (flags base : ℕ) (t : Temps) (x : Bool) (at h : ℕ) (i : Instr) (s : State)
@@ -78,7 +82,6 @@ step_on k is instrs flags base t x acc o lo hi at h i s m st w may low p =
     let off : IsOff s.temps = subst IsOff (sym st.temps) o in
     let step = k.plain_is_step flags i s off (k.decodes s.mem s.regs.pc i (fits_at 16384 is at i acc.fits w) stands)
     (plain_of i p) in
-    let e : Effect = effect flags i s.regs s.mem in
     let next : Next = record {
       state = record {
         regs = (effect flags i s.regs s.mem).regs;
@@ -92,38 +95,25 @@ step_on k is instrs flags base t x acc o lo hi at h i s m st w may low p =
     let ends = acc.ends in
     let size = size_low i in
     let under : at < 20480 = omega (arith, r.1, size.0) in
-    let act = act_of flags i s.regs in
-    let sp : (effect flags i s.regs s.mem).regs.sp ≡ sp_after i s.regs.sp =
-    always_outcome (λ e. e.regs.sp ≡ sp_after i s.regs.sp) (act_of flags i s.regs) s.mem
-    (there (is_stepping i) (Always (λ e. e.regs.sp ≡ sp_after i s.regs.sp) (act_of flags i s.regs))
-    (sp_moves flags i s.regs) p) in
-    let at_them : addresses (effect flags i s.regs s.mem).writes ≡ written_at i s.regs.sp =
-    always_outcome (λ e. addresses e.writes ≡ written_at i s.regs.sp) (act_of flags i s.regs) s.mem
-    (there (is_stepping i) (Always (λ e. addresses e.writes ≡ written_at i s.regs.sp) (act_of flags i s.regs))
-    (writes_are flags i s.regs) p) in
-    let flag : bit (effect flags i s.regs s.mem).regs.ccr.0 6 ≡ bit s.regs.ccr.0 6 =
-    always_outcome (λ e. bit e.regs.ccr.0 6 ≡ bit s.regs.ccr.0 6) (act_of flags i s.regs) s.mem
-    (there (is_stepping i) (Always (λ e. bit e.regs.ccr.0 6 ≡ bit s.regs.ccr.0 6) (act_of flags i s.regs))
-    (x_kept flags i s.regs) p) in
+    let left = k.leaves flags i s.regs s.mem (plain_of i p) in
     let fine : AllFine base (effect flags i s.regs s.mem).writes =
     fine_by base (effect flags i s.regs s.mem).writes
-    (λ a k. fine_at base i s.regs.sp h may.free may.height lo hi st.sp a
-    (subst (λ (l : List ℕ). IsIn l a) at_them k)) in
+    (λ a k. fine_at base i s.regs h p may.free may.height lo hi st.sp a
+    (subst (λ (l : List ℕ). IsIn l a) left.writes k)) in
     let sh = shadow k.writes_agree base (effect flags i s.regs s.mem).writes s.mem m st.mem fine in
-    let height : sp_after i s.regs.sp + height_after i h ≡ base =
-    sp_goes base i s.regs.sp h may.height lo hi low st.sp in
     record {
       next = next;
       goes = ap (λ (o : Result Left ℕ). applied o s.mem) step.0;
       byte = first_byte s.mem s.regs.pc i p stands;
       writes = sh.writes;
       free = sh.free;
-      leads = pc_leads flags i s.regs s.mem at p may.forward st.pc under;
+      leads = pc_leads k.leaves flags i s.regs s.mem at p may.forward st.pc under;
       stage = record {
         pc = refl;
-        sp = ap (λ (k : ℕ). k + height_after i h) sp ∙ height;
+        sp = ap (λ (k : ℕ). k + height_after i h) left.sp
+            ∙ sp_goes base i s.regs.sp h p may.height lo hi low st.sp;
         temps = st.temps;
-        flag = flag ∙ st.flag;
+        flag = left.x (keeps_of i p) ∙ st.flag;
         code = code_stays base (effect flags i s.regs s.mem).writes s.mem is hi fine acc.ends st.code;
         mem = sh.mem;
       };

@@ -3,9 +3,8 @@ pub use Rattle.cpu12_emul.specs.Step.{Left, Next, applied, next_of}
 pub use Rattle.cpu12_isa.proofs.Algebra.{bit, bit_and_is, bit_or_is, unwritten}
 pub use Rattle.cpu12_isa.specs.Code.{Begins, DecodesEncoded, FitsOperands, StandsAt, decode_at, encode_of, six_from}
 pub use Rattle.cpu12_isa.specs.Memory.{bytes_at, placed, plus, word_of}
-pub use Rattle.cpu12_isa.specs.declared.instr.Instr.TheVariants.{Bcc, Bcs, Beq, Bne, Bra, ClrExtended, DecExtended}
-pub use Rattle.cpu12_isa.specs.declared.instr.Instr.TheVariants.{IncExtended, LdaaImmediate, Psha, Pula, Rti}
-pub use Rattle.cpu12_isa.specs.declared.instr.Instr.TheVariants.{StaaExtended, StabExtended}
+pub use Rattle.cpu12_isa.specs.declared.instr.Instr.TheVariants.{Bcc, Bcs, Beq, Bne, Bra}
+pub use Rattle.cpu12_isa.specs.declared.instr.Instr.TheVariants.{LdaaImmediate, Psha, Pula, Rti}
 pub use Rattle.handler_check.specs.Cut.{AllFit, HasCode, IsAt, IsFrom, code_bytes, code_end, code_limit, code_start}
 pub use Rattle.handler_check.specs.Cut.{size_of}
 pub use Rattle.handler_check.specs.Faults.{Applies, IsFirst, IsFirstFault, Meets, place_of, rank}
@@ -30,7 +29,7 @@ pub use Rattle.cpu12_asm.specs.{Bytes.byte_at}
 pub use Rattle.cpu12_emul.specs.{Simulation.AreOpen, Simulation.TakesQuietly, Take.framed, Take.pairs_of}
 pub use Rattle.cpu12_emul.specs.{Take.returned, declared.ends.Stepped.TheVariants.Plain}
 pub use Rattle.cpu12_isa.specs.{Act.write_all, Agreement.Agree, Agreement.IsWritten, Agreement.WritesAgree}
-pub use Rattle.cpu12_isa.specs.{Meaning.act_of, Meaning.effect, Regions.is_free, Regions.is_hidden}
+pub use Rattle.cpu12_isa.specs.{Meaning.effect, Regions.is_free, Regions.is_hidden}
 pub use Rattle.cpu12_isa.specs.{Registers.frame_bytes, Registers.pulled, declared.instr.Ccr.Ccr}
 pub use Rattle.cpu12_isa.specs.{declared.instr.Instr.Instr, declared.instr.Regs.Regs, declared.instr.Write.Write}
 pub use Rattle.cpu12_parts.specs.{Laws.IsOff, Laws.addresses, State.State, declared.temps.Temps.Temps}

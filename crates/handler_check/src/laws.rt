@@ -3,7 +3,7 @@ ghost use Rattle.handler_check.specs.Images.{HandlersHaveNoFault, FaultsAreOne, 
 ghost use Rattle.handler_check.specs.Running.{AcceptedIsTake, HandlersRunAsTakes, HandlersAreQuiet, HandlersAreShort};
 
 use cpu12_emul::laws::{holds_image, plain_is_step, takes_quietly};
-use cpu12_isa::laws::{decodes_encoded, writes_agree};
+use cpu12_isa::laws::{decodes_encoded, plain_instructions_leave, writes_agree};
 use cpu12_parts::laws::wav_suspends;
 
 /// Accepted code, entered while no sums are running, leaves what some writes to free bytes leave.
@@ -12,6 +12,7 @@ pub fn accepted_is_take()
 {
     decodes_encoded();
     writes_agree();
+    plain_instructions_leave();
     plain_is_step();
     takes_quietly();
 }

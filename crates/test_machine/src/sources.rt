@@ -2,7 +2,7 @@
 use cpu12_asm::{AsmFault, assemble};
 use std::test::Fail;
 
-/// Each form once, from `$C000`.
+/// Each encoding once, from `$C000`.
 static EACH_FORM: &'static str =
     " ORG $C000\n LDAA #$12\n LDAA $3456\n LDAB #$12\n LDAB $3456\n LDX #$3456\n LDY #$3456\n \
     LDS #$3456\n STAA $3456\n STAB $3456\n CLR $3456\n COMA\n CPX #$3456\nL1 BEQ L1\nL2 BNE L2+2\n \

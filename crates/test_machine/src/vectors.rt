@@ -1,4 +1,4 @@
-//! One vector for each form of an instruction, and more where flags differ. The values are those of the
+//! One vector for each encoding of an instruction, and more where flags differ. The values are those of the
 //! CPU12 Reference Manual's tables and Boolean formulas, worked out by hand and by a separate program.
 use cpu12_isa::instr::{Ccr, Regs};
 

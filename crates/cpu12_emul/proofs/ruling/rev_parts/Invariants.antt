@@ -8,7 +8,7 @@ invariant-loop-done g l = record {
   ruled : Ruled 0x3A l.fn.flags (state_of l.fn.regs l.fn.temps (g.M.Mem.bytes l.fn.m))
       (state_of l.r l.fn.temps (g.M.Mem.bytes l.m)) l.done;
   within : l.done ≤ l.fn.most;
-  noted : g.M.Mem.noted l.m ≡ g.M.Mem.noted l.fn.m;
+  tags : g.M.Mem.tags l.m ≡ g.M.Mem.tags l.fn.m;
 }
 
 abbrev pub decreases-loop-done : goal.decreases-loop-done

@@ -16,4 +16,4 @@ loop-done-preserved g c =
     let ruled : Ruled 0x3B a.flags s u (l.done + 1) =
     Ruled-then 0x3B a.flags s t u l.done 1 c.requires.off l.invariant.ruled
     (Ruled-part a.flags t u.regs u.mem law on c.part.ensures.regs c.part.ensures.mem) in
-    record { ruled = ruled; within = omega arith; noted = c.part.ensures.noted ∙ l.invariant.noted }
+    record { ruled = ruled; within = omega arith; tags = c.part.ensures.tags ∙ l.invariant.tags }

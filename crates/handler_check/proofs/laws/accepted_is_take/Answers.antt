@@ -6,5 +6,6 @@ returns c = accepted_is_take (record {
   decodes = c.decodes_encoded.ensures;
   writes_agree = c.writes_agree.ensures;
   plain_is_step = c.plain_is_step.ensures;
+  leaves = c.plain_instructions_leave.ensures.tables;
   takes_quietly = c.takes_quietly.ensures;
 })

@@ -20,5 +20,5 @@ loop-at-preserved g c =
           ∙ ap (λ (l : List (ℕ × ℕ)). unwrap_or (byte_at l q) (get_or (g.M.Mem.bytes c.loop-at.m) q 0)) (sym parts)
           ∙ c.loop-at.invariant.same q;
       ascending = IsAscending-rest b c.next.new.self above;
-      noted = c.write.ensures.noted ∙ c.loop-at.invariant.noted;
+      tags = c.write.ensures.tags ∙ c.loop-at.invariant.tags;
     }

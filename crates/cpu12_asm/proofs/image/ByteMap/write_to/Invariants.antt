@@ -8,5 +8,5 @@ invariant-loop-at g l = record {
   same : (q : ℕ) → unwrap_or (byte_at l.at-iterator q) (get_or (g.M.Mem.bytes l.m) q 0) ≡ unwrap_or
       (byte_at l.fn.self q) (get_or (g.M.Mem.bytes l.fn.m) q 0);
   ascending : IsAscending l.at-iterator;
-  noted : g.M.Mem.noted l.m ≡ g.M.Mem.noted l.fn.m;
+  tags : g.M.Mem.tags l.m ≡ g.M.Mem.tags l.fn.m;
 }

@@ -1,5 +1,5 @@
-use Rattle.std.proofs.Common.{◌≡◌, ℕ, false, Ok, arith, ap, sym, ◌∙◌}
-use Rattle.cpu12_emul.specs.{Step.Next, Step.next_of, Run.is_at_rest}
+use Rattle.std.proofs.Common.{◌≡◌, false, Ok, arith, ap, sym, ◌∙◌}
+use Rattle.cpu12_emul.specs.{Step.Next, Step.Whole, Step.next_of, Run.is_at_rest}
 use Rattle.cpu12_emul.proofs.Runs.{StepsTo-more}
 use Rattle.cpu12_emul.proofs.machine.Machine.run.Goals as goal
 
@@ -10,10 +10,10 @@ loop-budget-preserved g c =
     let next : Next = record { state = c.step.new.self.state; kind = c.in-Ok.field-0 } in
     let free : is_at_rest before.state ≡ false = sym c.loop-budget-test.ensures in
     let step : next_of s.flags before.state ≡ Ok next =
-    ap (λ (f : ℕ). next_of f before.state) (sym c.loop-budget.invariant.flags) ∙ c.in-Ok.ensures.next in
+    ap (λ (w : Whole). next_of w.flags before.state) (sym c.loop-budget.invariant.machine) ∙ c.in-Ok.ensures.next in
     record {
       to = StepsTo-more s.flags c.loop-budget.steps s.state before.state next c.loop-budget.invariant.to free step;
-      flags = c.step.ensures.flags ∙ c.loop-budget.invariant.flags;
-      noted = c.step.ensures.noted ∙ c.loop-budget.invariant.noted;
+      machine = c.step.ensures.machine
+          ∙ ap (λ (w : Whole). record w { state = next.state }) c.loop-budget.invariant.machine;
       within = omega arith;
     }

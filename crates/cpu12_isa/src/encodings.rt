@@ -1,6 +1,6 @@
-//! The table of instruction forms.
+//! The table of encodings.
 ghost use Rattle.std.specs.Prelude.{◌≡◌};
-ghost use Rattle.cpu12_isa.specs.Forms.{form_of};
+ghost use Rattle.cpu12_isa.specs.Encodings.{encoding_of};
 
 use crate::instr::Instr;
 use crate::mnemonic::Mnemonic;
@@ -42,17 +42,17 @@ pub enum Operand {
 
 /// A row of the table: the mnemonic, the page of the opcode or postbyte, that byte, and the operand.
 #[derive(Clone, Copy, Drop)]
-pub struct Form {
+pub struct Encoding {
     pub mnemonic: Mnemonic,
     pub page: Page,
     pub opcode: u8,
     pub operand: Operand,
 }
 
-fn row(mnemonic: Mnemonic, page: Page, opcode: u8, operand: Operand) -> Form
+fn row(mnemonic: Mnemonic, page: Page, opcode: u8, operand: Operand) -> Encoding
     ensures { result ≡ record { mnemonic = mnemonic; page = page; opcode = opcode; operand = operand } }
 {
-    Form {
+    Encoding {
         mnemonic,
         page,
         opcode,
@@ -62,8 +62,8 @@ fn row(mnemonic: Mnemonic, page: Page, opcode: u8, operand: Operand) -> Form
 
 impl Instr {
     /// The row of this instruction, with its operand.
-    pub fn form(&self) -> Form
-        ensures { result ≡ form_of self.now }
+    pub fn encoding(&self) -> Encoding
+        ensures { result ≡ encoding_of self.now }
     {
         match *self {
             Instr::LdaaImmediate(v) => row(Mnemonic::Ldaa, Page::One, 0x86, Operand::Byte(v)),
@@ -141,7 +141,7 @@ impl Instr {
     }
 }
 
-/// An instruction of each form, with all operands 0.
+/// An instruction of each encoding, with all operands 0.
 pub const EVERY: [Instr; 56] = [
     Instr::LdaaImmediate(0),
     Instr::LdaaExtended(0),
