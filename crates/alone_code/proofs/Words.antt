@@ -9,7 +9,7 @@ pub use Rattle.alone_code.specs.Turns.{IsAt, IsChoice, IsCopied, IsLook, IsMaske
 pub use Rattle.alone_code.specs.Uninterrupted.{Answer, AreAnswersOf, AreAnswersTo, values_in}
 pub use Rattle.cpu12_isa.specs.declared.instr.Instr.TheVariants.{Andcc, Beq, Bra, ClrExtended, JsrExtended}
 pub use Rattle.cpu12_isa.specs.declared.instr.Instr.TheVariants.{LdaaExtended, MovbExtended, Orcc, Rts}
-pub use Rattle.eval_code.proofs.Algebra.{SameHigh, WriteBelow, bytes_after_set, bytes_back, bytes_front}
+pub use Rattle.eval_code.proofs.Algebra.{WriteBelow, bytes_after_set, bytes_back, bytes_front}
 pub use Rattle.eval_code.proofs.Algebra.{bytes_put_out, bytes_set_out, decode_same, has_put, high_set, high_writes}
 pub use Rattle.eval_code.proofs.Algebra.{length-put, masked_four, masked_tested, same_bytes, unmasked, zero_tested}
 pub use Rattle.eval_code.specs.Data.{bytes_of_word, rule_bytes, singleton_bytes, table_bytes, weight_bytes}
@@ -26,9 +26,10 @@ pub use Rattle.byte_scaling.specs.{Widths.places, declared.width.Width.TheVarian
 pub use Rattle.byte_scaling.specs.{declared.width.Width.TheVariants.Word, declared.width.Width.Width}
 pub use Rattle.cpu12_asm.specs.{Bytes.Holds, Items.IsRising, Items.given_by, declared.items.Item.Item}
 pub use Rattle.cpu12_emul.specs.{Image.image_memory, Step.reset_with}
-pub use Rattle.cpu12_isa.specs.{Act.read_by, Agreement.Agree, Agreement.AllShown, Code.decode_at, Code.encode_of}
-pub use Rattle.cpu12_isa.specs.{Code.six_from, Fits.StaysFit, Flags.has, Meaning.act_of, Meaning.effect, Memory.plus}
-pub use Rattle.cpu12_isa.specs.{Regions.is_free, Regions.is_hidden, declared.instr.Instr.Instr}
+pub use Rattle.cpu12_isa.specs.{Act.read_by, Agreement.Agree, Agreement.AgreeFrom, Agreement.AllShown, Code.decode_at}
+pub use Rattle.cpu12_isa.specs.{Code.encode_of, Code.six_from, Fits.StaysFit, Flags.has, Meaning.act_of}
+pub use Rattle.cpu12_isa.specs.{Meaning.effect, Memory.plus, Regions.is_free, Regions.is_hidden, Regions.stack_end}
+pub use Rattle.cpu12_isa.specs.{declared.instr.Instr.Instr}
 pub use Rattle.cpu12_parts.proofs.{Algebra.execution_on, Algebra.steps_append}
 pub use Rattle.cpu12_parts.specs.{Executions.Execution, Executions.IsStepBefore, Laws.addresses, State.State}
 pub use Rattle.cpu12_parts.specs.{Touching.Each, Whole.PlainExecution, Whole.after_plain}

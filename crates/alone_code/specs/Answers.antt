@@ -28,7 +28,7 @@ IsArrived = IsArrivedBeside is_free
 
 -- a sample's bytes and READY are written
 abbrev pub given : MemoryMap → List ℕ → State → State
-given l bytes s = record s { mem = slice_set (put s.mem l.samples bytes) l.ready 1 }
+given l bytes s = record s { mem = slice_set (put s.mem l.samples bytes) l.sample_flag 1 }
 
 -- From there at most so many whole instructions lead to where the code waits again, with the answers after those
 -- before, and no more steps than that says.
@@ -66,7 +66,7 @@ FirmwareAnswers = (b : Block) (f : Firmware) → IsValid b → IsWithinLimits b 
 -- What is open to handlers leaves a memory map alone: it is neither what EVAL reads and writes, nor the stack, nor
 -- between the first byte of the code and the tables, nor the reset vector.
 pub record LeavesMapped (open_to : ℕ → Bool) (l : MemoryMap) : Type 0 where
-  pub ready : open_to l.ready ≡ false
+  pub ready : open_to l.sample_flag ≡ false
   pub reads : (at : ℕ) → Reads l at → open_to at ≡ false
   pub writes : (at : ℕ) → Writes l at → open_to at ≡ false
   pub stack : (at : ℕ) → stack_start ≤ at → at < stack_end → open_to at ≡ false

@@ -1,9 +1,9 @@
 -- EVAL called from code around it.
 -- Beside the promise.
-use Rattle.std.specs.Prelude.{◌≡◌, ℕ, ◌+◌, ◌<◌, ◌≤◌, ◌⊎◌, Bool, List, length, slice_index}
+use Rattle.std.specs.Prelude.{◌≡◌, ℕ, ◌+◌, ◌-◌, ◌<◌, ◌≤◌, ◌⊎◌, Bool, List, length, slice_index}
 use Rattle.fuzzy_meaning.specs.{declared.block.Block.Block, Blocks.IsValid}
 use Rattle.rule_layout.specs.{Layouts.IsWithinLimits, Slots.slots_of}
-use Rattle.cpu12_isa.specs.{declared.instr.Instr.TheVariants.Rts, Code.encode_of}
+use Rattle.cpu12_isa.specs.{declared.instr.Instr.TheVariants.Rts, Code.encode_of, Regions.stack_end}
 use Rattle.cpu12_parts.specs.{Executions.Execution, Executions.all_steps, State.State}
 use Rattle.eval_code.specs.{declared.memory_map.MemoryMap.MemoryMap, Bounds.instruction_bound, Bounds.step_bound}
 use Rattle.eval_code.specs.Evaluation.{HasBytes, HasEval, HasAnswers, eval_bytes}
@@ -31,7 +31,7 @@ pub record IsCalled (open_to : ℕ → Bool) (l : MemoryMap) (b : Block) (w : Wi
     (bytes : List ℕ) (before : ℕ → ℕ) (s : State) : Type 0 where
   pub interruptible : IsInterruptible open_to image s
   pub pc : s.regs.pc ≡ l.eval
-  pub sp : s.regs.sp ≡ 0x1FFE
+  pub sp : s.regs.sp ≡ stack_end - 2
   pub back_is : return_address s.mem ≡ back
   pub inputs : HasBytes s.mem l.inputs bytes
   pub outputs : HasAnswers l b w before s.mem
@@ -45,7 +45,7 @@ pub record Back (c : Setting) (b : Block) (w : Width) (back : ℕ) (bytes : List
   pub execution : Execution (IsInterruptibleStep c.open_to c.memory_map c.image c.flags) ds s t
   pub live : Live c t
   pub pc_is : t.regs.pc ≡ back
-  pub sp_is : t.regs.sp ≡ 0x2000
+  pub sp_is : t.regs.sp ≡ stack_end
   pub answers : HasAnswers c.memory_map b w (λ o. answer w b o bytes (before o)) t.mem
   pub elsewhere : (at : ℕ) → (at < c.memory_map.outputs) ⊎ (c.memory_map.outputs + 8 ≤ at)
       → (at < c.memory_map.slots) ⊎ (c.memory_map.slots + 300 ≤ at) → slice_index t.mem at ≡ slice_index s.mem at

@@ -1,9 +1,10 @@
 -- The frame of a firmware that stands alone, around whatever it calls.
 -- Beside the promise.
-use Rattle.std.specs.Prelude.{◌≡◌, ℕ, ◌+◌, ◌/◌, ◌%◌, ◌^◌, ◌<◌, ◌≤◌, ◌⊎◌, false, List, [], ◌∷◌, length, slice_index}
-use Rattle.std.specs.Prelude.{slice_set}
+use Rattle.std.specs.Prelude.{◌≡◌, ℕ, ◌+◌, ◌-◌, ◌<◌, ◌≤◌, ◌⊎◌, false, List, [], ◌∷◌, length}
+use Rattle.std.specs.Prelude.{slice_index, slice_set}
 use Rattle.fuzzy_meaning.specs.{declared.block.Block.Block, Blocks.IsValid}
-use Rattle.cpu12_isa.specs.declared.instr.Instr.{Instr}
+use Rattle.cpu12_isa.specs.{declared.instr.Instr.Instr, Memory.high_of, Memory.low_of}
+use Rattle.cpu12_isa.specs.Regions.{free_start, stack_end}
 use Rattle.cpu12_isa.specs.declared.instr.Instr.TheVariants.{LdsImmediate, ClrExtended, Andcc}
 use Rattle.cpu12_parts.specs.{Executions.Execution, Executions.all_steps, State.State}
 use Rattle.cpu12_parts.specs.Whole.{after_plain, PlainExecution}
@@ -16,28 +17,28 @@ use Rattle.alone_code.specs.Settings.{Setting, Live}
 
 -- where the code of a form starts that sets up its stack, clears the byte by which samples come and lets interrupts in
 pub record IsStarted (l : MemoryMap) : Type 0 where
-  pub low : 0x2000 ≤ l.code
+  pub low : stack_end ≤ l.code
   pub high : l.code + 2432 + 90 < 65536
   pub wait : l.wait ≡ l.code + 8
-  pub ready : l.ready < 0x1800
-  pub apart : (l.ready < l.outputs) ⊎ (l.outputs + 8 ≤ l.ready)
+  pub ready : l.sample_flag < free_start
+  pub apart : (l.sample_flag < l.outputs) ⊎ (l.outputs + 8 ≤ l.sample_flag)
 
 abbrev pub start_code : MemoryMap → List Instr
-start_code l = LdsImmediate 0x2000 ∷ ClrExtended l.ready ∷ Andcc 0xEF ∷ []
+start_code l = LdsImmediate stack_end ∷ ClrExtended l.sample_flag ∷ Andcc 0xEF ∷ []
 
 -- the state in which the code waits first, from a memory
 abbrev pub first_waiting : ℕ → MemoryMap → List ℕ → State
 first_waiting flags l m =
     after_plain flags (Andcc 0xEF)
-    (after_plain flags (ClrExtended l.ready) (after_plain flags (LdsImmediate 0x2000) (reset_with m)))
+    (after_plain flags (ClrExtended l.sample_flag) (after_plain flags (LdsImmediate stack_end) (reset_with m)))
 
 -- what holds each time the code waits
 pub record Home (c : Setting) (b : Block) (w : Width) (before : ℕ → ℕ) (s : State) : Type 0 where
   pub live : Live c s
   pub pc_is : s.regs.pc ≡ c.memory_map.wait
-  pub sp_is : s.regs.sp ≡ 0x2000
+  pub sp_is : s.regs.sp ≡ stack_end
   pub outs : HasAnswers c.memory_map b w before s.mem
-  pub ready_is : slice_index s.mem c.memory_map.ready ≡ 0
+  pub ready_is : slice_index s.mem c.memory_map.sample_flag ≡ 0
 
 -- the first arrival, by three plain instructions from reset
 pub record Arrived (c : Setting) (b : Block) (w : Width) : Type 0 where
@@ -58,7 +59,7 @@ StartArrives =
 -- where the frame of a firmware stands that stands alone
 pub record IsFramed (l : MemoryMap) : Type 0 where
   pub started : IsStarted l
-  pub ready : l.ready < l.inputs
+  pub ready : l.sample_flag < l.inputs
   pub samples : l.samples ≡ l.inputs
   pub eval : l.eval < 65536
 
@@ -77,21 +78,22 @@ pub record Leads (c : Setting) (most : ℕ) (s : State) (pc sp : ℕ) (mem : Lis
 -- With a sample the frame leads to what it calls, with the return address on the stack.
 abbrev pub Called : Setting → State → Type 0
 Called c s =
-    Leads c 3 s c.memory_map.eval 0x1FFE
-    (slice_set (slice_set s.mem 0x1FFE ((c.memory_map.wait + 8) / 2 ^ 8)) 0x1FFF ((c.memory_map.wait + 8) % 2 ^ 8))
+    Leads c 3 s c.memory_map.eval (stack_end - 2)
+    (slice_set (slice_set s.mem (stack_end - 2) (high_of (c.memory_map.wait + 8))) (stack_end - 1)
+    (low_of (c.memory_map.wait + 8)))
 
 -- From there it leads back to where the code waits, and clears READY.
 abbrev pub Left : Setting → State → Type 0
-Left c s = Leads c 2 s c.memory_map.wait s.regs.sp (slice_set s.mem c.memory_map.ready 0)
+Left c s = Leads c 2 s c.memory_map.wait s.regs.sp (slice_set s.mem c.memory_map.sample_flag 0)
 
 -- it does both
 pub record CallsAndLeaves (c : Setting) : Type 0 where
-  pub calls : (s : State) → Live c s → s.regs.pc ≡ c.memory_map.wait → s.regs.sp ≡ 0x2000
-      → slice_index s.mem c.memory_map.ready ≡ 1 → Called c s
+  pub calls : (s : State) → Live c s → s.regs.pc ≡ c.memory_map.wait → s.regs.sp ≡ stack_end
+      → slice_index s.mem c.memory_map.sample_flag ≡ 1 → Called c s
   pub leaves : (s : State) → Live c s → s.regs.pc ≡ c.memory_map.wait + 8 → Left c s
 
 -- A frame that stands in the image does.
 abbrev pub FrameCallsAndLeaves : Type 0
 FrameCallsAndLeaves =
-    (c : Setting) → c.open_to c.memory_map.ready ≡ false → IsFramed c.memory_map → IsApart c.memory_map
+    (c : Setting) → c.open_to c.memory_map.sample_flag ≡ false → IsFramed c.memory_map → IsApart c.memory_map
     → HasBytes c.image c.memory_map.code (code_bytes (frame_code c.memory_map)) → CallsAndLeaves c

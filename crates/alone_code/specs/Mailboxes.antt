@@ -4,7 +4,7 @@ use Rattle.std.specs.Prelude.{◌≡◌, ◌≤◌, ℕ, zero, suc, ◌+◌, ◌
 use Rattle.std.specs.Prelude.{◌++◌, length}
 use Rattle.fuzzy_meaning.specs.{declared.block.Block.Block, Blocks.IsValid}
 use Rattle.rule_layout.specs.Layouts.{IsWithinLimits}
-use Rattle.cpu12_isa.specs.{declared.instr.Instr.Instr, Regions.is_free}
+use Rattle.cpu12_isa.specs.{declared.instr.Instr.Instr, Regions.is_free, Regions.stack_end}
 use Rattle.cpu12_isa.specs.declared.instr.Instr.TheVariants.{LdaaExtended, LdsImmediate, ClrExtended, Beq, Bra}
 use Rattle.cpu12_isa.specs.declared.instr.Instr.TheVariants.{JsrExtended, Rts, Andcc, Orcc, Rti, MovbExtended}
 use Rattle.cpu12_asm.specs.declared.items.Item.{Item}
@@ -26,7 +26,7 @@ abbrev pub mailbox_map : ℕ → MemoryMap
 mailbox_map n = record main_map {
   interrupt = 0xC019 + 6 * n;
   eval = 0xC01A + 6 * n;
-  ready = 0x1028;
+  sample_flag = 0x1028;
   samples = 0x1020;
 }
 
@@ -37,14 +37,14 @@ copy_code from to (suc n) = MovbExtended from to ∷ copy_code (from + 1) (to + 
 
 -- POSTED is cleared, interrupts are let in, EVAL is called, and the code waits again; an interrupt returns at once
 abbrev pub call_code : MemoryMap → ℕ → List Instr
-call_code l n = ClrExtended l.ready ∷ Andcc 0xEF ∷ JsrExtended l.eval ∷ Bra (239 - 6 * n) ∷ Rti ∷ []
+call_code l n = ClrExtended l.sample_flag ∷ Andcc 0xEF ∷ JsrExtended l.eval ∷ Bra (239 - 6 * n) ∷ Rti ∷ []
 
 -- the code before EVAL: the stack is set up, POSTED cleared and interrupts let in; then, wherever POSTED is not 0,
 -- interrupts are kept out, and MAIL is copied to the inputs
 abbrev pub mailbox_code : MemoryMap → ℕ → List Instr
 mailbox_code l n =
-    LdsImmediate 0x2000 ∷ ClrExtended l.ready ∷ Andcc 0xEF
-    ∷ LdaaExtended l.ready ∷ Beq 0xFB ∷ Orcc 0x10
+    LdsImmediate stack_end ∷ ClrExtended l.sample_flag ∷ Andcc 0xEF
+    ∷ LdaaExtended l.sample_flag ∷ Beq 0xFB ∷ Orcc 0x10
     ∷ (copy_code l.samples l.inputs n ++ call_code l n)
 
 -- code, tables, singletons, weights, rule list and vectors, and nothing else

@@ -23,7 +23,7 @@ pub record IsSampleTurn (l : MemoryMap) (b : Block) (w : Width) (most : ℕ) (im
   pub called : State
   pub copy : IsCopied l (length b.inputs) image flags chosen called
   pub turned : IsTurned l b w most image flags before bytes called t
-  pub cleared : slice_index t.mem l.ready ≡ 0
+  pub cleared : slice_index t.mem l.sample_flag ≡ 0
   pub until : IsUntil (is_idle l) flags (0 ∷ 0 ∷ 0 ∷ (copy.ds ++ turned.ds)) (given l bytes s) t
 
 -- So a firmware answers samples, from its first arrival on.

@@ -1,19 +1,20 @@
 -- Runs of the code around EVAL: what they are under, what each state keeps, and how one instruction leads on.
 -- Beside the promise.
-use Rattle.std.specs.Prelude.{◌≡◌, ◌≢◌, ℕ, ◌+◌, ◌^◌, ◌<◌, ◌≤◌, ◌⊎◌, Bool, true, false, Ok, List, [], ◌∷◌, length, All}
-use Rattle.std.specs.Prelude.{slice_index}
+use Rattle.std.specs.Prelude.{◌≡◌, ◌≢◌, ℕ, ◌+◌, ◌-◌, ◌^◌, ◌<◌, ◌≤◌, Bool, true, false, Ok, List, [], ◌∷◌}
+use Rattle.std.specs.Prelude.{length, slice_index, All}
 use Rattle.cpu12_isa.specs.declared.{instr.Instr.Instr, instr.Instr.TheVariants.Rts}
-use Rattle.cpu12_isa.specs.{Act.read_by, Agreement.AllShown, Code.encode_of, Code.decode_at, Code.FitsOperands}
-use Rattle.cpu12_isa.specs.{Fits.FitsRegs, Fits.AreBytes, Fits.StaysFit, Flags.has, Flags.interrupts_masked}
-use Rattle.cpu12_isa.specs.{Meaning.act_of, Meaning.effect, Meaning.is_plain, Memory.word_of}
-use Rattle.cpu12_isa.specs.Regions.{free_start, is_hidden}
+use Rattle.cpu12_isa.specs.{Act.read_by, Agreement.AgreeFrom, Agreement.AllShown, Code.encode_of, Code.decode_at}
+use Rattle.cpu12_isa.specs.{Code.FitsOperands, Fits.FitsRegs, Fits.AreBytes, Fits.StaysFit, Flags.has}
+use Rattle.cpu12_isa.specs.{Flags.interrupts_masked, Meaning.act_of, Meaning.effect, Meaning.is_plain, Memory.word_of}
+use Rattle.cpu12_isa.specs.Plain.{interrupt_masks}
+use Rattle.cpu12_isa.specs.Regions.{free_start, stack_start, stack_end, is_hidden}
 use Rattle.cpu12_parts.specs.declared.temps.Temps.TheVariants.{Free}
 use Rattle.cpu12_parts.specs.{Laws.addresses, State.State, Touching.Each, Whole.after_plain}
 use Rattle.eval_code.specs.declared.memory_map.MemoryMap.{MemoryMap}
 use Rattle.eval_code.specs.Evaluation.{HasBytes, Reads, Writes}
-use Rattle.eval_code.specs.{Masks.interrupt_masks, Standing.DecodesWhereItStands, Code.code_bytes, Code.FitCode}
+use Rattle.eval_code.specs.{Standing.DecodesWhereItStands, Code.code_bytes, Code.FitCode}
 use Rattle.alone_code.specs.Answers.{given}
-use Rattle.alone_code.specs.Interruptible.{is_idle, IsInterruptible, IsInterruptibleStep}
+use Rattle.alone_code.specs.Interruptible.{is_idle, IsStackOfOneCall, IsInterruptible, IsInterruptibleStep}
 
 -- how many bytes the code of a form has at most, with those that are fetched behind it
 abbrev pub code_room : ℕ
@@ -23,9 +24,9 @@ code_room = 0x1000
 pub record IsShut (open_to : ℕ → Bool) (l : MemoryMap) : Type 0 where
   pub reads : (at : ℕ) → Reads l at → open_to at ≡ false
   pub writes : (at : ℕ) → Writes l at → open_to at ≡ false
-  pub stack : (at : ℕ) → 0x1FE0 ≤ at → at < 0x2000 → open_to at ≡ false
+  pub stack : (at : ℕ) → stack_start ≤ at → at < stack_end → open_to at ≡ false
   pub code : (at : ℕ) → l.code ≤ at → at < l.code + code_room → open_to at ≡ false
-  pub low : 0x2000 ≤ l.code
+  pub low : stack_end ≤ l.code
   pub high : l.code + code_room < 65536
 
 -- what a run is under: that instructions keep registers and bytes in their ranges and are decoded where they stand, the
@@ -67,9 +68,9 @@ pub record Lives (image : List ℕ) (masked : Bool) (s : State) : Type 0 where
   pub size : length s.mem ≡ 65536
   pub bytes : AreBytes s.mem
   pub fits : FitsRegs s.regs
-  pub stack : (s.regs.sp ≡ 0x1FFE) ⊎ (s.regs.sp ≡ 0x2000)
+  pub stack : IsStackOfOneCall s.regs.sp
   pub mask : has s.regs.ccr interrupts_masked ≡ masked
-  pub same : (at : ℕ) → 0x2000 ≤ at → slice_index s.mem at ≡ slice_index image at
+  pub same : AgreeFrom stack_end image s.mem
 
 abbrev pub Live : Setting → State → Type 0
 Live c = Lives c.image false
@@ -83,14 +84,14 @@ LiveIsInterruptible =
 -- It is idle where the code waits, and READY is 0.
 abbrev pub LiveIsIdle : Type 0
 LiveIsIdle =
-    (c : Setting) (s : State) → Live c s → s.regs.pc ≡ c.memory_map.wait → slice_index s.mem c.memory_map.ready ≡ 0
-    → is_idle c.memory_map s ≡ true
+    (c : Setting) (s : State) → Live c s → s.regs.pc ≡ c.memory_map.wait
+    → slice_index s.mem c.memory_map.sample_flag ≡ 0 → is_idle c.memory_map s ≡ true
 
 -- It stays live where a sample is given.
 abbrev pub GivenIsLive : Type 0
 GivenIsLive =
     (c : Setting) (bytes : List ℕ) (s : State) → Live c s → All (λ v. v < 2 ^ 8) bytes
-    → c.memory_map.samples + length bytes ≤ free_start → c.memory_map.ready < free_start
+    → c.memory_map.samples + length bytes ≤ free_start → c.memory_map.sample_flag < free_start
     → Live c (given c.memory_map bytes s)
 
 -- one instruction leads to an address
@@ -113,10 +114,10 @@ InstructionGoesOn =
 
 -- the return address that a call has put on the empty stack
 abbrev pub return_address : List ℕ → ℕ
-return_address mem = word_of (slice_index mem 0x1FFE) (slice_index mem 0x1FFF)
+return_address mem = word_of (slice_index mem (stack_end - 2)) (slice_index mem (stack_end - 1))
 
 -- RTS leads there.
 abbrev pub ReturnGoesOn : Type 0
 ReturnGoesOn =
-    (c : Setting) (s : State) (p back : ℕ) → Live c s → s.regs.pc ≡ p → Here c p Rts → s.regs.sp ≡ 0x1FFE
+    (c : Setting) (s : State) (p back : ℕ) → Live c s → s.regs.pc ≡ p → Here c p Rts → s.regs.sp ≡ stack_end - 2
     → return_address s.mem ≡ back → Next c s (after_plain c.flags Rts s) back

@@ -1,10 +1,11 @@
 -- A turn of the mailbox form: the code looks at POSTED, copies MAIL while I is 1, and evaluates the copy.
 -- Beside the promise.
-use Rattle.std.specs.Prelude.{◌≡◌, ◌≢◌, ℕ, ◌+◌, ◌*◌, ◌^◌, ◌<◌, ◌≤◌, ◌⊎◌, ◌==◌, if◌then◌else◌, true, false, List, length}
-use Rattle.std.specs.Prelude.{slice_index}
+use Rattle.std.specs.Prelude.{◌≡◌, ◌≢◌, ℕ, ◌+◌, ◌*◌, ◌^◌, ◌<◌, ◌≤◌, ◌⊎◌, ◌==◌, true, false, List, length}
+use Rattle.std.specs.Prelude.{if◌then◌else◌, slice_index}
 use Rattle.fuzzy_meaning.specs.{declared.block.Block.Block, Blocks.IsValid}
 use Rattle.rule_layout.specs.Layouts.{IsWithinLimits}
 use Rattle.cpu12_isa.specs.{declared.instr.Instr.Instr, Flags.has, Flags.zero_result, Regions.is_free}
+use Rattle.cpu12_isa.specs.Regions.{stack_end}
 use Rattle.cpu12_isa.specs.declared.instr.Instr.TheVariants.{LdaaExtended, Beq, Orcc}
 use Rattle.cpu12_parts.specs.{State.State, Whole.PlainExecution, Executions.Execution, Executions.all_steps}
 use Rattle.cpu12_emul.specs.{Image.image_memory, Step.reset_with}
@@ -19,14 +20,14 @@ use Rattle.byte_scaling.specs.declared.width.Width.{Width}
 pub record IsAt (image : List ℕ) (at : ℕ) (s : State) : Type 0 where
   pub steady : IsSteady is_postable false image s
   pub pc : s.regs.pc ≡ at
-  pub sp : s.regs.sp ≡ 0x2000
+  pub sp : s.regs.sp ≡ stack_end
 
 -- Up to the copy's end what is read and written is neither free nor below SP on the stack. POSTED is read where the
 -- code waits.
 pub record IsLook (l : MemoryMap) (image : List ℕ) (flags : ℕ) (s t : State) : Type 0 where
-  pub step : IsShownPlain is_free flags (LdaaExtended l.ready) s t
+  pub step : IsShownPlain is_free flags (LdaaExtended l.sample_flag) s t
   pub at : IsAt image (l.wait + 3) t
-  pub found : has t.regs.ccr zero_result ≡ (slice_index s.mem l.ready == 0)
+  pub found : has t.regs.ccr zero_result ≡ (slice_index s.mem l.sample_flag == 0)
   pub mem : t.mem ≡ s.mem
 
 -- Where it was 0 the code waits again.
@@ -56,8 +57,8 @@ pub record IsCopied (l : MemoryMap) (n : ℕ) (image : List ℕ) (flags : ℕ) (
   pub count : length ds ≡ n + 2
   pub at : IsAt image (call_of l n) t
   pub inputs : (k : ℕ) → k < n → slice_index t.mem (l.inputs + k) ≡ slice_index s.mem (l.samples + k)
-  pub cleared : slice_index t.mem l.ready ≡ 0
-  pub elsewhere : (at : ℕ) → (at < l.inputs) ⊎ (l.inputs + n ≤ at) → at ≢ l.ready
+  pub cleared : slice_index t.mem l.sample_flag ≡ 0
+  pub elsewhere : (at : ℕ) → (at < l.inputs) ⊎ (l.inputs + n ≤ at) → at ≢ l.sample_flag
       → slice_index t.mem at ≡ slice_index s.mem at
 
 -- From there whole instructions lead to where the code waits again, with the answers after those before. None reads
@@ -77,7 +78,7 @@ pub record IsTurned (l : MemoryMap) (b : Block) (w : Width) (most : ℕ) (image 
 pub record IsReady (l : MemoryMap) (b : Block) (w : Width) (image : List ℕ) (flags : ℕ) (s : State) : Type 0 where
   pub execution : PlainExecution flags l.wait 3 (reset_with image) s
   pub at : IsAt image l.wait s
-  pub cleared : slice_index s.mem l.ready ≡ 0
+  pub cleared : slice_index s.mem l.sample_flag ≡ 0
   pub outputs : HasAnswers l b w (λ o. 0) s.mem
 
 -- A firmware takes its turns so, from whatever states interrupts leave before the copy.

@@ -1,7 +1,7 @@
 //! Firmware.
 ghost use Rattle.std.specs.Prelude.{◌≡◌, ◌<◌, ◌^◌, length, IfOk, IfErr, OnOk};
 ghost use Rattle.fuzzy_meaning.specs.Blocks.{IsValid};
-ghost use Rattle.rule_layout.specs.Layouts.{flat_of, IsLaidOut, IsWithinLimits, IsFaultOf};
+ghost use Rattle.rule_layout.specs.Layouts.{IsWithinLimits, IsFaultOf};
 ghost use Rattle.cpu12_asm.specs.Items.{IsRising};
 ghost use Rattle.alone_code.specs.{Images.IsImageOf, Firmwares.IsFirmwareOf, Answers.AnswersFrom};
 ghost use Rattle.alone_code.specs.Uninterrupted.{AnswersUninterrupted};
@@ -14,7 +14,7 @@ use cpu12_asm::{AsmFault, Image, Item, assemble_items};
 use eval_code::laws::blocks_are_placed;
 use eval_code::{MemoryMap, instruction_bound, steps_by};
 use fuzzy_meaning::Block;
-use rule_layout::{Flat, LayoutFault, spread};
+use rule_layout::{LaidOut, LayoutFault, spread};
 use std::alloc::{AllocError, Global};
 
 /// The firmware of a block.
@@ -100,34 +100,29 @@ pub fn compile_for(alloc: Global, width: Width, block: &Block) -> Result<Firmwar
     ensures limits { OnOk result (IsWithinLimits block.now) }
     ensures fault { IfErr result (IsFaultOf block.now) }
 {
-    let flat = spread(alloc, block)?;
-    Ok(compile_laid_out(alloc, width, block, &flat)?)
+    let laid_out = spread(alloc, block)?;
+    Ok(compile_laid_out(alloc, width, &laid_out)?)
 }
 
-/// The same for a block that is already laid out: `flat` is its rules as `spread` lays them out. It can only fail
-/// for lack of memory.
+/// The same for a block that is already laid out. It can only fail for lack of memory.
 pub fn compile_laid_out(
     alloc: Global,
     width: Width,
-    block: &Block,
-    flat: &Flat,
+    laid_out: &LaidOut<'_>,
 ) -> Result<Firmware, AllocError>
-    requires valid { IsValid block.now }
-    requires limits { IsWithinLimits block.now }
-    requires flat { flat.now ≡ flat_of block.now }
-    requires laid_out { IsLaidOut flat.now }
-    ensures firmware { IfOk result (IsFirmwareOf block.now) }
+    ensures firmware { IfOk result (IsFirmwareOf laid_out.now.block.now) }
     ensures width { IfOk result (λ f. f.width ≡ width) }
-    ensures answers { IfOk result (AnswersFrom block.now) }
-    ensures uninterrupted { IfOk result (AnswersUninterrupted block.now) }
+    ensures answers { IfOk result (AnswersFrom laid_out.now.block.now) }
+    ensures uninterrupted { IfOk result (AnswersUninterrupted laid_out.now.block.now) }
 {
     firmware_answers();
     firmware_is_uninterrupted();
     blocks_are_placed();
-    let items = firmware_items(alloc, &MemoryMap::MAIN, width, block, flat)?;
+    let block = laid_out.block;
+    let items = firmware_items(alloc, &MemoryMap::MAIN, width, laid_out)?;
     let image = image_of(alloc, items.as_slice())?;
-    let instr_bound = instruction_bound(width, block, flat);
-    let step_bound = steps_by(block, flat, instr_bound);
+    let instr_bound = instruction_bound(width, laid_out);
+    let step_bound = steps_by(laid_out, instr_bound);
     Ok(Firmware {
         image,
         memory_map: MemoryMap::MAIN,

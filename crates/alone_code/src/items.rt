@@ -1,7 +1,5 @@
 //! The items of a firmware that stands alone.
 ghost use Rattle.std.specs.Prelude.{◌≡◌, ◌++◌, OnOk, IfOk};
-ghost use Rattle.fuzzy_meaning.specs.Blocks.{IsValid};
-ghost use Rattle.rule_layout.specs.Layouts.{flat_of, IsLaidOut};
 ghost use Rattle.eval_code.specs.Items.{HasRoom};
 ghost use Rattle.alone_code.specs.{Code.frame_code, Images.vector_items, Images.firmware_items};
 
@@ -9,9 +7,8 @@ use byte_scaling::Width;
 use cpu12_asm::Item;
 use cpu12_isa::instr::Instr;
 use cpu12_isa::mem::VECTOR;
-use eval_code::{MemoryMap, push_block, push_word};
-use fuzzy_meaning::Block;
-use rule_layout::Flat;
+use eval_code::{Around, MemoryMap, push_block, push_word};
+use rule_layout::LaidOut;
 use std::alloc::{AllocError, Global};
 
 /// The code before EVAL of a firmware that stands alone.
@@ -20,37 +17,35 @@ pub fn frame_code(memory_map: &MemoryMap) -> [Instr; 9]
 {
     [
         Instr::LdsImmediate(0x2000),
-        Instr::ClrExtended(memory_map.ready),
+        Instr::ClrExtended(memory_map.sample_flag),
         Instr::Andcc(0xEF),
-        Instr::LdaaExtended(memory_map.ready),
+        Instr::LdaaExtended(memory_map.sample_flag),
         Instr::Beq(0xFB),
         Instr::JsrExtended(memory_map.eval),
-        Instr::ClrExtended(memory_map.ready),
+        Instr::ClrExtended(memory_map.sample_flag),
         Instr::Bra(0xF3),
         Instr::Rti,
     ]
 }
 
-/// The items of the firmware of a block that stands alone at a memory map, with answers of the given width. `flat`
-/// is the block's rules as `spread` lays them out.
+/// The items of the firmware of a block that stands alone at a memory map, with answers of the given width.
 pub fn firmware_items(
     alloc: Global,
     memory_map: &MemoryMap,
     width: Width,
-    block: &Block,
-    flat: &Flat,
+    laid_out: &LaidOut<'_>,
 ) -> Result<Vec<Item>, AllocError>
-    requires valid { IsValid block.now }
-    requires flat { flat.now ≡ flat_of block.now }
-    requires laid_out { IsLaidOut flat.now }
-    requires room { HasRoom memory_map.now }
-    ensures { IfOk result (λ items. items.items ≡ firmware_items memory_map.now block.now width) }
+    requires { HasRoom memory_map.now }
+    ensures { IfOk result
+        (λ items. items.items ≡ firmware_items memory_map.now laid_out.now.block.now width) }
 {
     let mut items = Vec::new(alloc);
     let (before, behind) = (frame_code(memory_map), [Instr::Rts]);
-    push_block(
-        alloc, &mut items, memory_map, width, block, flat, &before, &behind,
-    )?;
+    let around = Around {
+        before: &before,
+        behind: &behind,
+    };
+    push_block(alloc, &mut items, memory_map, width, laid_out, &around)?;
     push_vectors(&mut items, memory_map)?;
     Ok(items)
 }

@@ -1,6 +1,7 @@
 //! Laws of the forms of firmware.
 ghost use Rattle.alone_code.specs.Alike.{FirmwaresAreOne, ImagesAreOne, MailboxesAreOne};
-ghost use Rattle.alone_code.specs.Answers.{FirmwareAnswers, FirmwareAnswersBeside, FirmwareArrivesAlike, FreeBytesLeave};
+ghost use Rattle.alone_code.specs.Answers.{FirmwareAnswers, FirmwareAnswersBeside, FirmwareArrivesAlike};
+ghost use Rattle.alone_code.specs.Answers.{FreeBytesLeave};
 ghost use Rattle.alone_code.specs.{Calls.CalledEvalReturns, Frames.FrameCallsAndLeaves, Frames.StartArrives};
 ghost use Rattle.alone_code.specs.{Images.ItemsHaveImages, Firmwares.BlocksHaveFirmware, Laws.LowerLaws};
 ghost use Rattle.alone_code.specs.Mailboxes.{BlocksHaveMailboxes, MailboxStepsAreFew};
@@ -9,14 +10,16 @@ ghost use Rattle.alone_code.specs.Settings.{GivenIsLive, InstructionGoesOn, Inst
 ghost use Rattle.alone_code.specs.Settings.{LiveIsInterruptible, ReturnGoesOn};
 ghost use Rattle.alone_code.specs.Standing.{FirmwareIsBytes, ImageHasFirmware, MailboxIsBytes};
 ghost use Rattle.alone_code.specs.Turns.{MailboxIsUninterrupted, MailboxTakesPosts};
-ghost use Rattle.alone_code.specs.Uninterrupted.{AnsweredAreUninterrupted, FirmwareIsUninterrupted, UninterruptedAreOne};
+ghost use Rattle.alone_code.specs.Uninterrupted.{AnsweredAreUninterrupted, FirmwareIsUninterrupted};
+ghost use Rattle.alone_code.specs.Uninterrupted.{UninterruptedAreOne};
 
 use byte_scaling::laws::nearest_is_byte;
 use cpu12_asm::laws::{ascending_bytes_are_one, rising_items};
 use cpu12_isa::laws::stays_fit;
 use cpu12_parts::laws::executions_are_one;
 use eval_code::laws::{
-    blocks_are_placed, bounds_are_few, code_is_decoded, eval_answers, placed_items_stand,
+    blocks_are_placed, bounds_are_few, code_is_decoded, eval_answers, frames_leave,
+    placed_items_stand,
 };
 use rule_layout::laws::layout_law;
 
@@ -29,7 +32,7 @@ fn lower_laws()
     stays_fit();
     code_is_decoded();
     placed_items_stand();
-    eval_answers();
+    called_eval_returns();
     blocks_are_placed();
 }
 
@@ -54,6 +57,7 @@ pub fn called_eval_returns()
     ensures { CalledEvalReturns }
 {
     eval_answers();
+    frames_leave();
 }
 
 /// The memory of an image of a block's items followed by the vectors holds the block's firmware.

@@ -1,7 +1,7 @@
 //! The mailbox form of the firmware.
 ghost use Rattle.std.specs.Prelude.{◌≡◌, ◌+◌, ◌^◌, ◌<◌, ◌≤◌, ◌++◌, length, IfOk, IfErr, OnOk};
 ghost use Rattle.fuzzy_meaning.specs.Blocks.{IsValid};
-ghost use Rattle.rule_layout.specs.Layouts.{flat_of, IsLaidOut, IsWithinLimits, IsFaultOf};
+ghost use Rattle.rule_layout.specs.Layouts.{IsWithinLimits, IsFaultOf};
 ghost use Rattle.alone_code.specs.Mailboxes.{mailbox_map, copy_code, mailbox_code, mailbox_items, mailbox_bound};
 ghost use Rattle.alone_code.specs.Mailboxes.{IsMailboxOf};
 ghost use Rattle.byte_scaling.specs.declared.width.Width.TheVariants.{Byte};
@@ -14,9 +14,9 @@ use byte_scaling::Width;
 use cpu12_asm::Item;
 use cpu12_isa::instr::Instr;
 use eval_code::laws::blocks_are_placed;
-use eval_code::{MemoryMap, instruction_bound, push_block, steps_by};
+use eval_code::{Around, MemoryMap, instruction_bound, push_block, steps_by};
 use fuzzy_meaning::Block;
-use rule_layout::{Flat, LayoutFault, spread};
+use rule_layout::{LaidOut, LayoutFault, spread};
 use std::alloc::{AllocError, Global};
 
 /// The memory map for this many inputs: each takes six bytes of code for its copy.
@@ -28,7 +28,7 @@ fn mailbox_map(inputs: u8) -> MemoryMap
     MemoryMap {
         interrupt: 0xC019 + copies,
         eval: 0xC01A + copies,
-        ready: 0x1028,
+        sample_flag: 0x1028,
         samples: 0x1020,
         ..MemoryMap::MAIN
     }
@@ -55,15 +55,15 @@ fn mailbox_code(alloc: Global, memory_map: &MemoryMap, inputs: u8) -> Result<Vec
     let mut code = Vec::new(alloc);
     code.extend_from_slice(&[
         Instr::LdsImmediate(0x2000),
-        Instr::ClrExtended(memory_map.ready),
+        Instr::ClrExtended(memory_map.sample_flag),
         Instr::Andcc(0xEF),
-        Instr::LdaaExtended(memory_map.ready),
+        Instr::LdaaExtended(memory_map.sample_flag),
         Instr::Beq(0xFB),
         Instr::Orcc(0x10),
     ])?;
     push_copies(&mut code, memory_map.samples, memory_map.inputs, inputs)?;
     code.extend_from_slice(&[
-        Instr::ClrExtended(memory_map.ready), // Behind the copy, so that no post is lost.
+        Instr::ClrExtended(memory_map.sample_flag), // Behind the copy, so that no post is lost.
         Instr::Andcc(0xEF), // Let in before EVAL.
         Instr::JsrExtended(memory_map.eval),
         Instr::Bra(239 - 6 * inputs),
@@ -72,32 +72,25 @@ fn mailbox_code(alloc: Global, memory_map: &MemoryMap, inputs: u8) -> Result<Vec
     Ok(code)
 }
 
-/// The items of a block's mailbox firmware. `flat` is the block's rules as `spread` lays them out.
+/// The items of a block's mailbox firmware.
 fn mailbox_items(
     alloc: Global,
     memory_map: &MemoryMap,
     width: Width,
-    block: &Block,
-    flat: &Flat,
+    laid_out: &LaidOut<'_>,
 ) -> Result<Vec<Item>, AllocError>
-    requires valid { IsValid block.now }
-    requires flat { flat.now ≡ flat_of block.now }
-    requires laid_out { IsLaidOut flat.now }
-    requires memory_map { memory_map.now ≡ mailbox_map (length block.now.inputs) }
-    ensures { IfOk result (λ items. items.items ≡ mailbox_items memory_map.now block.now width) }
+    requires { memory_map.now ≡ mailbox_map (length laid_out.now.block.now.inputs) }
+    ensures { IfOk result
+        (λ items. items.items ≡ mailbox_items memory_map.now laid_out.now.block.now width) }
 {
-    let before = mailbox_code(alloc, memory_map, block.inputs.len() as u8)?;
+    let before = mailbox_code(alloc, memory_map, laid_out.block.inputs.len() as u8)?;
     let mut items = Vec::new(alloc);
-    push_block(
-        alloc,
-        &mut items,
-        memory_map,
-        width,
-        block,
-        flat,
-        &before,
-        &[Instr::Rts],
-    )?;
+    let behind = [Instr::Rts];
+    let around = Around {
+        before: &before,
+        behind: &behind,
+    };
+    push_block(alloc, &mut items, memory_map, width, laid_out, &around)?;
     push_vectors(&mut items, memory_map)?;
     Ok(items)
 }
@@ -121,23 +114,27 @@ pub fn compile_post(alloc: Global, block: &Block) -> Result<Firmware, LayoutFaul
     ensures limits { OnOk result (IsWithinLimits block.now) }
     ensures fault { IfErr result (IsFaultOf block.now) }
 {
+    let laid_out = spread(alloc, block)?;
+    Ok(compile_post_laid_out(alloc, &laid_out)?)
+}
+
+/// The same for a block that is already laid out. It can only fail for lack of memory.
+fn compile_post_laid_out(alloc: Global, laid_out: &LaidOut<'_>) -> Result<Firmware, AllocError>
+    ensures firmware { IfOk result (IsMailboxOf laid_out.now.block.now) }
+    ensures width { IfOk result (λ f. f.width ≡ Byte) }
+    ensures turns { IfOk result (TakesPosts laid_out.now.block.now) }
+    ensures uninterrupted { IfOk result (AnswersUninterrupted laid_out.now.block.now) }
+{
     mailbox_takes_posts();
     mailbox_is_uninterrupted();
     blocks_are_placed();
-    let flat = match spread(alloc, block) {
-        Ok(flat) => flat,
-        Err(fault) => return Err(fault),
-    };
+    let block = laid_out.block;
     let inputs = block.inputs.len() as u8;
     let memory_map = mailbox_map(inputs);
-    let Ok(items) = mailbox_items(alloc, &memory_map, Width::Byte, block, &flat) else {
-        return Err(LayoutFault::Memory);
-    };
-    let Ok(image) = image_of(alloc, items.as_slice()) else {
-        return Err(LayoutFault::Memory);
-    };
-    let instr_bound = instruction_bound(Width::Byte, block, &flat) + u32::from(inputs) + 2;
-    let step_bound = steps_by(block, &flat, instr_bound);
+    let items = mailbox_items(alloc, &memory_map, Width::Byte, laid_out)?;
+    let image = image_of(alloc, items.as_slice())?;
+    let instr_bound = instruction_bound(Width::Byte, laid_out) + u32::from(inputs) + 2;
+    let step_bound = steps_by(laid_out, instr_bound);
     Ok(Firmware {
         image,
         memory_map,

@@ -4,3 +4,4 @@ pub mod Requests
 pub mod StandAlone
 pub mod UsedLaws
 pub mod OpenBytes
+pub mod SampleBytes

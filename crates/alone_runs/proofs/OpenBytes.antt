@@ -4,19 +4,22 @@ use Rattle.std.proofs.Common.{get_or, refl, ap, sym, ◌∙◌, subst, arith, na
 use Rattle.std.specs.Prelude.{min, ◌&&◌}
 use Rattle.std.proofs.lemmas.Bool.{or_parts}
 use Rattle.cpu12_isa.specs.declared.instr.Regs.{Regs}
-use Rattle.cpu12_isa.specs.{Act.outcome, Act.write_all, Agreement.AllShown, Agreement.IsWritten, Agreement.WritesStay}
-use Rattle.cpu12_isa.specs.{Memory.plus, Memory.placed, Regions.is_hidden, Regions.LeavesStack}
+use Rattle.cpu12_isa.specs.{Act.outcome, Act.write_all, Agreement.IsWritten, Agreement.WritesStay, Memory.plus}
+use Rattle.cpu12_isa.specs.{Memory.placed, Regions.is_hidden, Regions.LeavesStack}
 use Rattle.cpu12_parts.specs.declared.temps.Temps.{Temps}
 use Rattle.cpu12_parts.specs.declared.temps.Temps.TheVariants.{Free, Running, OnStack}
-use Rattle.cpu12_parts.specs.{State.State, Parts.sum_bytes, Parts.suspended, Parts.wav}
-use Rattle.cpu12_parts.specs.{Inside.PushesRunning, Inside.PushesNone, Laws.IsOff, Laws.addresses}
+use Rattle.cpu12_parts.specs.{State.State, Parts.sum_bytes, Parts.suspended, Parts.wav, Inside.PushesRunning}
+use Rattle.cpu12_parts.specs.{Inside.PushesNone, Laws.IsOff}
 use Rattle.cpu12_emul.specs.Step.{Left, Next, step_act, applied, next_of}
 use Rattle.cpu12_emul.specs.Simulation.{OnStackOrNone, Simulates, AreSumsReady, HasRoom, IsShownStep, StepAgrees}
 use Rattle.cpu12_emul.specs.Simulation.{WavrGoesOn}
 use Rattle.run_law.specs.Uninterrupted.{stepped, state_by}
-use Rattle.firmware_runs.specs.Facts.{Facts, IsStackOfOneCall}
+use Rattle.alone_code.specs.Interruptible.{IsStackOfOneCall}
+use Rattle.alone_code.proofs.Algebra.{sp_near}
+use Rattle.firmware_runs.specs.Facts.{Facts}
 use Rattle.alone_runs.specs.OpenBytes.{AreOpenAlike, StepsLeaveOpen, GivenLeavesOpen}
 use Rattle.run_forms.proofs.Algebra.{placed_in}
+use Rattle.eval_code.proofs.Algebra.{written_shown}
 
 -- the laws of lower crates
 pub record OpenLaws : Type 0 where
@@ -42,10 +45,10 @@ written_in (x ∷ a) b at (inr w) = elim (written_in a b at w) [ inl h ↦ inl (
 -- a sample
 pub given_leaves_open : WritesStay → GivenLeavesOpen
 given_leaves_open stay open_to l bytes w few end ready samples =
-    kept stay open_to (placed l.samples bytes ++ (l.ready, 1) ∷ []) w.mem apart
+    kept stay open_to (placed l.samples bytes ++ (l.sample_flag, 1) ∷ []) w.mem apart
   where
-    apart : (at : ℕ) → IsWritten (placed l.samples bytes ++ (l.ready, 1) ∷ []) at → open_to at ≡ true → ⊥
-    apart at h is = elim (written_in (placed l.samples bytes) ((l.ready, 1) ∷ []) at h) [
+    apart : (at : ℕ) → IsWritten (placed l.samples bytes ++ (l.sample_flag, 1) ∷ []) at → open_to at ≡ true → ⊥
+    apart at h is = elim (written_in (placed l.samples bytes) ((l.sample_flag, 1) ∷ []) at h) [
       | inl x ↦
           (let r = placed_in bytes l.samples at (omega arith) x in
           both (open_to at) is (samples at r.0 (omega (arith, r.1))))
@@ -53,11 +56,7 @@ given_leaves_open stay open_to l bytes w few end ready samples =
     ]
 
 -- SP under interrupts
-sp_near : (sp : ℕ) → IsStackOfOneCall sp → (0x1FFE ≤ sp) × (sp ≤ 0x2000)
-sp_near sp (inl e) = (omega arith, omega arith)
-sp_near sp (inr e) = (omega arith, omega arith)
-
-sp_of : (open_to : ℕ → Bool) (w s : State) → IsStackOfOneCall s.regs.sp → Simulates OnStackOrNone open_to w s
+pub sp_of : (open_to : ℕ → Bool) (w s : State) → IsStackOfOneCall s.regs.sp → Simulates OnStackOrNone open_to w s
     → (0x1FF8 ≤ w.regs.sp) × (w.regs.sp ≤ 0x2000)
 sp_of open_to w s k (inl l) =
     let near = sp_near s.regs.sp k in
@@ -93,33 +92,28 @@ pushes laws open_to apart w lo hi = cases w.temps refl
         (kept laws.writes_stay open_to (placed (plus w.regs.sp 65530) (sum_bytes p q)) w.mem (on_stack p q))
 
 -- a step writes what it writes without interrupts
-step_left : OpenLaws → (open_to : ℕ → Bool) (flags : ℕ) (w s : State) → (k : IsShownStep open_to flags s)
-    → Simulates OnStackOrNone open_to w s → outcome (step_act flags w.regs w.temps) w.mem ≡ Ok k.left
-step_left laws open_to flags w s k (inl l) =
+pub step_left : StepAgrees → WavrGoesOn → (open_to : ℕ → Bool) (flags : ℕ) (w s : State)
+    → (k : IsShownStep open_to flags s) → Simulates OnStackOrNone open_to w s
+    → outcome (step_act flags w.regs w.temps) w.mem ≡ Ok k.left
+step_left agrees wavr open_to flags w s k (inl l) =
     let both =
-    laws.step_agrees flags s.regs s.temps w.mem s.mem k.left (is_hidden open_to s.regs.sp)
+    agrees flags s.regs s.temps w.mem s.mem k.left (is_hidden open_to s.regs.sp)
     (is_hidden open_to k.left.regs.sp) l.mem k.reads k.goes k.covers in
     ap (λ (r : Regs). outcome (step_act flags r w.temps) w.mem) l.regs
     ∙ ap (λ (u : Temps). outcome (step_act flags s.regs u) w.mem) l.temps ∙ both.0
-step_left laws open_to flags w s k (inr l) =
+step_left agrees wavr open_to flags w s k (inr l) =
     let good : AreSumsReady open_to s (Running l.product l.weight) =
     subst (λ (u : Temps). AreSumsReady open_to s u) l.running k.sums in
     let room : HasRoom s = k.room in
     let fits = room.fits in
     let code : get_or w.mem s.regs.pc 0 ≡ 60 = l.mem.bytes s.regs.pc good.3 ∙ good.2 in
     let both =
-    laws.step_agrees flags s.regs s.temps w.mem s.mem k.left (is_hidden open_to s.regs.sp)
+    agrees flags s.regs s.temps w.mem s.mem k.left (is_hidden open_to s.regs.sp)
     (is_hidden open_to k.left.regs.sp) l.mem k.reads k.goes k.covers in
     ap (λ (r : Regs). outcome (step_act flags r w.temps) w.mem) l.regs
-    ∙ laws.wavr_goes_on flags s.regs w.temps l.product l.weight w.mem l.temps fits.sp good.0 good.1 code l.sums
+    ∙ wavr flags s.regs w.temps l.product l.weight w.mem l.temps fits.sp good.0 good.1 code l.sums
     ∙ ap (λ (u : Temps). outcome (step_act flags s.regs u) w.mem) (sym l.running)
     ∙ both.0
-
-shown_not : (hidden : ℕ → Bool) (ws : List (ℕ × ℕ)) (at : ℕ) → AllShown hidden (addresses ws) → IsWritten ws at
-    → hidden at ≡ false
-shown_not hidden [] at a w = absurd w
-shown_not hidden (x ∷ ws) at a (inl e) = ap hidden e ∙ a.0
-shown_not hidden (x ∷ ws) at a (inr w) = shown_not hidden ws at a.1 w
 
 open_not : (open_to : ℕ → Bool) (sp at : ℕ) → open_to at ≡ true → is_hidden open_to sp at ≡ false → ⊥
 open_not open_to sp at is h = both (open_to at) is (or_parts (open_to at) (nat_le 0x1FE0 at && nat_lt at sp) h).0
@@ -130,11 +124,11 @@ steps : OpenLaws → (open_to : ℕ → Bool) (flags : ℕ) (w s : State) → Fa
 steps laws open_to flags w s facts l at is =
     let k = facts.shown in
     let e : next_of flags w ≡ applied (Ok k.left) w.mem =
-    ap (λ (o : Result Left ℕ). applied o w.mem) (step_left laws open_to flags w s k l) in
+    ap (λ (o : Result Left ℕ). applied o w.mem) (step_left laws.step_agrees laws.wavr_goes_on open_to flags w s k l) in
     let low = min s.regs.sp k.left.regs.sp in
     ap (λ (o : Result Next ℕ). get_or (state_by w o).mem at 0) e
     ∙ (laws.writes_stay k.left.writes w.mem).1 at
-    (λ h. open_not open_to low at is (shown_not (is_hidden open_to low) k.left.writes at facts.writes h))
+    (λ h. open_not open_to low at is (written_shown (is_hidden open_to low) k.left.writes at facts.writes h))
 
 pub steps_leave_open : OpenLaws → StepsLeaveOpen
 steps_leave_open laws open_to flags f w s apart p l =

@@ -43,7 +43,7 @@ AllWait flags f (n ∷ ns) (bytes ∷ rest) s =
 
 -- the bytes that are read from outside stand below those that plans may write
 pub record IsLow (f : Firmware) : Type 0 where
-  pub ready : f.memory_map.ready < free_start
+  pub ready : f.memory_map.sample_flag < free_start
   pub outputs : f.memory_map.outputs + places f.width * f.outputs ≤ free_start
 
 -- the free bytes are open, the bytes below them are not, nor is the stack

@@ -28,6 +28,6 @@ StepsLeaveOpen =
 abbrev pub GivenLeavesOpen : Type 0
 GivenLeavesOpen =
     (open_to : ℕ → Bool) (l : MemoryMap) (bytes : List ℕ) (w : State) → length bytes ≤ 8 → l.samples + 8 ≤ 65536
-    → open_to l.ready ≡ false
+    → open_to l.sample_flag ≡ false
     → ((at : ℕ) → l.samples ≤ at → at < l.samples + 8 → open_to at ≡ false)
     → AreOpenAlike open_to w.mem (given l bytes w).mem

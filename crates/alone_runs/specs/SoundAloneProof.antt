@@ -38,7 +38,7 @@ low_shown open_to sp at a h =
 
 -- the bytes that are read from outside are not open
 pub record LeavesPorts (open_to : ℕ → Bool) (f : Firmware) : Type 0 where
-  pub ready : open_to f.memory_map.ready ≡ false
+  pub ready : open_to f.memory_map.sample_flag ≡ false
   pub outputs : (at : ℕ) → f.memory_map.outputs ≤ at → at < f.memory_map.outputs + places f.width * f.outputs
       → open_to at ≡ false
 
@@ -47,7 +47,7 @@ below a b c l m = omega arith
 
 pub low_ports : (open_to : ℕ → Bool) → OpensFree open_to → (f : Firmware) → IsLow f → LeavesPorts open_to f
 low_ports open_to opens f low = record {
-  ready = opens.low f.memory_map.ready low.ready;
+  ready = opens.low f.memory_map.sample_flag low.ready;
   outputs = λ at from to.
       opens.low at (below at (f.memory_map.outputs + places f.width * f.outputs) free_start to low.outputs);
 }
@@ -87,7 +87,7 @@ pub given_alike : WritesAgree → (open_to : ℕ → Bool) (f : Firmware) (x : L
     → Same open_to (given f.memory_map x w) (given f.memory_map x s)
 given_alike agree open_to f x w s l =
     let hidden = is_hidden open_to s.regs.sp in
-    let writes = placed f.memory_map.samples x ++ (f.memory_map.ready, 1) ∷ [] in
+    let writes = placed f.memory_map.samples x ++ (f.memory_map.sample_flag, 1) ∷ [] in
     record { regs = l.regs; temps = l.temps; mem = agree writes w.mem s.mem hidden hidden l.mem (λ at h. inl h) }
 
 pub answered_alike : (open_to : ℕ → Bool) (f : Firmware) → LeavesPorts open_to f → IsLow f → (w s : State)
@@ -100,9 +100,9 @@ answered_alike open_to f ports low w s l =
 pub ended_alike : (open_to : ℕ → Bool) (f : Firmware) → LeavesPorts open_to f → IsLow f → (w s : State)
     → Same open_to w s → is_idle f.memory_map w ≡ is_idle f.memory_map s
 ended_alike open_to f ports low w s l =
-    let ready = low_shown open_to s.regs.sp f.memory_map.ready ports.ready low.ready in
+    let ready = low_shown open_to s.regs.sp f.memory_map.sample_flag ports.ready low.ready in
     let waits : ℕ → ℕ → Bool = λ p v. (p == f.memory_map.wait) && (v == 0) in
-    ap₂ waits (ap (λ (r : Regs). r.pc) l.regs) (l.mem.bytes f.memory_map.ready ready)
+    ap₂ waits (ap (λ (r : Regs). r.pc) l.regs) (l.mem.bytes f.memory_map.sample_flag ready)
 
 pub sound : (open_to : ℕ → Bool) → OpensFree open_to → (flags : ℕ) (f : Firmware) → IsLow f → WritesAgree
     → WritesAreQuiet

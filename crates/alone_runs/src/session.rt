@@ -45,7 +45,7 @@ impl<'a, M: Mem> Model for Session<'a, M> {
     ghost view = { λ a. record {
       rest = rest_here a.machine.flags (writes_harness a.form.firmware.now a.form.samples.now)
           a.plan.now a.run_state a.machine.state;
-      noted = a.machine.noted;
+      noted = a.machine.tags;
     } };
 
     ghost invariant = { λ a. IsUnderWay Fits (writes_harness a.form.firmware.now a.form.samples.now) a.plan.now
@@ -154,7 +154,7 @@ impl<'a, M: Mem> Session<'a, WatchedMem<M>> {
         ensures noted { self.new.noted
             ≡ slice_set self.old.noted at (Some (slice_index self.old.rest.here.state.mem at)) }
     {
-        self.machine.watch(at);
+        self.machine.mem.watch(at);
     }
 
     /// Stops watching an address.
@@ -162,7 +162,7 @@ impl<'a, M: Mem> Session<'a, WatchedMem<M>> {
         ensures rest { self.new.rest ≡ self.old.rest }
         ensures noted { self.new.noted ≡ slice_set self.old.noted at None }
     {
-        self.machine.unwatch(at);
+        self.machine.mem.unwatch(at);
     }
 
     /// Notes the bytes at all watched addresses again.
@@ -171,7 +171,7 @@ impl<'a, M: Mem> Session<'a, WatchedMem<M>> {
         ensures rest { self.new.rest ≡ self.old.rest }
         ensures noted { self.new.noted ≡ noted_again self.old.noted self.old.rest.here.state.mem }
     {
-        self.machine.note();
+        self.machine.mem.note();
     }
 
     /// Whether the byte at any watched address differs from the noted one.
@@ -179,6 +179,6 @@ impl<'a, M: Mem> Session<'a, WatchedMem<M>> {
     pub fn has_changed(&self) -> bool
         ensures { result ≡ any_changed self.now.noted self.now.rest.here.state.mem }
     {
-        self.machine.has_changed()
+        self.machine.mem.has_changed()
     }
 }

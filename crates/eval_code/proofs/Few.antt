@@ -1,10 +1,10 @@
 -- How many instructions and steps a sample takes at least and at most.
-use Rattle.eval_code.proofs.Words.{[], ◌*◌, ◌∷◌, ◌≡◌, ◌≤◌, arith, Dec, Form, form_bound, form_of, instruction_bound}
+use Rattle.eval_code.proofs.Words.{[], ◌*◌, ◌∷◌, ◌≡◌, ◌≤◌, arith, Dec, RuleInstruction, revw_bound, instruction_of, instruction_bound}
 use Rattle.eval_code.proofs.Words.{LayoutLaw, length, List, None, Option, Output, output_bound, refl, Some, steps_by}
 use Rattle.eval_code.proofs.Words.{sum_by, sum_by-cons, Width, Word}
 use Rattle.byte_scaling.specs.{declared.width.Width.TheVariants.Byte}
 use Rattle.eval_code.specs.{Bounds.BoundsAreFew}
-use Rattle.rule_layout.specs.declared.flat.Form.TheVariants as form
+use Rattle.rule_layout.specs.declared.flat.RuleInstruction.TheVariants as instruction
 use Rattle.eval_code.proofs.{Joins.sum_by-term_count, phases.RuleFacts.block_facts}
 use Rattle.eval_code.proofs.Placement.{element_count-le, sum_by-singleton_count}
 
@@ -22,9 +22,9 @@ outputs_bound w [] = omega arith
 outputs_bound w (o ∷ os) =
     omega (arith, sum_by-cons (output_bound w) o os, output_bound-le w o, outputs_bound w os)
 
-form_bound-le : (f : Form) → form_bound f ≤ 1
-form_bound-le form.Rev = omega arith
-form_bound-le form.Revw = omega arith
+revw_bound-le : (f : RuleInstruction) → revw_bound f ≤ 1
+revw_bound-le instruction.Rev = omega arith
+revw_bound-le instruction.Revw = omega arith
 
 pub bounds_are_few : LayoutLaw → BoundsAreFew
 unfolding instruction_bound steps_by
@@ -33,7 +33,7 @@ bounds_are_few law b w most valid limits =
     let terms = sum_by-term_count b.inputs valid.few_inputs valid.inputs in
     let singletons = sum_by-singleton_count b.outputs valid.few_outputs valid.outputs in
     let outputs = outputs_bound w b.outputs in
-    let form_is = form_bound-le (form_of b) in
+    let form_is = revw_bound-le (instruction_of b) in
     let elements = element_count-le b in
     let slots = facts.few_slots in
     let few_inputs = valid.few_inputs in

@@ -44,20 +44,20 @@ sum_by-term_count inputs few valid =
 -- the code over the parts of a block and its rules' layout
 pub eval_code_over-flat : (l : MemoryMap) (b : Block) (w : Width) (flat : Flat) (inputs : List Input)
     (outputs : List Output) (slots : List Slot) → HasPartsOf flat b → inputs ≡ b.inputs → outputs ≡ b.outputs
-    → slots ≡ flat.slots → eval_code_over l w inputs outputs slots flat.form ≡ eval_code l b w
+    → slots ≡ flat.slots → eval_code_over l w inputs outputs slots flat.instruction ≡ eval_code l b w
 eval_code_over-flat l b w flat inputs outputs slots h i o s =
-    let f = h.form in
+    let f = h.instruction in
     let same_slots : slots ≡ slots_of b = s ∙ h.slots in
     rw (i, o, same_slots, f)
 
 -- the weights and the rule list of a block's rules' layout
 pub weights-flat : (b : Block) (flat : Flat) → HasPartsOf flat b
-    → weight_bytes_by flat.form flat.weights ≡ weight_bytes b
-weights-flat b flat h = ap₂ (λ f ws. weight_bytes_by f ws) h.form h.weights
+    → weight_bytes_by flat.instruction flat.weights ≡ weight_bytes b
+weights-flat b flat h = ap₂ (λ f ws. weight_bytes_by f ws) h.instruction h.weights
 
 pub rules-flat : (slots : ℕ) (b : Block) (flat : Flat) → HasPartsOf flat b
-    → rule_bytes_by slots flat.form flat.conjunctions ≡ rule_bytes slots b
-rules-flat slots b flat h = ap₂ (λ f cs. rule_bytes_by slots f cs) h.form h.conjunctions
+    → rule_bytes_by slots flat.instruction flat.conjunctions ≡ rule_bytes slots b
+rules-flat slots b flat h = ap₂ (λ f cs. rule_bytes_by slots f cs) h.instruction h.conjunctions
 
 -- the parts of a block, put one behind the other, are its items
 pub block_items-parts : (l : MemoryMap) (b : Block) (w : Width) (before behind : List Instr) (t s ws rs : List ℕ)

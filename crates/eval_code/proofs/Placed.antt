@@ -7,7 +7,8 @@ use Rattle.eval_code.proofs.Words.{MemoryMap, NearestIsByte, None, Op, Place, pl
 use Rattle.eval_code.proofs.Words.{singleton_bytes, subst, table_bytes, weight_bytes, Width, ℕ, ⊎_elim}
 use Rattle.eval_code.specs.Placed.{IsInOrder, BlockRises, BlockIsShort, BlockStaysInside, GivesBehind}
 use Rattle.std.proofs.{lemmas.List.Elements.All-cons}
-use Rattle.eval_code.specs.Placed.{BlockGivesBytes, HasPlaces, BlockStands}
+use Rattle.cpu12_isa.specs.Agreement.{AgreeBetween}
+use Rattle.eval_code.specs.Placed.{BlockGivesBytes, BlockStands}
 use Rattle.eval_code.proofs.{steps.Memory.same_bytes, phases.RuleFacts.BlockFacts, phases.RuleFacts.block_facts}
 use Rattle.eval_code.proofs.Placement.{HasSizes, IsSpaced, HasPartSizes, part_sizes, block_rises, length-block_items}
 use Rattle.eval_code.proofs.phases.RuleMemory.{Below, below_all}
@@ -107,8 +108,8 @@ gives_bytes encoded law near l b w before behind apart v front back =
 -- the parts stand where the same bytes do
 there : (l : MemoryMap) (b : Block) (w : Width) (before behind : List Instr) (image : List (ℕ × ℕ)) (mem : List ℕ)
     → IsInOrder l before behind
-    → HasPartSizes l b w before behind → HasPlaces l image mem → Stood (image_memory image) l b w before behind
-    → Stood mem l b w before behind
+    → HasPartSizes l b w before behind → AgreeBetween l.code (l.rules + 9984) (image_memory image) mem
+    → Stood (image_memory image) l b w before behind → Stood mem l b w before behind
 there l b w before behind image mem o size same h =
     let m = image_memory image in
     let code = code_bytes (block_code l b w before behind) in

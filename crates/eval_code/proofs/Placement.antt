@@ -2,7 +2,7 @@
 use Rattle.eval_code.proofs.Words.{[], ◌*◌, ◌++◌, ◌+◌, ◌∷◌, ◌≡◌, ◌≤◌, All, arith, at_address, Block}
 use Rattle.eval_code.proofs.Words.{block_code, block_items, Byte, bytes_at, bytes_of_word, code_at, Conjunction}
 use Rattle.eval_code.proofs.Words.{conjunction_count, conjunctions_of, element_count, element_width, entry_count}
-use Rattle.eval_code.proofs.Words.{eval_code, flat_map, Form, form_of, Instr, IsRisingFrom, IsValid, IsValidOutput}
+use Rattle.eval_code.proofs.Words.{eval_code, flat_map, RuleInstruction, instruction_of, Instr, IsRisingFrom, IsValid, IsValidOutput}
 use Rattle.eval_code.proofs.Words.{Item, length, length-append, length-map, List, list_size, list_words, map, marked}
 use Rattle.eval_code.proofs.Words.{MemoryMap, Op, Output, refl, rule_bytes, rule_bytes_by, singleton_bytes}
 use Rattle.eval_code.proofs.Words.{singleton_count, slots_of, subst, sum_by, sum_by-cons, sym, table_bytes}
@@ -11,7 +11,7 @@ use Rattle.eval_code.proofs.Joins.{block_items-then, block_then, sum_by-term_cou
 use Rattle.eval_code.proofs.Lists.{length-marked}
 use Rattle.eval_code.proofs.Sizes.{code_size, code_size-append, length-le-code_size, code_size-eval, length-tables}
 use Rattle.eval_code.proofs.Sizes.{length-singletons, length-rule_weights}
-use Rattle.rule_layout.specs.declared.flat.Form.TheVariants as form
+use Rattle.rule_layout.specs.declared.flat.RuleInstruction.TheVariants as instruction
 
 -- what a block within the limits takes
 pub record HasSizes (b : Block) : Type 0 where
@@ -41,9 +41,9 @@ pub sum_by-singleton_count : (outputs : List Output) → length outputs ≤ 4 �
 sum_by-singleton_count outputs few valid =
     omega (arith, sum_by-valid IsValidOutput singleton_count 15 (λ x v. v.few_terms) outputs valid)
 
-length-weights : (f : Form) (weights : List ℕ) → length (weight_bytes_by f weights) ≤ length weights
-length-weights form.Rev weights = omega arith
-length-weights form.Revw weights = omega arith
+length-weights : (f : RuleInstruction) (weights : List ℕ) → length (weight_bytes_by f weights) ≤ length weights
+length-weights instruction.Rev weights = omega arith
+length-weights instruction.Revw weights = omega arith
 
 pub length-weights_of : (b : Block) → length (weights_of b) ≡ conjunction_count b.rules
 unfolding weights_of
@@ -66,10 +66,10 @@ entries-at_address base (c ∷ cs) =
       entries-at_address base cs,
     )
 
-length-rule_bytes : (slots : ℕ) (f : Form) (cs : List Conjunction)
+length-rule_bytes : (slots : ℕ) (f : RuleInstruction) (cs : List Conjunction)
     → length (rule_bytes_by slots f cs) ≡ element_width f * length (marked 0xFE 0xFF cs)
-length-rule_bytes slots form.Rev cs = omega arith
-length-rule_bytes slots form.Revw cs =
+length-rule_bytes slots instruction.Rev cs = omega arith
+length-rule_bytes slots instruction.Revw cs =
     omega (
       arith,
       length-words (list_words slots cs),
@@ -80,17 +80,17 @@ length-rule_bytes slots form.Revw cs =
 
 pub length-rules : (slots : ℕ) (b : Block) → length (rule_bytes slots b) ≡ list_size b
 unfolding list_size
-length-rules slots b = length-rule_bytes slots (form_of b) (conjunctions_of b)
+length-rules slots b = length-rule_bytes slots (instruction_of b) (conjunctions_of b)
 
 -- the elements of the list are no more than its bytes
 pub element_count-le : (b : Block) → element_count b ≤ list_size b
 unfolding list_size
 element_count-le b =
-    by_form (form_of b) (length (marked 0xFE 0xFF (conjunctions_of b))) (length-marked 0xFE 0xFF (conjunctions_of b))
+    by_form (instruction_of b) (length (marked 0xFE 0xFF (conjunctions_of b))) (length-marked 0xFE 0xFF (conjunctions_of b))
   where
-    by_form : (f : Form) (n : ℕ) → n ≡ element_count b → element_count b ≤ element_width f * n
-    by_form form.Rev n h = omega arith
-    by_form form.Revw n h = omega arith
+    by_form : (f : RuleInstruction) (n : ℕ) → n ≡ element_count b → element_count b ≤ element_width f * n
+    by_form instruction.Rev n h = omega arith
+    by_form instruction.Revw n h = omega arith
 
 rises_part : (at p : ℕ) (bytes : List ℕ) (items : List Item) → at ≤ p → IsRisingFrom (p + length bytes) items
     → IsRisingFrom at (bytes_at p bytes ++ items)
@@ -113,11 +113,11 @@ part_sizes l b w before behind v h =
         arith,
         code_size-append before (eval_code l b w ++ behind),
         code_size-append (eval_code l b w) behind,
-        code_size-eval l w b.inputs b.outputs (slots_of b) (form_of b) v.few_inputs terms v.few_outputs h.few_slots,
+        code_size-eval l w b.inputs b.outputs (slots_of b) (instruction_of b) v.few_inputs terms v.few_outputs h.few_slots,
       );
       tables = omega (arith, length-tables b.inputs, terms);
       singletons = omega (arith, length-singletons b.outputs, sum_by-singleton_count b.outputs v.few_outputs v.outputs);
-      weights = omega (arith, length-weights (form_of b) (weights_of b), length-weights_of b, h.few_conjunctions);
+      weights = omega (arith, length-weights (instruction_of b) (weights_of b), length-weights_of b, h.few_conjunctions);
       rules = omega (arith, length-rules l.slots b, h.short_list);
     }
 

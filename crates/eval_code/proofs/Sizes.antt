@@ -1,6 +1,6 @@
 -- How many bytes the parts of a firmware have at most.
 use Rattle.eval_code.proofs.Words.{[], ◌*◌, ◌++◌, ◌+◌, ◌∙◌, ◌∷◌, ◌≡◌, ◌≤◌, ap, arith, code_bytes, Complement}
-use Rattle.eval_code.proofs.Words.{conjunction_count, encode_of, eval_code_over, flat_map, flat_map-append, Form}
+use Rattle.eval_code.proofs.Words.{conjunction_count, encode_of, eval_code_over, flat_map, flat_map-append, RuleInstruction}
 use Rattle.eval_code.proofs.Words.{fuzzify_code, Input, input_slots, Instr, LdaaImmediate, length, length-append}
 use Rattle.eval_code.proofs.Words.{length-map, List, map, Mem, MemoryMap, nearest_byte, None, Option, option_map, Out}
 use Rattle.eval_code.proofs.Words.{Output, output_code, outputs_code, places, quotient_code, refl, replicate, row_of}
@@ -10,7 +10,7 @@ use Rattle.eval_code.proofs.Words.{Word, zero, ℕ}
 use Rattle.byte_scaling.specs.{Weights.weight_byte_of, declared.width.Width.TheVariants.Byte}
 use Rattle.rule_layout.specs.{Layouts.rule_weights}
 use Rattle.eval_code.specs.{Code.slot_code}
-use Rattle.rule_layout.specs.declared.flat.Form.TheVariants as form
+use Rattle.rule_layout.specs.declared.flat.RuleInstruction.TheVariants as instruction
 
 -- the bytes of instructions
 abbrev pub code_size : List Instr → ℕ
@@ -65,9 +65,9 @@ code_size-slots base inputs at (s ∷ ss) =
       code_size-slots base inputs (at + 1) ss,
     )
 
-pub code_size-rules : (l : MemoryMap) (f : Form) → code_size (rules_code l f) ≤ 14
-code_size-rules l form.Rev = omega arith
-code_size-rules l form.Revw = omega arith
+pub code_size-rules : (l : MemoryMap) (f : RuleInstruction) → code_size (rules_code l f) ≤ 14
+code_size-rules l instruction.Rev = omega arith
+code_size-rules l instruction.Revw = omega arith
 
 code_size-quotient : (w : Width) (at : ℕ) (default : Option ℕ) → code_size (quotient_code w at default) ≤ 28
 code_size-quotient Byte at None = omega arith
@@ -88,7 +88,7 @@ code_size-outputs w singletons slots at (o ∷ os) =
 
 -- the code of a block within the limits
 pub code_size-eval : (l : MemoryMap) (w : Width) (inputs : List Input) (outputs : List Output) (slots : List Slot)
-    (f : Form) → length inputs ≤ 8 → sum_by term_count inputs ≤ 120 → length outputs ≤ 4 → length slots ≤ 300
+    (f : RuleInstruction) → length inputs ≤ 8 → sum_by term_count inputs ≤ 120 → length outputs ≤ 4 → length slots ≤ 300
     → code_size (eval_code_over l w inputs outputs slots f) ≤ 2416
 code_size-eval l w inputs outputs slots f few_inputs few_terms few_outputs few_slots =
     let a = fuzzify_code l.inputs inputs in

@@ -7,7 +7,7 @@ pub use Rattle.cpu12_isa.specs.declared.instr.Instr.TheVariants.{Ediv, LdaaExten
 pub use Rattle.cpu12_isa.specs.declared.instr.Instr.TheVariants.{LdxImmediate, LdyImmediate, Mem, Orcc, StaaExtended}
 pub use Rattle.cpu12_isa.specs.declared.instr.Instr.TheVariants.{StabExtended, TransferYD}
 pub use Rattle.cpu12_parts.specs.Rules.{element_bytes, elements_of, named, rules_target}
-pub use Rattle.eval_code.specs.Bounds.{complement_count, element_count, entry_count, form_bound, input_term_count}
+pub use Rattle.eval_code.specs.Bounds.{complement_count, element_count, entry_count, revw_bound, input_term_count}
 pub use Rattle.eval_code.specs.Bounds.{output_bound, output_term_count}
 pub use Rattle.eval_code.specs.Code.{block_code, code_bytes, eval_code, eval_code_over, fuzzify_code, input_slots}
 pub use Rattle.eval_code.specs.Code.{output_code, outputs_code, quotient_code, rules_code, slots_code, terms_before}
@@ -18,7 +18,7 @@ pub use Rattle.eval_code.specs.Firing.{AreInputBytes, RulesGiveMasses, fired, le
 pub use Rattle.eval_code.specs.Firing.{slots_after, slots_before}
 pub use Rattle.fuzzy_meaning.specs.Blocks.{IsValid, IsValidInput, IsValidOutput, IsWithin}
 pub use Rattle.rule_layout.specs.Layouts.{IsBelow, IsWithinLimits, LayoutLaw, conjunction_count, element_width}
-pub use Rattle.rule_layout.specs.Layouts.{form_of, rule_spread}
+pub use Rattle.rule_layout.specs.Layouts.{instruction_of, rule_spread}
 pub use Rattle.rule_layout.specs.Lists.{at_address, list_bytes, list_words, marked}
 pub use Rattle.rule_layout.specs.Slots.{complement_slot, input_terms, number_in, out_slot, output_terms}
 pub use Rattle.rule_layout.specs.Slots.{singleton_count, term_count, term_slot, terms_from}
@@ -37,12 +37,12 @@ pub use Rattle.cpu12_asm.specs.{declared.items.Item.TheVariants.Byte, declared.i
 pub use Rattle.cpu12_asm.specs.{declared.items.Item.TheVariants.Place}
 pub use Rattle.cpu12_emul.specs.{Image.HoldsImage, Image.byte_or_zero, Image.image_memory}
 pub use Rattle.cpu12_isa.proofs.{Algebra.fits_opened, Algebra.fits_put}
-pub use Rattle.cpu12_isa.specs.{Code.decode_at, Code.encode_of, Code.six_from, Flags.has, Flags.opened, Memory.from}
-pub use Rattle.cpu12_isa.specs.{Memory.plus, declared.instr.Ccr.Ccr, declared.instr.Instr.Instr}
-pub use Rattle.cpu12_isa.specs.{declared.instr.Regs.Regs}
+pub use Rattle.cpu12_isa.specs.{Agreement.AgreeFrom, Code.decode_at, Code.encode_of, Code.six_from, Flags.has}
+pub use Rattle.cpu12_isa.specs.{Flags.opened, Memory.from, Memory.plus, Plain.interrupt_masks, Regions.stack_end}
+pub use Rattle.cpu12_isa.specs.{declared.instr.Ccr.Ccr, declared.instr.Instr.Instr, declared.instr.Regs.Regs}
 pub use Rattle.cpu12_parts.specs.{Averages.dot, Averages.total, Parts.weighted, State.State, Touching.Each}
 pub use Rattle.cpu12_parts.specs.{Whole.after_plain}
-pub use Rattle.eval_code.specs.{Items.IsApart, Items.bytes_at, Items.code_at, Masks.interrupt_masks, Placed.GiveBytes}
+pub use Rattle.eval_code.specs.{Items.IsApart, Items.bytes_at, Items.code_at, Placed.GiveBytes}
 pub use Rattle.eval_code.specs.{Standing.DecodesWhereItStands, Widths.answer, Widths.bytes_of}
 pub use Rattle.eval_code.specs.{declared.memory_map.MemoryMap.MemoryMap}
 pub use Rattle.fuzzy_meaning.specs.{declared.block.Block.Block, declared.block.Input.Input}
@@ -51,7 +51,7 @@ pub use Rattle.fuzzy_meaning.specs.{declared.block.Trapezoid.Trapezoid}
 pub use Rattle.fz_num.specs.{declared.dec.Dec.Dec}
 pub use Rattle.point_slope.specs.{Bytes.byte_mass, Bytes.literal_grade, Tables.grade_of, Tables.row_of}
 pub use Rattle.point_slope.specs.{Tables.rows_of}
-pub use Rattle.rule_layout.specs.{declared.flat.Conjunction.Conjunction, declared.flat.Form.Form}
+pub use Rattle.rule_layout.specs.{declared.flat.Conjunction.Conjunction, declared.flat.RuleInstruction.RuleInstruction}
 pub use Rattle.rule_layout.specs.{declared.flat.Slot.Slot, declared.flat.Slot.TheVariants.Complement}
 pub use Rattle.rule_layout.specs.{declared.flat.Slot.TheVariants.Out, declared.flat.Slot.TheVariants.Term}
 pub use Rattle.std.proofs.{lemmas.Bool.Decides.nat_tests, lemmas.Bool.cases_eq, lemmas.Bool.cases_lt}

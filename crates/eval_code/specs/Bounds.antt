@@ -3,10 +3,10 @@
 use Rattle.std.specs.Prelude.{ℕ, ◌+◌, ◌-◌, ◌*◌, ◌≤◌, length, sum_by, Option, Some, None}
 use Rattle.fz_num.specs.declared.dec.Dec.{Dec}
 use Rattle.fuzzy_meaning.specs.{declared.block.Block.Block, declared.block.Output.Output, Blocks.IsValid}
-use Rattle.rule_layout.specs.declared.{flat.Conjunction.Conjunction, flat.Form.Form}
-use Rattle.rule_layout.specs.declared.flat.Form.TheVariants as form
+use Rattle.rule_layout.specs.declared.{flat.Conjunction.Conjunction, flat.RuleInstruction.RuleInstruction}
+use Rattle.rule_layout.specs.declared.flat.RuleInstruction.TheVariants as instruction
 use Rattle.rule_layout.specs.Slots.{slots_of, term_count, singleton_count}
-use Rattle.rule_layout.specs.Layouts.{conjunctions_of, form_of, IsWithinLimits}
+use Rattle.rule_layout.specs.Layouts.{conjunctions_of, instruction_of, IsWithinLimits}
 use Rattle.byte_scaling.specs.declared.{width.Width.Width, width.Width.TheVariants.Byte, width.Width.TheVariants.Word}
 
 abbrev pub input_term_count : Block → ℕ
@@ -37,14 +37,14 @@ output_bound w o = by_default w o.default
     by_default Word None = 12
 
 -- REVW takes an instruction more
-abbrev pub form_bound : Form → ℕ
-form_bound form.Rev = 0
-form_bound form.Revw = 1
+abbrev pub revw_bound : RuleInstruction → ℕ
+revw_bound instruction.Rev = 0
+revw_bound instruction.Revw = 1
 
 unfoldable pub instruction_bound : Width → Block → ℕ
 instruction_bound w b =
     13 + length b.inputs + input_term_count b + 3 * complement_count b + output_term_count b
-    + sum_by (output_bound w) b.outputs + form_bound (form_of b)
+    + sum_by (output_bound w) b.outputs + revw_bound (instruction_of b)
 
 -- the steps of at most so many instructions: REV or REVW takes a step an element, and WAV a step a term
 unfoldable pub steps_by : Block → ℕ → ℕ

@@ -4,10 +4,10 @@ use Rattle.std.specs.Prelude.{ℕ, ◌+◌, ◌-◌, List, [], ◌∷◌, ◌++�
 use Rattle.std.specs.Prelude.{None, option_map}
 use Rattle.fuzzy_meaning.specs.declared.{block.Block.Block, block.Input.Input, block.Output.Output}
 use Rattle.byte_scaling.specs.Cells.{nearest_byte}
-use Rattle.rule_layout.specs.declared.{flat.Slot.Slot, flat.Form.Form}
+use Rattle.rule_layout.specs.declared.{flat.Slot.Slot, flat.RuleInstruction.RuleInstruction}
 use Rattle.rule_layout.specs.declared.flat.Slot.TheVariants.{Term, Complement, Out}
-use Rattle.rule_layout.specs.declared.flat.Form.TheVariants as form
-use Rattle.rule_layout.specs.{Slots.slots_of, Slots.term_count, Slots.singleton_count, Layouts.form_of}
+use Rattle.rule_layout.specs.declared.flat.RuleInstruction.TheVariants as instruction
+use Rattle.rule_layout.specs.{Slots.slots_of, Slots.term_count, Slots.singleton_count, Layouts.instruction_of}
 use Rattle.cpu12_isa.specs.{declared.instr.Instr.Instr, Code.encode_of, Code.FitsOperands}
 use Rattle.cpu12_isa.specs.declared.instr.Instr.TheVariants.{LdaaImmediate, LdaaExtended, LdabImmediate, LdxImmediate}
 use Rattle.cpu12_isa.specs.declared.instr.Instr.TheVariants.{LdyImmediate, StaaExtended, StabExtended, ClrExtended}
@@ -51,9 +51,9 @@ slots_code slots inputs at [] = []
 slots_code slots inputs at (s ∷ ss) = slot_code slots inputs at s ++ slots_code slots inputs (at + 1) ss
 
 -- the rule list over the slots, from A 255 and V 0, with its weights where it has some
-abbrev pub rules_code : MemoryMap → Form → List Instr
-rules_code l form.Rev = LdxImmediate l.rules ∷ LdyImmediate l.slots ∷ LdaaImmediate 0xFF ∷ Andcc 0xFD ∷ Rev ∷ []
-rules_code l form.Revw =
+abbrev pub rules_code : MemoryMap → RuleInstruction → List Instr
+rules_code l instruction.Rev = LdxImmediate l.rules ∷ LdyImmediate l.slots ∷ LdaaImmediate 0xFF ∷ Andcc 0xFD ∷ Rev ∷ []
+rules_code l instruction.Revw =
     LdxImmediate l.rules ∷ LdyImmediate l.weights ∷ LdaaImmediate 0xFF ∷ Andcc 0xFD ∷ Orcc 0x01 ∷ Revw ∷ []
 
 -- the bytes of a word: the quotient, and what the remainder makes
@@ -86,8 +86,9 @@ outputs_code w singletons slots at (o ∷ os) =
 abbrev pub input_slots : List Slot → List Output → ℕ
 input_slots slots outputs = length slots - sum_by singleton_count outputs
 
--- EVAL, the answers to the inputs' bytes, over slots and with rules of this form; what stands behind it is its caller's
-abbrev pub eval_code_over : MemoryMap → Width → List Input → List Output → List Slot → Form → List Instr
+-- EVAL, the answers to the inputs' bytes, over slots and with rules for this instruction; what stands behind it is its
+-- caller's
+abbrev pub eval_code_over : MemoryMap → Width → List Input → List Output → List Slot → RuleInstruction → List Instr
 eval_code_over l w inputs outputs slots f =
     (LdxImmediate l.tables ∷ LdyImmediate l.slots ∷ [])
     ++ (fuzzify_code l.inputs inputs
@@ -96,7 +97,7 @@ eval_code_over l w inputs outputs slots f =
     ++ outputs_code w l.singletons (l.slots + input_slots slots outputs) l.outputs outputs)))
 
 abbrev pub eval_code : MemoryMap → Block → Width → List Instr
-eval_code l b w = eval_code_over l w b.inputs b.outputs (slots_of b) (form_of b)
+eval_code l b w = eval_code_over l w b.inputs b.outputs (slots_of b) (instruction_of b)
 
 -- EVAL with the code before and behind it
 abbrev pub block_code : MemoryMap → Block → Width → List Instr → List Instr → List Instr

@@ -3,34 +3,27 @@
 use Rattle.std.specs.Prelude.{◌≡◌, ℕ, ◌+◌, ◌-◌, ◌*◌, ◌^◌, ◌<◌, ◌≤◌, ◌⊎◌, List, [], ◌∷◌, length, slice_index, slice_set}
 use Rattle.fuzzy_meaning.specs.{declared.block.Block.Block, Blocks.IsValid}
 use Rattle.rule_layout.specs.{Slots.slots_of, Layouts.IsWithinLimits}
-use Rattle.cpu12_isa.specs.Code.{six_from}
-use Rattle.cpu12_parts.specs.{State.State, Executions.Execution, Executions.all_steps}
-use Rattle.cpu12_parts.specs.Touching.{IsIn, IsInOne, Each, IsInstructionOver, IsBetween}
+use Rattle.cpu12_parts.specs.{State.State, Executions.all_steps, Touching.IsInOne, Touching.IsBetween}
 use Rattle.eval_code.specs.{declared.memory_map.MemoryMap.MemoryMap, Widths.bytes_of, Widths.answer}
 use Rattle.eval_code.specs.Data.{table_bytes, singleton_bytes, weight_bytes, rule_bytes}
 use Rattle.byte_scaling.specs.{declared.width.Width.Width, Widths.places}
-use Rattle.eval_code.specs.{Bounds.instruction_bound, Bounds.step_bound, Masks.interrupt_masks, Code.code_bytes}
-use Rattle.eval_code.specs.{Code.eval_code, Items.IsApart, Firing.AreInputBytes}
+use Rattle.eval_code.specs.{Bounds.instruction_bound, Bounds.step_bound, Code.code_bytes, Code.eval_code}
+use Rattle.eval_code.specs.{Items.IsApart, Firing.AreInputBytes, Frames.Frame, Frames.IsRunIn}
 
--- what a memory map keeps for a block's evaluation: its code, and what that writes and reads
-abbrev pub code_region : MemoryMap → ℕ × ℕ
-code_region l = (l.eval, 2432)
+-- what a memory map keeps for a block's evaluation: its code, and what that reads and writes
+abbrev pub eval_frame : MemoryMap → Frame
+eval_frame l = record {
+  code = (l.eval, 2432);
+  reads = (l.inputs, 8) ∷ (l.slots, 300) ∷ (l.tables, 480) ∷ (l.singletons, 60) ∷ (l.weights, 512)
+      ∷ (l.rules, 9984) ∷ [];
+  writes = (l.outputs, 8) ∷ (l.slots, 300) ∷ [];
+}
 
 abbrev pub Writes : MemoryMap → ℕ → Type 0
-Writes l = IsInOne ((l.outputs, 8) ∷ (l.slots, 300) ∷ [])
+Writes l = IsInOne (eval_frame l).writes
 
 abbrev pub Reads : MemoryMap → ℕ → Type 0
-Reads l =
-    IsInOne ((l.inputs, 8) ∷ (l.slots, 300) ∷ (l.tables, 480) ∷ (l.singletons, 60) ∷ (l.weights, 512) ∷ (l.rules, 9984)
-    ∷ [])
-
--- a whole instruction of EVAL: it stands in EVAL's code, touches what is owned alone, and leaves SP, I and X
-pub record IsEvalStep (l : MemoryMap) (flags d : ℕ) (s t : State) : Type 0 where
-  pub between : IsBetween s
-  pub code : Each (IsIn (code_region l)) (six_from s.regs.pc)
-  pub instruction : IsInstructionOver (Reads l) (Writes l) flags d s t
-  pub stack : t.regs.sp ≡ s.regs.sp
-  pub masks : interrupt_masks t.regs.ccr ≡ interrupt_masks s.regs.ccr
+Reads l = IsInOne (eval_frame l).reads
 
 abbrev pub eval_bytes : MemoryMap → Block → Width → List ℕ
 eval_bytes l b w = code_bytes (eval_code l b w)
@@ -71,7 +64,7 @@ pub record IsAtEval (l : MemoryMap) (b : Block) (w : Width) (bytes : List ℕ) (
 pub record IsEvaluated (l : MemoryMap) (b : Block) (w : Width) (flags : ℕ) (bytes : List ℕ) (before : ℕ → ℕ)
     (s t : State) : Type 0 where
   pub ds : List ℕ
-  pub execution : Execution (IsEvalStep l flags) ds s t
+  pub run : IsRunIn (eval_frame l) flags ds s t
   pub between : IsBetween t
   pub pc : t.regs.pc ≡ l.eval + length (eval_bytes l b w)
   pub answers : HasAnswers l b w (λ o. answer w b o bytes (before o)) t.mem

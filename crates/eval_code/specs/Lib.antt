@@ -5,7 +5,7 @@ pub mod Data
 pub mod Items
 pub mod Bounds
 pub mod Firing
-pub mod Masks
+pub mod Frames
 pub mod Evaluation
 pub mod Placed
 pub mod Standing

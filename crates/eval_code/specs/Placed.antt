@@ -1,9 +1,9 @@
 -- A block's items at the addresses of any memory map: where they give bytes, and what stands there in an image of them.
 -- Beside the promise.
-use Rattle.std.specs.Prelude.{◌≡◌, ◌≢◌, ℕ, ◌+◌, ◌^◌, ◌<◌, ◌≤◌, ◌⊎◌, List, ◌∷◌, ◌++◌, length, All, None, slice_index}
+use Rattle.std.specs.Prelude.{◌≡◌, ◌≢◌, ℕ, ◌+◌, ◌^◌, ◌<◌, ◌≤◌, ◌⊎◌, List, ◌∷◌, ◌++◌, length, All, None}
 use Rattle.fuzzy_meaning.specs.{declared.block.Block.Block, Blocks.IsValid}
 use Rattle.rule_layout.specs.Layouts.{IsWithinLimits, weights_of}
-use Rattle.cpu12_isa.specs.declared.instr.Instr.{Instr}
+use Rattle.cpu12_isa.specs.{declared.instr.Instr.Instr, Agreement.AgreeBetween}
 use Rattle.cpu12_asm.specs.declared.{items.Item.Item, items.Item.TheVariants.Place}
 use Rattle.cpu12_asm.specs.{Bytes.byte_at, Bytes.Holds, Items.given_by, Items.IsRisingFrom, Items.IsRising}
 use Rattle.cpu12_emul.specs.Image.{image_memory}
@@ -97,16 +97,13 @@ pub record StandsBetween (l : MemoryMap) (b : Block) (w : Width) (before behind 
   pub back : HasBytes mem (l.eval + length (eval_bytes l b w)) (code_bytes behind)
   pub room : length (eval_bytes l b w) ≤ eval_room
 
--- memory has an image's bytes from the code to the rule list's end
-abbrev pub HasPlaces : MemoryMap → List (ℕ × ℕ) → List ℕ → Type 0
-HasPlaces l image mem =
-    (at : ℕ) → l.code ≤ at → at < l.rules + 9984 → slice_index mem at ≡ slice_index (image_memory image) at
-
--- So it does in a memory that has there the bytes of an image of items that go up, of which these are some.
+-- So it does in a memory that has from the code to the rule list's end the bytes of an image of items that go up, of
+-- which these are some.
 abbrev pub BlockStands : Type 0
 BlockStands =
     (image : List (ℕ × ℕ)) (mem : List ℕ) (front rest : List Item) (l : MemoryMap) (b : Block) (w : Width)
     (before behind : List Instr) → IsInOrder l before behind → IsValid b → IsWithinLimits b
     → Holds image (given_by (front ++ (block_items l b w before behind ++ rest)))
-    → IsRising (front ++ (block_items l b w before behind ++ rest)) → HasPlaces l image mem
+    → IsRising (front ++ (block_items l b w before behind ++ rest))
+    → AgreeBetween l.code (l.rules + 9984) (image_memory image) mem
     → StandsBetween l b w before behind mem

@@ -1,14 +1,13 @@
 //! Bounds on the instructions and steps of a sample.
 ghost use Rattle.std.specs.Prelude.{◌≡◌, ◌+◌, ◌≤◌, sum_by, length, All};
-ghost use Rattle.fuzzy_meaning.specs.Blocks.{IsValid, IsValidInput, IsValidOutput};
+ghost use Rattle.fuzzy_meaning.specs.Blocks.{IsValidInput, IsValidOutput};
 ghost use Rattle.rule_layout.specs.Slots.{term_count, singleton_count};
-ghost use Rattle.rule_layout.specs.Layouts.{flat_of, IsLaidOut, IsWithinLimits};
-ghost use Rattle.eval_code.specs.Bounds.{output_bound, entry_count, form_bound, instruction_bound, steps_by};
+ghost use Rattle.eval_code.specs.Bounds.{output_bound, entry_count, revw_bound, instruction_bound, steps_by};
 
 use byte_scaling::Width;
-use fuzzy_meaning::{Block, Input, Output};
+use fuzzy_meaning::{Input, Output};
 use rule_layout::laws::flat_has_parts;
-use rule_layout::{Conjunction, Flat, Form};
+use rule_layout::{Conjunction, LaidOut, RuleInstruction};
 
 /// How many terms inputs have.
 fn input_terms(inputs: &[Input]) -> u32
@@ -80,25 +79,23 @@ fn elements(conjunctions: &[Conjunction]) -> u32
 }
 
 /// REVW takes one more instruction than REV.
-fn form_bound(form: Form) -> u32
-    ensures value { result ≡ form_bound form }
+fn revw_bound(instruction: RuleInstruction) -> u32
+    ensures value { result ≡ revw_bound instruction }
     ensures few { result ≤ 1 }
 {
-    match form {
-        Form::Rev => 0,
-        Form::Revw => 1,
+    match instruction {
+        RuleInstruction::Rev => 0,
+        RuleInstruction::Revw => 1,
     }
 }
 
 /// The most instructions that a sample takes.
-pub fn instruction_bound(width: Width, block: &Block, flat: &Flat) -> u32
-    requires valid { IsValid block.now }
-    requires flat { flat.now ≡ flat_of block.now }
-    requires laid_out { IsLaidOut flat.now }
-    ensures value { result ≡ instruction_bound width block.now }
+pub fn instruction_bound(width: Width, laid_out: &LaidOut<'_>) -> u32
+    ensures value { result ≡ instruction_bound width laid_out.now.block.now }
     ensures few { result ≤ 2000 }
 {
     flat_has_parts();
+    let (block, flat) = (laid_out.block, &laid_out.flat);
     let terms = input_terms(block.inputs.as_slice());
     let singletons = u32::from(output_terms(block.outputs.as_slice()));
     let complements = (flat.slots.len() as u32)
@@ -109,21 +106,19 @@ pub fn instruction_bound(width: Width, block: &Block, flat: &Flat) -> u32
         + 3 * complements
         + singletons
         + output_bounds(width, block.outputs.as_slice())
-        + form_bound(flat.form)
+        + revw_bound(flat.instruction)
 }
 
 /// The steps of at most this many instructions of a sample.
-pub fn steps_by(block: &Block, flat: &Flat, instructions: u32) -> u32
-    requires valid { IsValid block.now }
-    requires flat { flat.now ≡ flat_of block.now }
-    requires limits { IsWithinLimits block.now }
-    requires few { instructions ≤ 130000 }
-    ensures { result ≡ steps_by block.now instructions }
+pub fn steps_by(laid_out: &LaidOut<'_>, instructions: u32) -> u32
+    requires { instructions ≤ 130000 }
+    ensures { result ≡ steps_by laid_out.now.block.now instructions }
 {
     flat_has_parts();
+    let block = laid_out.block;
     let singletons = u32::from(output_terms(block.outputs.as_slice()));
     let outputs = block.outputs.len() as u32;
     instructions.saturating_sub(1).saturating_sub(outputs)
-        + elements(flat.conjunctions.as_slice())
+        + elements(laid_out.flat.conjunctions.as_slice())
         + singletons
 }

@@ -13,7 +13,7 @@ use byte_scaling::{Width, near};
 use cpu12_asm::Item;
 use cpu12_isa::instr::Instr;
 use fuzzy_meaning::{Input, Output};
-use rule_layout::{Form, Slot};
+use rule_layout::{RuleInstruction, Slot};
 use std::alloc::AllocError;
 
 /// Instructions one after another.
@@ -120,12 +120,12 @@ pub(crate) fn push_slots(
 pub(crate) fn push_rules(
     items: &mut Vec<Item>,
     memory_map: &MemoryMap,
-    form: Form,
+    instruction: RuleInstruction,
 ) -> Result<(), AllocError>
-    ensures { OnOk result (items.new.items ≡ items.old.items ++ map Op (rules_code memory_map.now form)) }
+    ensures { OnOk result (items.new.items ≡ items.old.items ++ map Op (rules_code memory_map.now instruction)) }
 {
-    match form {
-        Form::Rev => push_code(
+    match instruction {
+        RuleInstruction::Rev => push_code(
             items,
             &[
                 Instr::LdxImmediate(memory_map.rules),
@@ -135,7 +135,7 @@ pub(crate) fn push_rules(
                 Instr::Rev,
             ],
         ),
-        Form::Revw => push_code(
+        RuleInstruction::Revw => push_code(
             items,
             &[
                 Instr::LdxImmediate(memory_map.rules),

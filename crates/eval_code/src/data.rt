@@ -2,7 +2,6 @@
 ghost use Rattle.std.specs.Prelude.{◌≡◌, ◌+◌, ◌^◌, ◌<◌, ◌++◌, map, flat_map, IfOk, OnOk};
 ghost use Rattle.fuzzy_meaning.specs.Blocks.{IsValid, IsValidOutput};
 ghost use Rattle.cpu12_asm.specs.declared.items.Item.TheVariants.{Byte};
-ghost use Rattle.rule_layout.specs.Layouts.{IsLaidOut};
 ghost use Rattle.eval_code.specs.Data.{table_bytes, singleton_bytes, singleton_bytes_of, weight_bytes_by};
 ghost use Rattle.eval_code.specs.Data.{bytes_of_word, rule_bytes_by};
 
@@ -10,7 +9,7 @@ use byte_scaling::near;
 use cpu12_asm::Item;
 use fuzzy_meaning::{Block, Output};
 use point_slope::table;
-use rule_layout::{Flat, Form};
+use rule_layout::{Flat, LaidOut, RuleInstruction};
 use std::alloc::{AllocError, Global};
 
 /// Bytes one after another.
@@ -69,11 +68,11 @@ pub fn singleton_bytes(alloc: Global, block: &Block) -> Result<Vec<u8>, AllocErr
 
 /// The weights, for REVW only.
 pub(crate) fn weight_bytes(flat: &Flat) -> &[u8]
-    ensures { result.now ≡ weight_bytes_by flat.now.form flat.now.weights }
+    ensures { result.now ≡ weight_bytes_by flat.now.instruction flat.now.weights }
 {
-    match flat.form {
-        Form::Rev => &[],
-        Form::Revw => flat.weights.as_slice(),
+    match flat.instruction {
+        RuleInstruction::Rev => &[],
+        RuleInstruction::Revw => flat.weights.as_slice(),
     }
 }
 
@@ -90,14 +89,15 @@ fn bytes_of_words(alloc: Global, words: &[u16]) -> Result<Vec<u8>, AllocError>
 }
 
 /// The rule list, with the slots from an address on.
-pub fn rule_bytes(alloc: Global, slots: u16, flat: &Flat) -> Result<Vec<u8>, AllocError>
-    requires laid_out { IsLaidOut flat.now }
-    requires room { slots + 1024 < 2 ^ 16 }
-    ensures { IfOk result (λ v. v.items ≡ rule_bytes_by slots flat.now.form flat.now.conjunctions) }
+pub fn rule_bytes(alloc: Global, slots: u16, laid_out: &LaidOut<'_>) -> Result<Vec<u8>, AllocError>
+    requires { slots + 1024 < 2 ^ 16 }
+    ensures { IfOk result
+        (λ v. v.items ≡ rule_bytes_by slots laid_out.now.flat.instruction laid_out.now.flat.conjunctions) }
 {
-    match flat.form {
-        Form::Rev => flat.bytes(alloc),
-        Form::Revw => {
+    let flat = &laid_out.flat;
+    match flat.instruction {
+        RuleInstruction::Rev => flat.bytes(alloc),
+        RuleInstruction::Revw => {
             let words = flat.words_from(alloc, slots)?;
             bytes_of_words(alloc, words.as_slice())
         }

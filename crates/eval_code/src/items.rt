@@ -1,8 +1,7 @@
 //! The items of EVAL and its data.
 ghost use Rattle.std.specs.Prelude.{◌≡◌, ◌≤◌, ◌++◌, map, length, All, OnOk};
-ghost use Rattle.fuzzy_meaning.specs.Blocks.{IsValid, IsValidInput, IsValidOutput};
+ghost use Rattle.fuzzy_meaning.specs.Blocks.{IsValidInput, IsValidOutput};
 ghost use Rattle.cpu12_asm.specs.declared.items.Item.TheVariants.{Op};
-ghost use Rattle.rule_layout.specs.Layouts.{flat_of, IsLaidOut};
 ghost use Rattle.eval_code.specs.{Code.eval_code_over, Items.bytes_at, Items.block_items, Items.HasRoom};
 
 use crate::bounds::output_terms;
@@ -12,33 +11,36 @@ use crate::memory_map::MemoryMap;
 use byte_scaling::Width;
 use cpu12_asm::Item;
 use cpu12_isa::instr::Instr;
-use fuzzy_meaning::{Block, Input, Output};
+use fuzzy_meaning::{Input, Output};
 use rule_layout::laws::flat_has_parts;
-use rule_layout::{Flat, Form, Slot};
+use rule_layout::{LaidOut, RuleInstruction, Slot};
 use std::alloc::{AllocError, Global};
 
+/// The code that is put around EVAL.
+#[derive(Clone, Copy)]
+pub struct Around<'a> {
+    pub before: &'a [Instr],
+    pub behind: &'a [Instr],
+}
+
 /// Appends a block's code at a memory map to other items, with what comes before and after EVAL, its tables and
-/// its rule list. `flat` is the block's rules as `spread` lays them out.
+/// its rule list.
 pub fn push_block(
     alloc: Global,
     items: &mut Vec<Item>,
     memory_map: &MemoryMap,
     width: Width,
-    block: &Block,
-    flat: &Flat,
-    before: &[Instr],
-    behind: &[Instr],
+    laid_out: &LaidOut<'_>,
+    around: &Around<'_>,
 ) -> Result<(), AllocError>
-    requires valid { IsValid block.now }
-    requires flat { flat.now ≡ flat_of block.now }
-    requires laid_out { IsLaidOut flat.now }
-    requires room { HasRoom memory_map.now }
-    ensures { OnOk result (items.new.items
-        ≡ items.old.items ++ block_items memory_map.now block.now width before.now behind.now) }
+    requires { HasRoom memory_map.now }
+    ensures { OnOk result (items.new.items ≡ items.old.items ++ block_items memory_map.now laid_out.now.block.now
+        width around.now.before.now around.now.behind.now) }
 {
     flat_has_parts();
+    let (block, flat) = (laid_out.block, &laid_out.flat);
     items.push(Item::Place(memory_map.code))?;
-    push_code(items, before)?;
+    push_code(items, around.before)?;
     push_eval(
         items,
         memory_map,
@@ -46,9 +48,9 @@ pub fn push_block(
         block.inputs.as_slice(),
         block.outputs.as_slice(),
         flat.slots.as_slice(),
-        flat.form,
+        flat.instruction,
     )?;
-    push_code(items, behind)?;
+    push_code(items, around.behind)?;
     push_bytes_at(items, memory_map.tables, &table_bytes(alloc, block)?)?;
     push_bytes_at(
         items,
@@ -59,7 +61,7 @@ pub fn push_block(
     push_bytes_at(
         items,
         memory_map.rules,
-        &rule_bytes(alloc, memory_map.slots, flat)?,
+        &rule_bytes(alloc, memory_map.slots, laid_out)?,
     )?;
     Ok(())
 }
@@ -72,7 +74,7 @@ fn push_eval(
     inputs: &[Input],
     outputs: &[Output],
     slots: &[Slot],
-    form: Form,
+    instruction: RuleInstruction,
 ) -> Result<(), AllocError>
     requires inputs { All IsValidInput inputs.now }
     requires few_inputs { length inputs.now ≤ 8 }
@@ -81,7 +83,8 @@ fn push_eval(
     requires slots { length slots.now ≤ 300 }
     requires room { HasRoom memory_map.now }
     ensures { OnOk result (items.new.items
-        ≡ items.old.items ++ map Op (eval_code_over memory_map.now width inputs.now outputs.now slots.now form)) }
+        ≡ items.old.items
+        ++ map Op (eval_code_over memory_map.now width inputs.now outputs.now slots.now instruction)) }
 {
     push_code(
         items,
@@ -92,7 +95,7 @@ fn push_eval(
     )?;
     push_fuzzify(items, memory_map.inputs, inputs)?;
     push_slots(items, memory_map.slots, inputs, slots)?;
-    push_rules(items, memory_map, form)?;
+    push_rules(items, memory_map, instruction)?;
     let first = memory_map.slots + (slots.len() as u16).saturating_sub(output_terms(outputs));
     push_outputs(
         items,

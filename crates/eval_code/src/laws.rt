@@ -1,5 +1,6 @@
 //! Laws of EVAL and its data.
 ghost use Rattle.eval_code.specs.{Bounds.BoundsAreFew, Evaluation.EvalAnswers, Firing.RulesGiveMasses};
+ghost use Rattle.eval_code.specs.Frames.{FramesLeave};
 ghost use Rattle.eval_code.specs.Placed.{BlockGivesBytes, BlockHasParts, BlockIsShort, BlockRises, BlockStands};
 ghost use Rattle.eval_code.specs.Placed.{BlockGivesAtParts, BlockStaysInside, GivesBehind};
 ghost use Rattle.eval_code.specs.Standing.{BytesStand, CodeIsBytes, CodeStands, DecodesWhereItStands, ImageIsBytes};
@@ -8,7 +9,9 @@ ghost use Rattle.eval_code.specs.Standing.{ZeroBelow};
 use byte_scaling::laws::nearest_is_byte;
 use cpu12_asm::laws::rising_items;
 use cpu12_emul::laws::holds_image;
-use cpu12_isa::laws::{decodes_encoded, encoded_are_bytes, stays_fit};
+use cpu12_isa::laws::{
+    decodes_encoded, encoded_are_bytes, plain_instructions_leave, stays_fit, writes_stay,
+};
 use rule_layout::laws::{layout_law, mass_law};
 
 /// The rules leave the masses of the outputs' terms in their slots.
@@ -40,6 +43,13 @@ pub fn placed_items_stand()
     holds_image();
 }
 
+/// A run in a frame leaves SP, I and X, the bytes that the frame does not write, and no sums where there were none.
+pub fn frames_leave()
+    ensures { FramesLeave }
+{
+    writes_stay();
+}
+
 /// EVAL answers a block over bytes, as bytes or in 16 bits, at the addresses of any memory map whose regions are
 /// disjoint, wherever SP is and whether or not interrupts are masked. It goes from its first instruction to after
 /// its last, and accesses only what its memory map reserves for it.
@@ -49,6 +59,8 @@ pub fn eval_answers()
     layout_law();
     nearest_is_byte();
     stays_fit();
+    plain_instructions_leave();
+    encoded_are_bytes();
     code_is_decoded();
     rules_give_masses();
 }

@@ -17,5 +17,5 @@ mod memory_map;
 
 pub use bounds::{instruction_bound, steps_by};
 pub use data::{push_word, rule_bytes, singleton_bytes, table_bytes};
-pub use items::push_block;
+pub use items::{Around, push_block};
 pub use memory_map::MemoryMap;

@@ -20,7 +20,7 @@ pub struct MemoryMap {
     /// The rule list.
     pub rules: u16,
     /// READY, which is nonzero while a sample waits for its answer.
-    pub ready: u16,
+    pub sample_flag: u16,
     /// Where a sample's bytes are put from outside: at the inputs' bytes, unless the code copies them there.
     pub samples: u16,
     /// The inputs' bytes.
@@ -42,7 +42,7 @@ impl MemoryMap {
         singletons: 0xD200,
         weights: 0xD300,
         rules: 0xD800,
-        ready: 0x1000,
+        sample_flag: 0x1000,
         samples: 0x1001,
         inputs: 0x1001,
         outputs: 0x1010,

@@ -33,8 +33,8 @@ same_put at (v ∷ bytes) m l =
 -- a sample is given alike
 pub given_is_put : GivenIsPut
 given_is_put memory_map bytes s l =
-    let last = write_last (placed memory_map.samples bytes) memory_map.ready 1 s.mem in
-    ap by (last ∙ ap (λ (m : List ℕ). set m memory_map.ready 1) (same_put memory_map.samples bytes s.mem l))
+    let last = write_last (placed memory_map.samples bytes) memory_map.sample_flag 1 s.mem in
+    ap by (last ∙ ap (λ (m : List ℕ). set m memory_map.sample_flag 1) (same_put memory_map.samples bytes s.mem l))
   where
     by : List ℕ → State
     by m = record { regs = s.regs; temps = s.temps; mem = m }

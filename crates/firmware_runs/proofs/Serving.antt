@@ -1,24 +1,25 @@
 -- What each state keeps between and inside whole instructions on a sample.
-use Rattle.std.proofs.Common.{◌≡◌, ◌==◌, ◌&&◌, ℕ, ◌+◌, ◌^◌, ◌<◌, ◌≤◌, ◌⊎◌, min, Bool, true, false, List, [], ◌∷◌, refl}
+use Rattle.std.proofs.Common.{◌≡◌, ◌==◌, ◌&&◌, ℕ, ◌^◌, ◌<◌, ◌≤◌, min, Bool, true, false, List, [], ◌∷◌, refl}
 use Rattle.std.proofs.Common.{ap, ap₂, sym, ◌∙◌, subst, arith, inl, inr}
 use Rattle.std.proofs.lemmas.Bool.{Decides.nat_tests, true≢false}
 use Rattle.cpu12_isa.specs.declared.instr.Instr.{Instr, TheVariants.Rev, TheVariants.Revw, TheVariants.Wav}
 use Rattle.cpu12_isa.specs.{Act.read_by, Agreement.AllShown, Agreement.Uncovers, Code.six_from, Meaning.Effect}
 use Rattle.cpu12_isa.specs.{Meaning.act_of, Meaning.effect}
-use Rattle.cpu12_isa.specs.Regions.{stack_start, stack_end, is_hidden}
+use Rattle.cpu12_isa.specs.Regions.{stack_end, is_hidden}
 use Rattle.cpu12_isa.proofs.Algebra.{shown_append}
 use Rattle.cpu12_parts.specs.{declared.temps.Temps.Temps, Averages.wav_read, Laws.AreKept, Laws.addresses, State.State}
 use Rattle.cpu12_parts.specs.declared.temps.Temps.TheVariants.{Free, OnStack, Running}
-use Rattle.cpu12_parts.specs.Rules.{Form, Rule, rev_form, revw_form, rules_read, rules_written}
+use Rattle.cpu12_parts.specs.Rules.{RuleOperands, Rule, rev_operands, revw_operands, rules_read, rules_written}
 use Rattle.cpu12_parts.specs.{Executions.Execution, Touching.Each, Touching.IsInstructionOver, Touching.IsRulesOver}
 use Rattle.cpu12_emul.specs.{declared.ends.Stepped.TheVariants.Plain, Simulation.AreSumsReady}
 use Rattle.eval_code.specs.declared.memory_map.MemoryMap.{MemoryMap}
 use Rattle.alone_code.specs.Interruptible.{is_idle, IsInterruptible, IsInterruptibleStep, IsShownPlain, IsShownRules}
-use Rattle.alone_code.specs.Interruptible.{IsShownAverage, IsShownInstruction}
+use Rattle.alone_code.specs.Interruptible.{IsShownAverage, IsShownInstruction, IsStackOfOneCall}
+use Rattle.alone_code.proofs.Algebra.{in_room}
 use Rattle.run_forms.specs.Arrival.{PlainIsOneStep}
 use Rattle.run_law.specs.{Steps.StepLaws, Uninterrupted.uninterrupted}
 use Rattle.run_law.proofs.Algebra.{one_stretch}
-use Rattle.firmware_runs.specs.{Facts.Facts, Facts.AreNoneOrRunning, Facts.IsStackOfOneCall}
+use Rattle.firmware_runs.specs.{Facts.Facts, Facts.AreNoneOrRunning}
 use Rattle.firmware_runs.specs.Instructions.{IsServing, InstructionsAreSteps}
 use Rattle.firmware_runs.specs.Within.{IsReached, IsAtPart, IsWithin}
 use Rattle.firmware_runs.proofs.{Stretching.OneInstruction, Stretching.all_stretches, Within.found}
@@ -36,10 +37,6 @@ all_kept (at ∷ ats) = (refl, all_kept ats)
 -- PC is elsewhere than where the code waits
 off_loop : (l : MemoryMap) (v : State) → (v.regs.pc ≡ l.wait → ⊥) → is_idle l v ≡ false
 off_loop l v h = let t : (v.regs.pc == l.wait) ≡ false = grind (arith, nat_tests) in rw t refl
-
-in_room : (sp : ℕ) → (sp ≡ 0x1FFE) ⊎ (sp ≡ 0x2000) → (stack_start + 15 ≤ sp) × (sp ≤ stack_end)
-in_room sp (inl e) = (omega arith, omega arith)
-in_room sp (inr e) = (omega arith, omega arith)
 
 none_or_running : (s v : State) → s.temps ≡ Free → IsAtPart s v → AreNoneOrRunning v.temps
 none_or_running s v free (inl p) = subst AreNoneOrRunning (sym (p.1 ∙ free)) tt
@@ -150,7 +147,7 @@ step_stretch laws one open_to l image flags d s t hf h = by h.instruction
     kept = is_spared hidden (six_from s.regs.pc)
 
     -- between the parts of REV or REVW PC is at it
-    rules : (i : Instr) (f : Form) (p : Rule) (ps : List Rule) → IsShownRules open_to l i f flags d p ps s t
+    rules : (i : Instr) (f : RuleOperands) (p : Rule) (ps : List Rule) → IsShownRules open_to l.wait i f flags d p ps s t
         → (found i ≡ found Wav → ⊥)
         → (IsRulesOver (λ at. hidden at ≡ false) (λ at. kept at ≡ false) i f flags d p ps s t
         → IsInstructionOver (λ at. hidden at ≡ false) (λ at. kept at ≡ false) flags d s t)
@@ -171,7 +168,7 @@ step_stretch laws one open_to l image flags d s t hf h = by h.instruction
         there v (inr q) = (let step = k.step in absurd (other (sym step.decoded ∙ q.decoded)))
 
     -- and between those of WAV at its second byte, over the same memory
-    average : IsShownAverage open_to l flags d s t → OneInstruction (IsServing open_to l image flags) flags d s t
+    average : IsShownAverage open_to l.wait flags d s t → OneInstruction (IsServing open_to l image flags) flags d s t
     average k =
         let step = k.step in
         parts_step laws open_to (λ at. true) l image flags d s t hf c (all_kept (six_from s.regs.pc))
@@ -185,15 +182,15 @@ step_stretch laws one open_to l image flags d s t hf h = by h.instruction
       where
         there : (v : State) → IsWithin open_to hidden (λ at. true) flags s v → IsAtPart s v → is_idle l v ≡ false
         there v w (inl q) =
-            ap₂ (λ (pc byte : ℕ). (pc == l.wait) && (byte == 0)) q.0 (w.same l.ready refl) ∙ h.busy
+            ap₂ (λ (pc byte : ℕ). (pc == l.wait) && (byte == 0)) q.0 (w.same l.sample_flag refl) ∙ h.busy
         there v w (inr q) = off_loop l v (λ e. k.away (sym q.pc ∙ e))
 
-    by : IsShownInstruction open_to l flags d s t → OneInstruction (IsServing open_to l image flags) flags d s t
+    by : IsShownInstruction open_to l.wait flags d s t → OneInstruction (IsServing open_to l image flags) flags d s t
     by (inl p) =
         subst (λ (k : ℕ). OneInstruction (IsServing open_to l image flags) flags k s t) (sym p.1.1)
         (plain_step laws one open_to l image flags p.0 s t h.busy c p.1.0)
-    by (inr (inl p)) = rules Rev (rev_form s.regs.y) p.0 p.1 p.2 (λ e. cc) (λ k. inr (inl (p.0, p.1, k)))
-    by (inr (inr (inl p))) = rules Revw revw_form p.0 p.1 p.2 (λ e. cc) (λ k. inr (inr (inl (p.0, p.1, k))))
+    by (inr (inl p)) = rules Rev (rev_operands s.regs.y) p.0 p.1 p.2 (λ e. cc) (λ k. inr (inl (p.0, p.1, k)))
+    by (inr (inr (inl p))) = rules Revw revw_operands p.0 p.1 p.2 (λ e. cc) (λ k. inr (inr (inl (p.0, p.1, k))))
     by (inr (inr (inr p))) = average p
 
 stretches : StepLaws → PlainIsOneStep

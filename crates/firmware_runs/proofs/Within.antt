@@ -1,28 +1,29 @@
 -- The steps of a whole instruction, by the bytes that it touches.
 use Rattle.std.proofs.Common.{◌≡◌, ℕ, zero, suc, ◌-◌, ◌^◌, ◌<◌, ◌≤◌, Bool, true, false, Result, Ok, List, [], ◌∷◌}
 use Rattle.std.proofs.Common.{length, slice_index, refl, ap, ap₂, sym, ◌∙◌, subst, arith, inl, inr}
-use Rattle.std.proofs.lemmas.Bool.{Decides.nat_tests, false≢true, or_parts}
+use Rattle.std.proofs.lemmas.Bool.{Decides.nat_tests, or_parts}
 use Rattle.cpu12_isa.specs.declared.instr.Instr.{Instr, TheVariants.Rev, TheVariants.Revw, TheVariants.Wav}
-use Rattle.cpu12_isa.specs.{Act.read_by, Act.outcome, Agreement.AllShown, Agreement.IsWritten, Code.decode_of}
-use Rattle.cpu12_isa.specs.{Code.decode_at, Code.six_from, Code.DecodedHasOpcode, Fits.FitsRegs, Fits.AreBytes}
-use Rattle.cpu12_isa.specs.{Flags.has, Flags.interrupts_masked, Memory.plus, Memory.bytes_at, Meaning.act_of}
-use Rattle.cpu12_isa.specs.{Meaning.Effect, Meaning.effect}
+use Rattle.cpu12_isa.specs.{Act.read_by, Act.outcome, Agreement.AllShown, Code.decode_of, Code.decode_at}
+use Rattle.cpu12_isa.specs.{Code.six_from, Code.DecodedHasOpcode, Fits.FitsRegs, Fits.AreBytes, Flags.has}
+use Rattle.cpu12_isa.specs.{Flags.interrupts_masked, Memory.plus, Memory.bytes_at, Meaning.act_of, Meaning.Effect}
+use Rattle.cpu12_isa.specs.{Meaning.effect}
 use Rattle.cpu12_isa.specs.Regions.{is_hidden}
 use Rattle.cpu12_isa.proofs.Algebra.{shown_append}
 use Rattle.cpu12_parts.specs.declared.temps.{Temps.Temps, PartEnd.PartEnd, PartEnd.TheVariants.More}
 use Rattle.cpu12_parts.specs.Parts.{Kind, rev, revw, wav, part_of, after_part}
 use Rattle.cpu12_parts.specs.{State.State, State.Outcome, Inside.second_byte, Laws.addresses, Laws.IsOff}
+use Rattle.cpu12_parts.specs.{Averages.wav_read}
 use Rattle.cpu12_parts.specs.Laws.{PartsTo, Touches}
 use Rattle.cpu12_parts.specs.Fits.{FitsTemps, FitsOutcome, PartFits}
-use Rattle.cpu12_parts.specs.Rules.{Form, Rule, rev_form, revw_form, rules_read, rules_written, rules_whole}
+use Rattle.cpu12_parts.specs.Rules.{RuleOperands, Rule, rev_operands, revw_operands, rules_read, rules_written, rules_whole}
 use Rattle.cpu12_parts.specs.Touching.{Each, IsPlainOver, IsRulesOver, IsInstructionOver}
-use Rattle.cpu12_parts.specs.{Averages.wav_read}
 use Rattle.cpu12_emul.specs.declared.ends.Stepped.TheVariants.{Plain, LastPart}
 use Rattle.cpu12_emul.specs.Simulation.{AreSumsReady, PartIsStep, left_of}
 use Rattle.cpu12_emul.specs.Step.{Left, Next, kind_of, step_act, applied}
 use Rattle.run_law.specs.Steps.{StepLaws, WriteLaws, RuleLaws, SumLaws}
 use Rattle.run_law.proofs.Algebra.{Stretch, one_stretch, part_stretch, kept_sums}
 use Rattle.firmware_runs.specs.Within.{IsReached, IsAtPart, IsWithin, InstructionStaysWithin}
+use Rattle.eval_code.proofs.Algebra.{all_shown, hidden_unwritten}
 
 -- what each state v keeps within the instruction at s
 record UnderWay (kept : ℕ → Bool) (s v : State) : Type 0 where
@@ -45,16 +46,6 @@ begun open_to hidden kept s c = let between = c.between in
       same = λ at k. refl;
       place = inl (refl, refl);
     }
-
-shown_each : (h : ℕ → Bool) (ats : List ℕ) → Each (λ at. h at ≡ false) ats → AllShown h ats
-shown_each h [] e = tt
-shown_each h (at ∷ ats) e = (e.0, shown_each h ats e.1)
-
-not_written : (kept : ℕ → Bool) (ws : List (ℕ × ℕ)) (at : ℕ) → AllShown kept (addresses ws) → kept at ≡ true
-    → IsWritten ws at → ⊥
-not_written kept [] at h t w = w
-not_written kept (x ∷ ws) at h t (inl e) = false≢true (sym h.0 ∙ ap kept (sym e) ∙ t)
-not_written kept (x ∷ ws) at h t (inr w) = not_written kept ws at h.1 t w
 
 -- sums that are off fit, and are ready
 off_fits : (t : Temps) → IsOff t → FitsTemps t
@@ -164,7 +155,7 @@ part_here i k is_step open_to hidden kept flags s v c u decoded pc temps =
       is.0,
       λ h. subst (AllShown hidden) (sym is.1)
           (shown_append hidden (six_from v.regs.pc) (read_by (k.act flags v.regs v.temps) v.mem)
-          (subst (λ (n : ℕ). AllShown hidden (six_from n)) (sym pc) (shown_each hidden own c.code)) h),
+          (subst (λ (n : ℕ). AllShown hidden (six_from n)) (sym pc) (all_shown hidden own c.code)) h),
     )
 
 abbrev pub found : Instr → Result Instr ℕ
@@ -236,7 +227,7 @@ goes_on writes k open_to hidden kept flags s v hf c parts u more apart =
       fits = fit.regs;
       stack = parts.level v ∙ u.stack;
       mask = on.0 ∙ u.mask;
-      same = λ at t. stay.1 at (not_written kept o.writes at apart t) ∙ u.same at t;
+      same = λ at t. stay.1 at (hidden_unwritten kept o.writes at apart t) ∙ u.same at t;
       place = on.1;
     }
 
@@ -289,16 +280,16 @@ plain_is laws open_to hidden kept flags i s t c p rises =
     (within laws.decoded_has_opcode open_to hidden kept flags s s left c (begun open_to hidden kept s c) is.0
     (omega (arith, same, rises))
     (subst (AllShown hidden) (sym is.1)
-    (shown_append hidden own (read_by (act_of flags i s.regs) s.mem) (shown_each hidden own c.code)
-    (shown_each hidden (read_by (act_of flags i s.regs) s.mem) p.reads)))
-    (shown_each kept (addresses e.writes) p.writes))
+    (shown_append hidden own (read_by (act_of flags i s.regs) s.mem) (all_shown hidden own c.code)
+    (all_shown hidden (read_by (act_of flags i s.regs) s.mem) p.reads)))
+    (all_shown kept (addresses e.writes) p.writes))
     (ap (λ (o : Result Left ℕ). applied o s.mem) is.0 ∙ ap plainly (sym step.after))
   where
     plainly : State → Result Next ℕ
     plainly u = Ok (record { state = u; kind = Plain })
 
 -- REV and REVW, by their parts
-rules_are : StepLaws → (i : Instr) (k : Kind) (f : Form) → RuleLaws i k → (found i ≡ found Wav → ⊥)
+rules_are : StepLaws → (i : Instr) (k : Kind) (f : RuleOperands) → RuleLaws i k → (found i ≡ found Wav → ⊥)
     → (open_to hidden kept : ℕ → Bool) (flags d : ℕ) (p : Rule) (ps : List Rule) (s t : State) → flags < 2 ^ 8
     → IsReached open_to hidden kept s
     → IsRulesOver (λ at. hidden at ≡ false) (λ at. kept at ≡ false) i f flags d p ps s t
@@ -310,7 +301,7 @@ rules_are laws i k f rule other open_to hidden kept flags d p ps s t hf c h whol
     parts_are laws k open_to hidden kept flags s hf c
     (rule_parts i k rule other open_to hidden kept flags s c step.decoded) d s t (begun open_to hidden kept s c)
     (subst (λ (u : State). PartsTo k flags hidden kept d s u) (sym step.after)
-    (whole (shown_each hidden (rules_read f s.regs p ps) h.reads) (shown_each kept (rules_written f p ps) h.writes)))
+    (whole (all_shown hidden (rules_read f s.regs p ps) h.reads) (all_shown kept (rules_written f p ps) h.writes)))
 
 instruction : StepLaws → (open_to hidden kept : ℕ → Bool) (flags d : ℕ) (s t : State) → flags < 2 ^ 8
     → IsReached open_to hidden kept s
@@ -322,19 +313,19 @@ instruction laws open_to hidden kept flags d s t hf c (inl p) rises =
 instruction laws open_to hidden kept flags d s t hf c (inr (inl p)) rises =
     let between = c.between in
     let step = p.2.step in
-    rules_are laws Rev rev (rev_form s.regs.y) laws.rev (λ e. cc) open_to hidden kept flags d p.0 p.1 s t hf c p.2
+    rules_are laws Rev rev (rev_operands s.regs.y) laws.rev (λ e. cc) open_to hidden kept flags d p.0 p.1 s t hf c p.2
     (laws.rev_is_whole flags s.regs s.temps s.mem p.0 p.1 d hidden kept hf between.fits.ccr step.ready step.parts)
 instruction laws open_to hidden kept flags d s t hf c (inr (inr (inl p))) rises =
     let between = c.between in
     let step = p.2.step in
-    rules_are laws Revw revw revw_form laws.revw (λ e. cc) open_to hidden kept flags d p.0 p.1 s t hf c p.2
+    rules_are laws Revw revw revw_operands laws.revw (λ e. cc) open_to hidden kept flags d p.0 p.1 s t hf c p.2
     (laws.revw_is_whole flags s.regs s.temps s.mem p.0 p.1 d hidden kept hf between.fits.ccr step.ready step.parts)
 instruction laws open_to hidden kept flags d s t hf c (inr (inr (inr k))) rises =
     let step = k.step in
     let between = c.between in
     let fits = between.fits in
     let whole = laws.wav_is_whole flags s.regs s.temps s.mem hidden kept hf fits.ccr step.off
-    (shown_each hidden (wav_read s.regs) k.reads) in
+    (all_shown hidden (wav_read s.regs) k.reads) in
     let parts : PartsTo wav flags hidden kept d s t =
     subst (λ (n : ℕ). PartsTo wav flags hidden kept n s t) (sym step.parts)
     (subst (λ (u : State). PartsTo wav flags hidden kept (s.regs.b - 1) s u) (sym step.after) whole) in

@@ -1,12 +1,12 @@
 -- What each state of a run without interrupts keeps.
 -- Beside the promise.
-use Rattle.std.specs.Prelude.{◌≡◌, ℕ, ◌-◌, ◌≤◌, ◌⊎◌, min, Bool, false, List, slice_index}
-use Rattle.cpu12_isa.specs.{Agreement.AllShown, Flags.interrupts_masked, Flags.has}
+use Rattle.std.specs.Prelude.{◌≡◌, ℕ, min, Bool, false}
+use Rattle.cpu12_isa.specs.{Agreement.AgreeFrom, Agreement.AllShown, Flags.interrupts_masked, Flags.has}
 use Rattle.cpu12_isa.specs.Regions.{stack_end, is_free, is_hidden}
 use Rattle.cpu12_parts.specs.{declared.temps.Temps.Temps, Laws.addresses, State.State}
 use Rattle.cpu12_parts.specs.declared.temps.Temps.TheVariants.{Free, Running, OnStack}
 use Rattle.cpu12_emul.specs.{Image.image_memory, Simulation.IsShownStep}
-use Rattle.alone_code.specs.declared.firmware.Firmware.{Firmware}
+use Rattle.alone_code.specs.{declared.firmware.Firmware.Firmware, Interruptible.IsStackOfOneCall}
 
 -- the sums are none or running
 abbrev pub AreNoneOrRunning : Temps → Type 0
@@ -23,22 +23,11 @@ pub record Facts (open_to : ℕ → Bool) (flags : ℕ) (s : State) : Type 0 whe
   pub unmasked : has s.regs.ccr interrupts_masked ≡ false
   pub sums : AreNoneOrRunning s.temps
 
--- the bytes from $2000 on, and so all from $C000 on, are those of an image's memory
-abbrev pub HasImageBytes : List ℕ → State → Type 0
-HasImageBytes image s = (at : ℕ) → stack_end ≤ at → slice_index s.mem at ≡ slice_index image at
-
--- they are the firmware's image's, and 0 where it has none
-abbrev pub HasImage : Firmware → State → Type 0
-HasImage f s = HasImageBytes (image_memory f.image.bytes) s
-
--- SP is at the stack's end, or two bytes lower while a call is open
-abbrev pub IsStackOfOneCall : ℕ → Type 0
-IsStackOfOneCall sp = (sp ≡ stack_end - 2) ⊎ (sp ≡ stack_end)
-
--- the facts of a firmware that stands alone, beside handlers to which these bytes are open
+-- The facts of a firmware that stands alone, beside handlers to which these bytes are open. The bytes from $2000 on,
+-- and so all from $C000 on, are the image's, and 0 where it has none.
 pub record FactsBeside (open_to : ℕ → Bool) (flags : ℕ) (f : Firmware) (s : State) : Type 0 where
   pub facts : Facts open_to flags s
-  pub image : HasImage f s
+  pub image : AgreeFrom stack_end (image_memory f.image.bytes) s.mem
   pub stack : IsStackOfOneCall s.regs.sp
 
 -- those beside handlers to which the free bytes are open
@@ -47,7 +36,7 @@ FactsAlone = FactsBeside is_free
 
 -- what a state keeps of them in which it waits for a sample, and from which no step is done
 pub record WaitsAlone (f : Firmware) (s : State) : Type 0 where
-  pub image : HasImage f s
+  pub image : AgreeFrom stack_end (image_memory f.image.bytes) s.mem
   pub stack : IsStackOfOneCall s.regs.sp
   pub unmasked : has s.regs.ccr interrupts_masked ≡ false
   pub sums : s.temps ≡ Free

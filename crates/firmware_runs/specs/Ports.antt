@@ -12,7 +12,7 @@ use Rattle.eval_code.specs.declared.memory_map.MemoryMap.{MemoryMap}
 
 -- the input bytes are written, and READY 1
 abbrev pub given : MemoryMap → List ℕ → State → State
-given l bytes s = record s { mem = write_all (placed l.samples bytes ++ (l.ready, 1) ∷ []) s.mem }
+given l bytes s = record s { mem = write_all (placed l.samples bytes ++ (l.sample_flag, 1) ∷ []) s.mem }
 
 -- an answer has one byte, or two, and the high one is the first
 abbrev pub answer_at : Width → ℕ → List ℕ → ℕ

@@ -1,6 +1,7 @@
 //! How a firmware is given samples, and where its answers are.
 ghost use Rattle.std.specs.Prelude.{◌≡◌, ◌≤◌, true, false, length};
 ghost use Rattle.cpu12_parts.specs.State.{State};
+ghost use Rattle.cpu12_emul.specs.Step.{SameMachine};
 ghost use Rattle.alone_code.specs.Interruptible.{is_idle};
 ghost use Rattle.firmware_runs.specs.Ports.{given, answer_at, answers_at, answers_in};
 
@@ -15,7 +16,7 @@ use eval_code::MemoryMap;
 pub fn is_idle<M: Mem>(memory_map: &MemoryMap, m: &Machine<M>) -> bool
     ensures { result ≡ is_idle memory_map.now m.now.state }
 {
-    m.regs().pc == memory_map.wait && m.peek(memory_map.ready) == 0
+    m.regs().pc == memory_map.wait && m.peek(memory_map.sample_flag) == 0
 }
 
 /// Whether PC is not where the firmware waits, so that it is busy as long as PC does not change.
@@ -29,15 +30,14 @@ pub fn is_busy_here<M: Mem>(memory_map: &MemoryMap, m: &Machine<M>) -> bool
 /// Gives a sample: writes its bytes from the first input on, and 1 to READY.
 pub fn give<M: Mem>(memory_map: &MemoryMap, m: &mut Machine<M>, bytes: &[u8])
     ensures state { m.new.state ≡ given memory_map.now bytes.now m.old.state }
-    ensures noted { m.new.noted ≡ m.old.noted }
-    ensures flags { m.new.flags ≡ m.old.flags }
+    ensures machine { SameMachine m.old m.new }
 {
     let mut at = memory_map.samples;
     for byte in bytes {
         m.poke(at, *byte);
         at = at.wrapping_add(1);
     }
-    m.poke(memory_map.ready, 1);
+    m.poke(memory_map.sample_flag, 1);
 }
 
 /// The answer at an address.

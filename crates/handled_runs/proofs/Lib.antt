@@ -3,4 +3,3 @@ mod HandledAnswers
 pub mod States
 mod Returns
 mod JointBytes
-mod SampleBytes

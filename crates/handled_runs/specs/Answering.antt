@@ -68,9 +68,9 @@ HandledAnswers =
     → flags < 2 ^ 8 → IsGood plan → IsHandler handler most
     → HandlesItsBlock f handler most flags samples plan (handled_seen f handler samples plan flags)
 
--- The states at boundaries of such a run are states from which the handler's run is a take's: where it simulates a state of
--- the run without interrupts and holds the handler's bytes, the handler can begin, and its interrupt is one that does some
--- writes to free bytes.
+-- The states at boundaries of such a run are states from which the handler's run is a take's: where it simulates a
+-- state of the run without interrupts and holds the handler's bytes, the handler can begin, and its interrupt is one
+-- that does some writes to free bytes.
 abbrev pub StatesRunAsTakes : Type 0
 StatesRunAsTakes =
     (f : Firmware) (handler : List (ℕ × ℕ)) (most flags : ℕ) (ws : List Write) (w s : State) → IsHandler handler most

@@ -19,8 +19,8 @@ use Rattle.run_law.specs.Soundness.{Begins, Quiet, Sound, SumsFitBelow, WritesAr
 use Rattle.handler_check.specs.Images.{IsWhole, IsHandler}
 use Rattle.handler_check.specs.Running.{HasImage, CanBegin, IsQuietCode, HandlersAreQuiet}
 use Rattle.interrupt_plan.specs.{declared.Request.Request, Plans.IsGoodRequest}
-use Rattle.alone_code.specs.declared.firmware.Firmware.{Firmware}
-use Rattle.firmware_runs.specs.Facts.{IsStackOfOneCall, FactsBeside}
+use Rattle.alone_code.specs.{declared.firmware.Firmware.Firmware, Interruptible.IsStackOfOneCall}
+use Rattle.firmware_runs.specs.Facts.{FactsBeside}
 use Rattle.alone_runs.specs.Following.{IsLow, OpensFree}
 use Rattle.alone_runs.specs.OpenBytes.{AreOpenAlike, StepsLeaveOpen}
 use Rattle.alone_runs.specs.SoundAloneProof.{low_ports, given_alike, answered_alike, ended_alike}

@@ -1,5 +1,6 @@
 //! The steps of a handler up to its RTI.
 ghost use Rattle.std.specs.Prelude.{◌≡◌, ◌≤◌, ◌-◌};
+ghost use Rattle.cpu12_emul.specs.Step.{SameMachine};
 ghost use Rattle.handler_check.specs.Running.{until_rti, step_limit};
 ghost use Rattle.handled_runs.specs.Forms.{end_of};
 
@@ -34,8 +35,7 @@ fn ended(left: u16, done: bool) -> HandlerEnd
 pub(crate) fn until_rti<M: Mem>(m: &mut Machine<M>) -> HandlerEnd
     ensures state { m.new.state ≡ (until_rti m.old.flags step_limit m.old.state).state }
     ensures end { result ≡ end_of (until_rti m.old.flags step_limit m.old.state) }
-    ensures noted { m.new.noted ≡ m.old.noted }
-    ensures flags { m.new.flags ≡ m.old.flags }
+    ensures machine { SameMachine m.old m.new }
 {
     let mut left = STEP_LIMIT;
     while left > 0 {

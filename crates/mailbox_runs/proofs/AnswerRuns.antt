@@ -280,8 +280,8 @@ module _ (laws : TurnLaws) (flags : ℕ) (f : Firmware) (samples : List (List �
       let good2 = good_behind (IsGoodPost (length samples)) (g + 2) qs1 good1 in
       let w1 = waiting w (up_to (g + 1) qs) in
       let le1 = waits_within (length samples) (g + 1) w qs le good in
-      let posted : get_or (mailed f.memory_map samples w s.mem) f.memory_map.ready 0 ≡ get_or
-      (mailed f.memory_map samples wf s.mem) f.memory_map.ready 0 =
+      let posted : get_or (mailed f.memory_map samples w s.mem) f.memory_map.sample_flag 0 ≡ get_or
+      (mailed f.memory_map samples wf s.mem) f.memory_map.sample_flag 0 =
       posted_is laws.posting.steps taking flags f samples n g image box size s.mem r.size w some le
       ∙ sym (posted_is laws.posting.steps taking flags f samples n g image box size s.mem r.size wf somef lef) in
       let p = two_steps laws.posting.steps taking flags f samples n g image box size s.mem r.size u run.looked

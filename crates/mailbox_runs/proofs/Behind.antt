@@ -1,14 +1,12 @@
 -- Behind the copy a turn is a sound form.
-use Rattle.mailbox_runs.proofs.Words.{[], ◌&&◌, ◌*◌, ◌+◌, ◌<◌, ◌∙◌, ◌∷◌, ◌≡◌, ◌≤◌, addresses, Agree, agree_self}
-use Rattle.mailbox_runs.proofs.Words.{agree_with, AllShown, ap, applied, ap₂, AreOfSize, AreSumsReady, arith, Bool}
-use Rattle.mailbox_runs.proofs.Words.{Byte, Facts, FactsBeside, false, Firmware, framed, Free, get_or, HasRoom}
-use Rattle.mailbox_runs.proofs.Words.{HoldsMail, if◌then◌else◌, inl, inr, is_free, is_hidden, is_mail, is_postable}
-use Rattle.mailbox_runs.proofs.Words.{IsBox, IsGoodPost, IsShownStep, IsWritten, last_of, Left, length, List, mailed}
-use Rattle.mailbox_runs.proofs.Words.{min, nat_le, nat_lt, nat_tests, Next, next_of, not, not_mail, Ok, OnStackOnly}
-use Rattle.mailbox_runs.proofs.Words.{or_parts, outcome, part_form, placed, places, plus, Post, post_writes}
-use Rattle.mailbox_runs.proofs.Words.{posted_by, refl, Regs, Result, State, state_by, step_act, stepped, Stepping}
-use Rattle.mailbox_runs.proofs.Words.{subst, suc, suspended, sym, Temps, true, wav, Width, Word, write_all}
-use Rattle.mailbox_runs.proofs.Words.{zero, ℕ}
+use Rattle.mailbox_runs.proofs.Words.{[], ◌&&◌, ◌*◌, ◌+◌, ◌<◌, ◌∷◌, ◌≡◌, ◌≤◌, Agree, agree_self, agree_with, ap}
+use Rattle.mailbox_runs.proofs.Words.{applied, ap₂, AreOfSize, arith, Bool, Byte, Facts, FactsBeside, false, Firmware}
+use Rattle.mailbox_runs.proofs.Words.{framed, Free, HasRoom, HoldsMail, if◌then◌else◌, inl, inr, is_free, is_hidden}
+use Rattle.mailbox_runs.proofs.Words.{is_mail, is_postable, IsBox, IsGoodPost, IsWritten, last_of, Left, length, List}
+use Rattle.mailbox_runs.proofs.Words.{mailed, min, nat_le, nat_lt, nat_tests, Next, next_of, not, not_mail, Ok}
+use Rattle.mailbox_runs.proofs.Words.{OnStackOnly, or_parts, part_form, placed, places, plus, Post, post_writes}
+use Rattle.mailbox_runs.proofs.Words.{posted_by, refl, Regs, Result, State, state_by, stepped, Stepping, subst, suc}
+use Rattle.mailbox_runs.proofs.Words.{suspended, sym, Temps, true, wav, Width, Word, write_all, zero, ℕ}
 use Rattle.std.specs.{Prelude.◌==◌}
 use Rattle.std.proofs.{lemmas.Bool.and_parts}
 use Rattle.cpu12_isa.specs.{Agreement.WritesAgree, Agreement.WritesStay, Memory.word_of}
@@ -16,12 +14,10 @@ use Rattle.cpu12_parts.specs.{declared.temps.Temps.TheVariants.Running, declared
 use Rattle.cpu12_parts.specs.{Parts.sum_bytes, Laws.IsOff}
 use Rattle.cpu12_emul.specs.{Simulation.OnStackOrNone, Simulation.Simulates}
 use Rattle.alone_code.specs.{Uninterrupted.values_from}
-use Rattle.firmware_runs.specs.{Facts.IsStackOfOneCall}
 use Rattle.run_law.specs.Soundness.{below_sums, Begins, Sound, WritesAreQuiet}
-use Rattle.mailbox_runs.proofs.Mailing.{leaves_stack, open_post, post_mailed, mailed_over}
-
-clash : (b : Bool) → b ≡ true → b ≡ false → ⊥
-clash b t f = cc
+use Rattle.mailbox_runs.proofs.Mailing.{leaves_stack, open_post, post_mailed, mailed_over, clash}
+use Rattle.eval_code.proofs.Algebra.{written_shown}
+use Rattle.alone_runs.proofs.Algebra.{sp_of, step_left}
 
 mail_true : (at : ℕ) → not_mail at ≡ false → is_mail at ≡ true
 mail_true at h = cases (is_mail at) refl h
@@ -66,22 +62,6 @@ placed_high [] p at lo hi w = absurd w
 placed_high (v ∷ vs) p at lo hi (inl e) = (let far : 0x1029 ≤ at = omega arith in grind (arith, nat_tests))
 placed_high (v ∷ vs) p at lo hi (inr w) = placed_high vs (plus p 1) at (omega arith) (omega arith) w
 
--- SP under interrupts
-sp_near : (sp : ℕ) → IsStackOfOneCall sp → (0x1FFE ≤ sp) × (sp ≤ 0x2000)
-sp_near sp (inl e) = (omega arith, omega arith)
-sp_near sp (inr e) = (omega arith, omega arith)
-
-sp_of : (w s : State) → IsStackOfOneCall s.regs.sp → Simulates OnStackOrNone is_postable w s
-    → (0x1FF8 ≤ w.regs.sp) × (w.regs.sp ≤ 0x2000)
-sp_of w s k (inl l) =
-    let near = sp_near s.regs.sp k in
-    let e = ap (λ (r : Regs). r.sp) l.regs in
-    (omega (arith, near.0), omega (arith, near.1))
-sp_of w s k (inr l) =
-    let near = sp_near s.regs.sp k in
-    let e : w.regs.sp ≡ plus s.regs.sp 65530 = ap (λ (r : Regs). r.sp) l.regs in
-    (omega (arith, near.0, near.1), omega (arith, near.0, near.1))
-
 -- the push of the sums
 pushes_keep : Stepping → (w : State) → 0x1FF8 ≤ w.regs.sp → w.regs.sp ≤ 0x2000
     → Agree not_mail (suspended wav w).mem w.mem
@@ -102,34 +82,6 @@ pushes_keep laws w lo hi = cases w.temps refl
         (kept writing.writes_stay (placed (plus w.regs.sp 65530) (sum_bytes p q)) w.mem
         (λ at2 h. placed_high (sum_bytes p q) (plus w.regs.sp 65530) at2 at (omega arith) h))
 
--- a step writes what it writes without interrupts
-step_left : Stepping → (flags : ℕ) (w s : State) → (k : IsShownStep is_postable flags s)
-    → Simulates OnStackOrNone is_postable w s
-    → outcome (step_act flags w.regs w.temps) w.mem ≡ Ok k.left
-step_left laws flags w s k (inl l) =
-    let both = laws.step_agrees flags s.regs s.temps w.mem s.mem k.left (is_hidden is_postable s.regs.sp)
-    (is_hidden is_postable k.left.regs.sp) l.mem k.reads k.goes k.covers in
-    ap (λ (r : Regs). outcome (step_act flags r w.temps) w.mem) l.regs
-    ∙ ap (λ (u : Temps). outcome (step_act flags s.regs u) w.mem) l.temps ∙ both.0
-step_left laws flags w s k (inr l) =
-    let good : AreSumsReady is_postable s (Running l.product l.weight) =
-    subst (λ (u : Temps). AreSumsReady is_postable s u) l.running k.sums in
-    let room : HasRoom s = k.room in
-    let fits = room.fits in
-    let code : get_or w.mem s.regs.pc 0 ≡ 60 = l.mem.bytes s.regs.pc good.3 ∙ good.2 in
-    let both = laws.step_agrees flags s.regs s.temps w.mem s.mem k.left (is_hidden is_postable s.regs.sp)
-    (is_hidden is_postable k.left.regs.sp) l.mem k.reads k.goes k.covers in
-    ap (λ (r : Regs). outcome (step_act flags r w.temps) w.mem) l.regs
-    ∙ laws.wavr_goes_on flags s.regs w.temps l.product l.weight w.mem l.temps fits.sp good.0 good.1 code l.sums
-    ∙ ap (λ (u : Temps). outcome (step_act flags s.regs u) w.mem) (sym l.running)
-    ∙ both.0
-
-shown_not : (hidden : ℕ → Bool) (ws : List (ℕ × ℕ)) (at : ℕ) → AllShown hidden (addresses ws) → IsWritten ws at
-    → hidden at ≡ false
-shown_not hidden [] at a w = absurd w
-shown_not hidden (x ∷ ws) at a (inl e) = ap hidden e ∙ a.0
-shown_not hidden (x ∷ ws) at a (inr w) = shown_not hidden ws at a.1 w
-
 mail_unless : (sp at : ℕ) → is_hidden is_postable sp at ≡ false → is_mail at ≡ false
 mail_unless sp at h = cases (is_mail at) refl
   where
@@ -145,11 +97,11 @@ steps_keep laws flags w s facts l =
     let k = facts.shown in
     let writing = laws.writing in
     let e : next_of flags w ≡ applied (Ok k.left) w.mem =
-    ap (λ (o : Result Left ℕ). applied o w.mem) (step_left laws flags w s k l) in
+    ap (λ (o : Result Left ℕ). applied o w.mem) (step_left laws.step_agrees laws.wavr_goes_on is_postable flags w s k l) in
     let low = min s.regs.sp k.left.regs.sp in
     subst (λ (o : Result Next ℕ). Agree not_mail (state_by w o).mem w.mem) (sym e)
     (kept writing.writes_stay k.left.writes w.mem
-    (λ at h. mail_unless low at (shown_not (is_hidden is_postable low) k.left.writes at facts.writes h)))
+    (λ at h. mail_unless low at (written_shown (is_hidden is_postable low) k.left.writes at facts.writes h)))
 
 -- answers stand below the mailbox
 out_shown : (sp at : ℕ) → at < 0x1020 → is_hidden is_postable sp at ≡ false
@@ -235,7 +187,7 @@ module _ (laws : Stepping) (flags : ℕ) (f : Firmware) (samples : List (List �
     leaves_open = record {
       leaves = λ done x w o. o;
       pushes = λ done w s p l o.
-          (let near = sp_of w s p.stack l in holds_on done (suspended wav w) w (pushes_keep laws w near.0 near.1) o);
+          (let near = sp_of is_postable w s p.stack l in holds_on done (suspended wav w) w (pushes_keep laws w near.0 near.1) o);
       steps = λ done w s p l o. holds_on done (stepped flags w) w (steps_keep laws flags w s p.facts l) o;
     };
   }

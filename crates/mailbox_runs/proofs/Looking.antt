@@ -50,12 +50,12 @@ pub idle_alike : (l : MemoryMap) (image : List ℕ) (flags : ℕ) (s looked chos
     → IsChoice l image flags looked chosen
     → s.regs.ccr.0 < 2 ^ 8 → chosen.regs.pc ≡ s.regs.pc → AreAlike s u → AreAlike chosen u
 idle_alike l image flags s looked chosen u look choice fits back same =
-    let v0 = get_or s.mem l.ready 0 in
-    let first : looked ≡ after_plain flags (LdaaExtended l.ready) s =
+    let v0 = get_or s.mem l.sample_flag 0 in
+    let first : looked ≡ after_plain flags (LdaaExtended l.sample_flag) s =
     (let shown = look.step in let step = shown.step in step.after) in
     let second : chosen ≡ after_plain flags (Beq 0xFB) looked =
     (let shown = choice.step in let step = shown.step in step.after) in
-    let whole : chosen ≡ after_plain flags (Beq 0xFB) (after_plain flags (LdaaExtended l.ready) s) =
+    let whole : chosen ≡ after_plain flags (Beq 0xFB) (after_plain flags (LdaaExtended l.sample_flag) s) =
     second ∙ ap (after_plain flags (Beq 0xFB)) first in
     let z = has (tested s.regs.ccr v0) zero_result in
     let regs : chosen.regs ≡ branched (loaded_a s.regs v0 3) 0xFB z = ap (λ (w : State). w.regs) whole in
@@ -77,16 +77,16 @@ pub same_look : (l : MemoryMap) (image : List ℕ) (flags : ℕ) (bytes : List �
     → IsLook l image flags (given l bytes s) a
     → IsLook l image flags (given l bytes u) b → AreAlike s u → a ≡ b
 same_look l image flags bytes s u a b la lb same =
-    let mem = ap (λ (m : List ℕ). set (put_bytes m l.samples bytes) l.ready 1) same.mem in
-    let first : a ≡ after_plain flags (LdaaExtended l.ready) (given l bytes s) =
+    let mem = ap (λ (m : List ℕ). set (put_bytes m l.samples bytes) l.sample_flag 1) same.mem in
+    let first : a ≡ after_plain flags (LdaaExtended l.sample_flag) (given l bytes s) =
     (let shown = la.step in let step = shown.step in step.after) in
-    let second : b ≡ after_plain flags (LdaaExtended l.ready) (given l bytes u) =
+    let second : b ≡ after_plain flags (LdaaExtended l.sample_flag) (given l bytes u) =
     (let shown = lb.step in let step = shown.step in step.after) in
-    let regs = same.loads (get_or (set (put_bytes s.mem l.samples bytes) l.ready 1) l.ready 0)
-    ∙ ap (λ (m : List ℕ). loaded_a u.regs (get_or m l.ready 0) 3) mem in
+    let regs = same.loads (get_or (set (put_bytes s.mem l.samples bytes) l.sample_flag 1) l.sample_flag 0)
+    ∙ ap (λ (m : List ℕ). loaded_a u.regs (get_or m l.sample_flag 0) 3) mem in
     first ∙ ap₂ (λ (r : Regs) (m : List ℕ). made r s.temps m) regs mem
-    ∙ ap (λ (t : Temps). made (loaded_a u.regs (get_or (set (put_bytes u.mem l.samples bytes) l.ready 1) l.ready 0) 3) t
-    (set (put_bytes u.mem l.samples bytes) l.ready 1)) same.temps
+    ∙ ap (λ (t : Temps). made (loaded_a u.regs (get_or (set (put_bytes u.mem l.samples bytes) l.sample_flag 1) l.sample_flag 0) 3) t
+    (set (put_bytes u.mem l.samples bytes) l.sample_flag 1)) same.temps
     ∙ sym second
   where
     made : Regs → Temps → List ℕ → State

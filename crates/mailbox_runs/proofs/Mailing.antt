@@ -27,15 +27,15 @@ puts at (v ∷ vs) m h =
 
 -- a sample's bytes and POSTED
 abbrev box_writes : MemoryMap → List ℕ → List Write
-box_writes l bytes = writes_from l.samples bytes ++ record { at = l.ready; value = 1 } ∷ []
+box_writes l bytes = writes_from l.samples bytes ++ record { at = l.sample_flag; value = 1 } ∷ []
 
 box_is : (l : MemoryMap) (bytes m : List ℕ) → l.samples + length bytes ≤ 65535
-    → write_all (pairs_of (box_writes l bytes)) m ≡ set (put m l.samples bytes) l.ready 1
+    → write_all (pairs_of (box_writes l bytes)) m ≡ set (put m l.samples bytes) l.sample_flag 1
 box_is l bytes m h =
     ap (λ (ps : List (ℕ × ℕ)). write_all ps m)
-    (pairs_on (writes_from l.samples bytes) (record { at = l.ready; value = 1 } ∷ []))
-    ∙ writes_on (pairs_of (writes_from l.samples bytes)) ((l.ready, 1) ∷ []) m
-    ∙ ap (λ (k : List ℕ). set k l.ready 1) (puts l.samples bytes m h)
+    (pairs_on (writes_from l.samples bytes) (record { at = l.sample_flag; value = 1 } ∷ []))
+    ∙ writes_on (pairs_of (writes_from l.samples bytes)) ((l.sample_flag, 1) ∷ []) m
+    ∙ ap (λ (k : List ℕ). set k l.sample_flag 1) (puts l.samples bytes m h)
 
 written_left : (a b : List (ℕ × ℕ)) (q : ℕ) → IsWritten a q → IsWritten (a ++ b) q
 written_left [] b q w = absurd w
@@ -76,7 +76,7 @@ is_written at (v ∷ vs) q h lo hi =
 abbrev pub is_boxed : ℕ → ℕ → Bool
 is_boxed n at = (nat_le 0x1020 at && nat_lt at (0x1020 + n)) || (at == 0x1028)
 
-clash : (b : Bool) → b ≡ true → b ≡ false → ⊥
+pub clash : (b : Bool) → b ≡ true → b ≡ false → ⊥
 clash b t f = cc
 
 -- the writes of a sample are in the box, and fill it
@@ -86,9 +86,9 @@ boxed l n bytes q box size w =
     let few = box.few in
     let from = box.samples in
     let ready = box.ready in
-    elim (written_parts (pairs_of (writes_from l.samples bytes)) ((l.ready, 1) ∷ []) q
+    elim (written_parts (pairs_of (writes_from l.samples bytes)) ((l.sample_flag, 1) ∷ []) q
     (subst (λ (ps : List (ℕ × ℕ)). IsWritten ps q)
-    (pairs_on (writes_from l.samples bytes) (record { at = l.ready; value = 1 } ∷ [])) w)) [
+    (pairs_on (writes_from l.samples bytes) (record { at = l.sample_flag; value = 1 } ∷ [])) w)) [
       | inl in_mail ↦ (let r = written_in l.samples bytes q (omega arith) in_mail in
           let lo : 0x1020 ≤ q = omega (arith, r.0) in let hi : q < 0x1020 + n = omega (arith, r.1) in
           grind (arith, nat_tests))
@@ -102,13 +102,13 @@ filled l n bytes q box size =
     let few = box.few in
     let from = box.samples in
     let at = box.ready in
-    let back = sym (pairs_on (writes_from l.samples bytes) (record { at = l.ready; value = 1 } ∷ [])) in
-    let rest = written_right (pairs_of (writes_from l.samples bytes)) ((l.ready, 1) ∷ []) q in
+    let back = sym (pairs_on (writes_from l.samples bytes) (record { at = l.sample_flag; value = 1 } ∷ [])) in
+    let rest = written_right (pairs_of (writes_from l.samples bytes)) ((l.sample_flag, 1) ∷ []) q in
     elim (cases_lt q 0x1020) [
       | inl below ↦ inl (grind (arith, nat_tests))
       | inr past ↦ elim (cases_lt q (0x1020 + n)) [
         | inl inside ↦ inr (subst (λ (ps : List (ℕ × ℕ)). IsWritten ps q) back
-            (written_left (pairs_of (writes_from l.samples bytes)) ((l.ready, 1) ∷ []) q
+            (written_left (pairs_of (writes_from l.samples bytes)) ((l.sample_flag, 1) ∷ []) q
             (is_written l.samples bytes q (omega arith) (omega arith) (omega arith))))
         | inr behind ↦ elim (cases_lt q 0x1028) [
           | inl tail ↦ inl (grind (arith, nat_tests))
@@ -198,7 +198,7 @@ module _ (laws : Writing) (l : MemoryMap) (n : ℕ) (samples : List (List ℕ)) 
       (λ q h. covered q h (filled l n (bytes_of samples w) q box s)) in
       let bm = box_is l (bytes_of samples w) m (omega arith) in
       let bk = box_is l (bytes_of samples w) k (omega arith) in
-      rw e (subst (λ (x : List ℕ). Agree hidden x (set (put k l.samples (bytes_of samples w)) l.ready 1)) bm
+      rw e (subst (λ (x : List ℕ). Agree hidden x (set (put k l.samples (bytes_of samples w)) l.sample_flag 1)) bm
       (subst (λ (x : List ℕ). Agree hidden (write_all ws m) x) bk r))
     where
       covered : (q : ℕ) → hidden q ≡ false
@@ -232,7 +232,7 @@ module _ (laws : Writing) (l : MemoryMap) (n : ℕ) (samples : List (List ℕ)) 
   post_by true p e = rw e refl
   post_by false p e = rw e
       (sym (append_assoc (writes_from l.samples (bytes_of samples p.sample))
-      (record { at = l.ready; value = 1 } ∷ []) p.writes))
+      (record { at = l.sample_flag; value = 1 } ∷ []) p.writes))
 
   all_written : (p : Post) (m : List ℕ)
       → write_all (pairs_of (post_writes l samples p)) m ≡ write_all (pairs_of p.writes)
@@ -268,8 +268,8 @@ module _ (laws : Writing) (l : MemoryMap) (n : ℕ) (samples : List (List ℕ)) 
       let few = box.few in
       let from = box.samples in
       let at = box.ready in
-      let ready : is_postable l.ready ≡ true = grind (arith, nat_tests) in
-      rw e (open_on (writes_from l.samples (bytes_of samples w)) (record { at = l.ready; value = 1 } ∷ [])
+      let ready : is_postable l.sample_flag ≡ true = grind (arith, nat_tests) in
+      rw e (open_on (writes_from l.samples (bytes_of samples w)) (record { at = l.sample_flag; value = 1 } ∷ [])
       (open_mail l.samples (bytes_of samples w) (omega arith) (omega arith)) (ready, tt))
 
   pub open_post : (p : Post) → p.sample ≤ length samples → All (λ v. is_free v.at ≡ true) p.writes

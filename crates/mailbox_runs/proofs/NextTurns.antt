@@ -124,7 +124,7 @@ module _ {flags : ℕ} {f : Firmware} {samples : List (List ℕ)} {posts : List 
     {t t1 : Counts (Notes (Unit {0}))}
     {s s1 : State} (b : Begins flags f samples posts w v t t1 s s1) (last n : ℕ) (answers : List AnswerSeen) where
   -- the run is over here
-  pub over_here : (is_empty (drop t1.next posts) && (slice_index s1.mem f.memory_map.ready == 0)) ≡ true
+  pub over_here : (is_empty (drop t1.next posts) && (slice_index s1.mem f.memory_map.sample_flag == 0)) ≡ true
       → with_rest answers t (turns_from flags f samples last (suc n) t.moment w (drop t.next posts) s)
       ≡ counted_at answers t1
   unfolding counted
@@ -135,7 +135,7 @@ module _ {flags : ℕ} {f : Firmware} {samples : List (List ℕ)} {posts : List 
       ap (λ (x : TakingSummary Post (Unit {0})). x.frames) b.takes_are in
       let el : k.left ≡ drop t1.next posts = ap (λ (x : TakingSummary Post (Unit {0})). x.left) b.takes_are in
       let on : is_over f.memory_map k ≡ true =
-      ap₂ (λ (l : List Post) (u : State). is_empty l && (slice_index u.mem f.memory_map.ready == 0)) el es ∙ e in
+      ap₂ (λ (l : List Post) (u : State). is_empty l && (slice_index u.mem f.memory_map.sample_flag == 0)) el es ∙ e in
       let same = b.fresh.2 in
       let r : t.resumed + 0 ≡ t1.resumed = omega (arith, same) in
       ap (with_rest answers t) (run_over flags f samples last n t.moment w (drop t.next posts) s on)
@@ -168,7 +168,7 @@ module _ {flags : ℕ} {f : Firmware} {samples : List (List ℕ)} {posts : List 
       }
 
   -- the run goes on by its turn
-  turn_goes : (is_empty (drop t1.next posts) && (slice_index s1.mem f.memory_map.ready == 0)) ≡ false
+  turn_goes : (is_empty (drop t1.next posts) && (slice_index s1.mem f.memory_map.sample_flag == 0)) ≡ false
       → turns_from flags f samples last (suc n) t.moment w (drop t.next posts) s
       ≡ then_turns f samples t.moment v
       (takes (turn_form flags f samples t.moment) t.moment (drop t.next posts) s).frames
@@ -180,7 +180,7 @@ module _ {flags : ℕ} {f : Firmware} {samples : List (List ℕ)} {posts : List 
 
   -- and comes to no end in it
   pub stuck_here : (i : ℕ) (t2 : Counts (Notes (Unit {0}))) (s2 : State)
-      → (is_empty (drop t1.next posts) && (slice_index s1.mem f.memory_map.ready == 0)) ≡ false
+      → (is_empty (drop t1.next posts) && (slice_index s1.mem f.memory_map.sample_flag == 0)) ≡ false
       → i ≡ flags → t2.arrived ≡ false
       → rest.counted_at notes_of t2 s2
       ≡ rest_at notes_of (turn_form i f samples t.moment) (last - t1.moment) posts t1 s1
@@ -198,7 +198,7 @@ module _ {flags : ℕ} {f : Firmware} {samples : List (List ℕ)} {posts : List 
 
   -- or to its end, where these posts were taken behind its first boundary
   pub turn_here : (i : ℕ) (t2 : Counts (Notes (Unit {0}))) (s2 : State) (answers2 : List AnswerSeen) (w2 : ℕ)
-      → (is_empty (drop t1.next posts) && (slice_index s1.mem f.memory_map.ready == 0)) ≡ false
+      → (is_empty (drop t1.next posts) && (slice_index s1.mem f.memory_map.sample_flag == 0)) ≡ false
       → i ≡ flags → t2.arrived ≡ true
       → rest.counted_at notes_of t2 s2
       ≡ rest_at notes_of (turn_form i f samples t.moment) (last - t1.moment) posts t1 s1

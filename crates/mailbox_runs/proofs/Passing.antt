@@ -1,7 +1,7 @@
 -- A boundary of a turn, and its next step.
-use Rattle.mailbox_runs.proofs.Words.{[], ◌&&◌, ◌++◌, ◌+◌, ◌-◌, ◌<◌, ◌∙◌, ◌∷◌, ◌≡◌, ◌≢◌, ◌≤◌, ◌⊎◌, Agree, AllShown}
+use Rattle.mailbox_runs.proofs.Words.{[], ◌&&◌, ◌++◌, ◌+◌, ◌-◌, ◌<◌, ◌∙◌, ◌∷◌, ◌≡◌, ◌≢◌, Agree, AllShown}
 use Rattle.mailbox_runs.proofs.Words.{ap, applied, AreOfSize, AreSumsReady, arith, asked, before_rest, Bool, drop}
-use Rattle.mailbox_runs.proofs.Words.{End, Execution, false, Firmware, FrameSeen, Free, has, HasRoom, inl, inr, Instr}
+use Rattle.mailbox_runs.proofs.Words.{End, Execution, false, Firmware, FrameSeen, Free, has, HasRoom, inl, Instr}
 use Rattle.mailbox_runs.proofs.Words.{interrupts_masked, is_free, is_hidden, is_mail, is_postable, IsBox}
 use Rattle.mailbox_runs.proofs.Words.{IsMaskedStep, IsPlainStep, IsShownStep, Left, length, List, map-append}
 use Rattle.mailbox_runs.proofs.Words.{may_interrupt, nat_le, nat_lt, nat_tests, Next, next_of, not, Ok, or_parts}
@@ -12,6 +12,7 @@ use Rattle.cpu12_isa.specs.{Act.read_by, Agreement.Uncovers}
 use Rattle.cpu12_emul.specs.{Simulation.PlainIsStep}
 use Rattle.run_law.specs.{Forms.ended}
 use Rattle.alone_code.specs.{Interruptible.IsSteady, Interruptible.IsShownPlain}
+use Rattle.alone_code.proofs.Algebra.{in_room}
 use Rattle.std.specs.Prelude.{◌==◌}
 use Rattle.cpu12_isa.specs.Meaning.{Effect, act_of, effect}
 use Rattle.cpu12_isa.proofs.Algebra.{shown_append}
@@ -58,12 +59,8 @@ pub shown_weaker : (a b : ℕ → Bool) (ats : List ℕ) → ((at : ℕ) → a a
 shown_weaker a b [] h s = tt
 shown_weaker a b (at ∷ ats) h s = (h at s.0, shown_weaker a b ats h s.1)
 
-near_top : (sp : ℕ) → (sp ≡ 0x1FFE) ⊎ (sp ≡ 0x2000) → (0x1FEF ≤ sp) × (sp ≤ 0x2000)
-near_top sp (inl e) = (omega arith, omega arith)
-near_top sp (inr e) = (omega arith, omega arith)
-
 pub room_of : (masked : Bool) (image : List ℕ) (s : State) → IsSteady is_postable masked image s → HasRoom s
-room_of masked image s h = let near = near_top s.regs.sp h.stack in
+room_of masked image s h = let near = in_room s.regs.sp h.stack in
     record { size = h.size; fits = h.fits; low = near.0; high = near.1 }
 
 -- a step that reads what is shown

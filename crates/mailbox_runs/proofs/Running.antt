@@ -62,7 +62,7 @@ pub run_turn : (flags : ℕ) (f : Firmware) (samples : List (List ℕ)) (last n 
     → with_before fs us (takes (turn_form flags f samples g) g qs s)
     ≡ record { state = s1; frames = fs1; told = us1; left = qs1 }
     → v ≡ waiting w (asked (takes (turn_form flags f samples g) g qs s).told)
-    → (is_empty qs1 && (slice_index s1.mem f.memory_map.ready == 0)) ≡ false
+    → (is_empty qs1 && (slice_index s1.mem f.memory_map.sample_flag == 0)) ≡ false
     → turns_from flags f samples last (suc n) g w qs s
     ≡ then_turns f samples g v (takes (turn_form flags f samples g) g qs s).frames
     (run_from (turn_form flags f samples g) (last - g) g false qs1 s1) (turns_from flags f samples last n)
@@ -72,7 +72,7 @@ run_turn flags f samples last n g w v qs qs1 s s1 fs fs1 us us1 te ve e =
     let es : b.state ≡ s1 = ap (λ (k : TakingSummary Post (Unit {0})). k.state) te in
     let el : b.left ≡ qs1 = ap (λ (k : TakingSummary Post (Unit {0})). k.left) te in
     let on : is_over f.memory_map b ≡ false =
-    ap₂ (λ (l : List Post) (u : State). is_empty l && (slice_index u.mem f.memory_map.ready == 0)) el es ∙ e in
+    ap₂ (λ (l : List Post) (u : State). is_empty l && (slice_index u.mem f.memory_map.sample_flag == 0)) el es ∙ e in
     run_on flags f samples last n g w qs s on
     ∙ ap₂ (λ (x : ℕ) (r : Ran Post (Unit {0})). then_turns f samples g x b.frames r (turns_from flags f samples last n))
     (sym ve)

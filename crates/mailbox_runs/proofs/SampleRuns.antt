@@ -6,7 +6,8 @@ use Rattle.mailbox_runs.proofs.Words.{IsMailboxOf, IsServing, IsUntil, LdaaExten
 use Rattle.mailbox_runs.proofs.Words.{Ok, Orcc, Plain, PlainIsOneStep, State, state_by, steps_by, subst, suc, sym}
 use Rattle.mailbox_runs.proofs.Words.{true, uninterrupted, uninterrupted_add, ℕ}
 use Rattle.alone_code.specs.{SampleTurns.IsSampleTurn, Turns.IsCopied, Turns.call_of}
-use Rattle.mailbox_runs.proofs.WholeTurns.{IsBusy, one_step, steps_append, steps_on, masked_steps, masked_count}
+use Rattle.cpu12_parts.proofs.Algebra.{steps_append}
+use Rattle.mailbox_runs.proofs.WholeTurns.{IsBusy, one_step, steps_on, masked_steps, masked_count}
 use Rattle.mailbox_runs.proofs.Serving.{IsServed, served, busy_by, facts_by}
 
 -- a plain step of an instruction, on the way
@@ -43,7 +44,7 @@ calls law f flags n g looked chosen called free look choice on copy =
     let look_at = look.at in
     let state1 = look_at.steady in
     let state2 = on.steady in
-    let next = law flags (LdaaExtended l.ready) g looked free (let shown = look.step in shown.step) in
+    let next = law flags (LdaaExtended l.sample_flag) g looked free (let shown = look.step in shown.step) in
     let next2 = law flags (Beq 0xFB) looked chosen state1.temps (let shown = choice.step in shown.step) in
     let masked = copy.masked in
     let next3 = law flags (Orcc 0x10) chosen masked state2.temps (let shown = copy.sets in shown.step) in
@@ -157,7 +158,7 @@ sample_run law steps b f flags before bytes s t h fits free turn =
     let m = all_steps turned.ds in
     let c = calls law f flags n g turn.looked turn.chosen turn.called free turn.look turn.choice turn.on copy in
     let serving = steps is_postable l image flags turned.ds turn.called t fits turned.execution in
-    let opens : is_postable l.ready ≡ true = ap (λ (k : MemoryMap). is_postable k.ready) h.memory_map in
+    let opens : is_postable l.sample_flag ≡ true = ap (λ (k : MemoryMap). is_postable k.sample_flag) h.memory_map in
     let b4 = served f flags m turn.called opens serving.each copy.cleared in
     let end = served_steps f flags turned.ds turn.called t serving b4 in
     let some = some_steps f flags n turned.ds turn.called t end called_at.pc back.pc in

@@ -1,22 +1,16 @@
 -- Behind the call POSTED is not written, so that PC is not where the code waits before the end.
-use Rattle.mailbox_runs.proofs.Words.{[], ◌∙◌, ◌∷◌, ◌≡◌, addresses, AllShown, ap, applied, arith, Before, Bool, Facts}
-use Rattle.mailbox_runs.proofs.Words.{FactsBeside, false, Firmware, get_or, image_memory, inl, inr, is_hidden}
-use Rattle.mailbox_runs.proofs.Words.{is_idle, is_postable, IsServing, IsWritten, Left, List, MemoryMap, min}
-use Rattle.mailbox_runs.proofs.Words.{nat_tests, Next, next_of, Ok, refl, Result, State, state_by, stepped, suc, sym}
-use Rattle.mailbox_runs.proofs.Words.{true, write_all, zero, ℕ}
+use Rattle.mailbox_runs.proofs.Words.{◌∙◌, ◌≡◌, ap, applied, arith, Before, Facts, FactsBeside, false, Firmware}
+use Rattle.mailbox_runs.proofs.Words.{get_or, image_memory, is_hidden, is_idle, is_postable, IsServing, Left}
+use Rattle.mailbox_runs.proofs.Words.{MemoryMap, min, nat_tests, Next, next_of, Ok, refl, Result, State, state_by}
+use Rattle.mailbox_runs.proofs.Words.{stepped, suc, sym, true, write_all, zero, ℕ}
 use Rattle.cpu12_isa.proofs.Algebra.{unwritten}
 use Rattle.mailbox_runs.proofs.WholeTurns.{IsBusy}
+use Rattle.eval_code.proofs.Algebra.{hidden_unwritten}
 
 -- a state behind the call, in which no sample is posted
 pub record IsServed (f : Firmware) (flags : ℕ) (s : State) : Type 0 where
   pub serving : IsServing is_postable f.memory_map (image_memory f.image.bytes) flags s
-  pub cleared : get_or s.mem f.memory_map.ready 0 ≡ 0
-
-not_written : (hidden : ℕ → Bool) (ws : List (ℕ × ℕ)) (at : ℕ) → AllShown hidden (addresses ws) → hidden at ≡ true
-    → IsWritten ws at → ⊥
-not_written hidden [] at a h w = w
-not_written hidden (x ∷ ws) at a h (inl e) = absurd (let z : true ≡ false = sym h ∙ ap hidden e ∙ a.0 in cc)
-not_written hidden (x ∷ ws) at a h (inr w) = not_written hidden ws at a.1 h w
+  pub cleared : get_or s.mem f.memory_map.sample_flag 0 ≡ 0
 
 next_by : (flags : ℕ) (s : State) → Facts is_postable flags s → (next : Next) × (next_of flags s ≡ Ok next)
 next_by flags s facts =
@@ -40,20 +34,20 @@ open_stays flags at s facts h =
     let hidden = is_hidden is_postable (min s.regs.sp left.regs.sp) in
     let is : hidden at ≡ true = rw h refl in
     ap (λ (u : State). get_or u.mem at 0) (ap (state_by s) goes)
-    ∙ unwritten left.writes s.mem at (not_written hidden left.writes at facts.writes is)
+    ∙ unwritten left.writes s.mem at (hidden_unwritten hidden left.writes at facts.writes is)
 
-pub served : (f : Firmware) (flags n : ℕ) (s : State) → is_postable f.memory_map.ready ≡ true
+pub served : (f : Firmware) (flags n : ℕ) (s : State) → is_postable f.memory_map.sample_flag ≡ true
     → Before (IsServing is_postable f.memory_map (image_memory f.image.bytes) flags) flags n s
-    → get_or s.mem f.memory_map.ready 0 ≡ 0
+    → get_or s.mem f.memory_map.sample_flag 0 ≡ 0
     → Before (IsServed f flags) flags n s
 served f flags zero s h b e k l = absurd (omega arith)
 served f flags (suc n) s h b e zero l = record { serving = b 0 (omega arith); cleared = e }
 served f flags (suc n) s h b e (suc k) l =
     let one = b 0 (omega arith) in
     served f flags n (stepped flags s) h (λ j i. b (suc j) (omega arith))
-    (open_stays flags f.memory_map.ready s one.facts h ∙ e) k (omega arith)
+    (open_stays flags f.memory_map.sample_flag s one.facts h ∙ e) k (omega arith)
 
-waits_there : (l : MemoryMap) (s : State) → s.regs.pc ≡ l.wait → get_or s.mem l.ready 0 ≡ 0 → is_idle l s ≡ true
+waits_there : (l : MemoryMap) (s : State) → s.regs.pc ≡ l.wait → get_or s.mem l.sample_flag 0 ≡ 0 → is_idle l s ≡ true
 waits_there l s e h = grind (arith, nat_tests)
 
 pub busy_by : (f : Firmware) (flags : ℕ) (s : State) → IsServed f flags s → IsBusy f.memory_map flags s

@@ -25,7 +25,7 @@ pub record Setting (b : Block) (f : Firmware) (flags : ℕ) (samples : List (Lis
 -- the code waits, no sample is posted, and the outputs are the answers before
 pub record Waits (b : Block) (f : Firmware) (before : ℕ → ℕ) (s : State) : Type 0 where
   pub at : IsAt (image_memory f.image.bytes) f.memory_map.wait s
-  pub cleared : get_or s.mem f.memory_map.ready 0 ≡ 0
+  pub cleared : get_or s.mem f.memory_map.sample_flag 0 ≡ 0
   pub outputs : HasAnswers f.memory_map b f.width before s.mem
 
 -- an idle turn
@@ -53,11 +53,11 @@ idled b f flags samples before s x h =
     let state1 = look_at.steady in
     let choice = turns.chooses looked look_at in
     let t = choice.0 in
-    let none : (get_or s.mem l.ready 0 == 0) ≡ true = (let e = h.cleared in grind (arith, nat_tests)) in
+    let none : (get_or s.mem l.sample_flag 0 == 0) ≡ true = (let e = h.cleared in grind (arith, nat_tests)) in
     let z : has looked.regs.ccr zero_result ≡ true = look.1.found ∙ none in
     let back : IsAt image l.wait t = subst (λ (y : Bool). IsAt image (chosen l.wait y) t) z choice.1.at in
     let mem : t.mem ≡ s.mem = choice.1.mem ∙ look.1.mem in
-    let next = x.plain_is_one_step flags (LdaaExtended l.ready) s looked state.temps
+    let next = x.plain_is_one_step flags (LdaaExtended l.sample_flag) s looked state.temps
     (let shown = look.1.step in shown.step) in
     let next2 = x.plain_is_one_step flags (Beq 0xFB) looked t state1.temps (let shown = choice.1.step in shown.step) in
     let first : uninterrupted flags 1 s ≡ looked = ap (state_by s) next in
@@ -69,7 +69,7 @@ idled b f flags samples before s x h =
         goes = second;
         waits = record {
           at = back;
-          cleared = ap (λ (m : List ℕ). get_or m l.ready 0) mem ∙ h.cleared;
+          cleared = ap (λ (m : List ℕ). get_or m l.sample_flag 0) mem ∙ h.cleared;
           outputs = subst (HasAnswers l b f.width before) (sym mem) h.outputs;
         };
         alike = λ u same. idle_alike l image flags s looked t u look.1 choice.1 fit.ccr (back.pc ∙ sym at.pc) same;

@@ -116,7 +116,7 @@ module _ (laws : TurnLaws) (flags : ℕ) (f : Firmware) (samples : List (List �
 
   -- no sample waits, and no post is left
   pub over_turn : (m g w : ℕ) (posts : List Post) (s v : State) → Begins g w posts s v → IsAt image f.memory_map.wait s
-      → get_or s.mem f.memory_map.ready 0 ≡ 0
+      → get_or s.mem f.memory_map.sample_flag 0 ≡ 0
       → waiting w (up_to g posts) ≡ 0 → behind g posts ≡ []
       → run (suc m) g w posts v ≡ run_of_turns flags f samples
       (record { begin = g; sample = 0; steps = 0; taken = taken_from g posts } ∷ []) s
@@ -132,11 +132,11 @@ module _ (laws : TurnLaws) (flags : ℕ) (f : Firmware) (samples : List (List �
       b.state) none t.stands in
       let sp = at.sp in
       let at_ready = box.ready in
-      let free : is_hidden is_free s.regs.sp f.memory_map.ready ≡ false =
-      (let a : is_free f.memory_map.ready ≡ false = grind (arith, nat_tests) in
-      let c : (nat_le 0x1FE0 f.memory_map.ready && nat_lt f.memory_map.ready s.regs.sp) ≡ false =
+      let free : is_hidden is_free s.regs.sp f.memory_map.sample_flag ≡ false =
+      (let a : is_free f.memory_map.sample_flag ≡ false = grind (arith, nat_tests) in
+      let c : (nat_le 0x1FE0 f.memory_map.sample_flag && nat_lt f.memory_map.sample_flag s.regs.sp) ≡ false =
       grind (arith, nat_tests) in rw (a, c) refl) in
-      let zero_there : get_or b.state.mem f.memory_map.ready 0 ≡ 0 = stands.mem.bytes f.memory_map.ready free
+      let zero_there : get_or b.state.mem f.memory_map.sample_flag 0 ≡ 0 = stands.mem.bytes f.memory_map.sample_flag free
       ∙ cleared in
       let done : is_over f.memory_map b ≡ true =
       ap₂ (λ (xs : List Post) (k : ℕ). is_empty xs && (k == 0)) (t.left ∙ left) zero_there in
@@ -189,8 +189,8 @@ module _ (laws : TurnLaws) (flags : ℕ) (f : Firmware) (samples : List (List �
       let a0 = up_to g posts in
       let a1 = up_to (g + 1) q0 in
       let on : is_over f.memory_map b ≡ false =
-      ap (λ (xs : List Post). is_empty xs && (get_or b.state.mem f.memory_map.ready 0 == 0)) tk.left
-      ∙ ap (λ (x : Bool). x && (get_or b.state.mem f.memory_map.ready 0 == 0)) (some_left q0 some) in
+      ap (λ (xs : List Post). is_empty xs && (get_or b.state.mem f.memory_map.sample_flag 0 == 0)) tk.left
+      ∙ ap (λ (x : Bool). x && (get_or b.state.mem f.memory_map.sample_flag 0 == 0)) (some_left q0 some) in
       let st = tk.stands in
       let st0 : Same is_free b.state (record s { mem = mailed f.memory_map samples 0 s.mem }) =
       subst (λ (x : ℕ). Same is_free b.state (record s { mem = mailed f.memory_map samples x s.mem })) none st in
@@ -358,9 +358,9 @@ module _ (laws : TurnLaws) (flags : ℕ) (f : Firmware) (samples : List (List �
         let st = tk.stands in
         let ready = box.ready in
         let sp = at.sp in
-        let free : is_hidden is_free s.regs.sp f.memory_map.ready ≡ false = ready_shown s.regs.sp f.memory_map.ready
+        let free : is_hidden is_free s.regs.sp f.memory_map.sample_flag ≡ false = ready_shown s.regs.sp f.memory_map.sample_flag
         ready in
-        let one : get_or b.state.mem f.memory_map.ready 0 ≡ 1 = st.mem.bytes f.memory_map.ready free
+        let one : get_or b.state.mem f.memory_map.sample_flag 0 ≡ 1 = st.mem.bytes f.memory_map.sample_flag free
         ∙ posted_is laws.posting.steps taking flags f samples n g image box size s.mem r.size v0 some le0 in
         let on : is_over f.memory_map b ≡ false = ap (λ (x : ℕ). is_empty b.left && (x == 0)) one
         ∙ and_no (is_empty b.left) in

@@ -21,9 +21,6 @@ not_true : (b : Bool) → (b && false) ≡ false
 not_true true = refl
 not_true false = refl
 
-clash : (b : Bool) → b ≡ true → b ≡ false → ⊥
-clash b t f = cc
-
 -- the box is open to posts, and not free
 unboxed : (n q : ℕ) → n ≤ 8 → is_postable q ≡ false → is_boxed n q ≡ false
 unboxed n q few h = cases (is_boxed n q) refl
@@ -79,20 +76,20 @@ module _ (steps : PlainStepLaws) (laws : TakingLaws) (flags : ℕ) (f : Firmware
 
   -- POSTED is 1 where a sample is in the mailbox
   posted_by : (b : Bool) (w : ℕ) → (w == 0) ≡ b → 1 ≤ w
-      → length (set (put base f.memory_map.samples (bytes_of samples w)) f.memory_map.ready 1) ≡ 65536
-      → get_or (mailed f.memory_map samples w base) f.memory_map.ready 0 ≡ 1
+      → length (set (put base f.memory_map.samples (bytes_of samples w)) f.memory_map.sample_flag 1) ≡ 65536
+      → get_or (mailed f.memory_map samples w base) f.memory_map.sample_flag 0 ≡ 1
   posted_by true w e some le = absurd (grind (arith, nat_tests))
   posted_by false w e some le =
       let m = put base f.memory_map.samples (bytes_of samples w) in
       let ready = box.ready in
-      let len = length-set m f.memory_map.ready 1 in
-      rw e (get_or-set_same m f.memory_map.ready 1 0 (omega (arith, ready, len, le)))
+      let len = length-set m f.memory_map.sample_flag 1 in
+      rw e (get_or-set_same m f.memory_map.sample_flag 1 0 (omega (arith, ready, len, le)))
 
-  pub posted_is : (w : ℕ) → 1 ≤ w → w ≤ length samples → get_or (mailed f.memory_map samples w base) f.memory_map.ready
+  pub posted_is : (w : ℕ) → 1 ≤ w → w ≤ length samples → get_or (mailed f.memory_map samples w base) f.memory_map.sample_flag
       0 ≡ 1
   posted_is w some le =
       let e : (w == 0) ≡ false = grind (arith, nat_tests) in
-      let s : length (set (put base f.memory_map.samples (bytes_of samples w)) f.memory_map.ready 1) ≡ 65536 =
+      let s : length (set (put base f.memory_map.samples (bytes_of samples w)) f.memory_map.sample_flag 1) ≡ 65536 =
       rw e at (sized w le) in
       posted_by (w == 0) w refl some s
 
@@ -103,8 +100,8 @@ module _ (steps : PlainStepLaws) (laws : TakingLaws) (flags : ℕ) (f : Firmware
   pub looks_on : (y t v : State) (w k : ℕ) → IsHere y → IsLook f.memory_map image flags y t → w ≤ length samples
       → k ≤ length samples
       → y.mem ≡ mailed f.memory_map samples k base
-      → get_or (mailed f.memory_map samples w base) f.memory_map.ready 0 ≡ get_or
-      (mailed f.memory_map samples k base) f.memory_map.ready 0
+      → get_or (mailed f.memory_map samples w base) f.memory_map.sample_flag 0 ≡ get_or
+      (mailed f.memory_map samples k base) f.memory_map.sample_flag 0
       → Stands y w v → next_of flags v ≡ plainly (record t { mem = v.mem })
   unfolding look_hidden
   looks_on y t v w k at look lw lk my same l =
@@ -116,24 +113,24 @@ module _ (steps : PlainStepLaws) (laws : TakingLaws) (flags : ℕ) (f : Firmware
       let step = look.step in
       let code = shown_weaker (is_hidden is_postable sp) hidden (six_from y.regs.pc)
       (λ q h. ap (λ (b : Bool). b && not (q == 0x1028)) (wide_less n sp q few h)) at.code in
-      let here : (f.memory_map.ready == 0x1028) ≡ true = grind (arith, nat_tests) in
-      let read : hidden f.memory_map.ready ≡ false =
-      ap (λ (b : Bool). wide (is_hidden is_free sp) n f.memory_map.ready && not b) here
-      ∙ not_true (wide (is_hidden is_free sp) n f.memory_map.ready) in
+      let here : (f.memory_map.sample_flag == 0x1028) ≡ true = grind (arith, nat_tests) in
+      let read : hidden f.memory_map.sample_flag ≡ false =
+      ap (λ (b : Bool). wide (is_hidden is_free sp) n f.memory_map.sample_flag && not b) here
+      ∙ not_true (wide (is_hidden is_free sp) n f.memory_map.sample_flag) in
       let aw = mailed_apart laws.writing f.memory_map n samples box size (is_hidden is_free sp) w base lw in
       let ak = mailed_apart laws.writing f.memory_map n samples box size (is_hidden is_free sp) k base lk in
       let agree : Agree hidden v.mem y.mem = record {
         size = l.mem.size ∙ sized w lw ∙ sym (sized k lk) ∙ ap (λ (m : List ℕ). length m) (sym my);
         bytes = λ q h. (by q (q == 0x1028) refl h ∙ ap (λ (m : List ℕ). get_or m q 0) (sym my));
       } in
-      quiet_plain steps flags hidden (LdaaExtended f.memory_map.ready) y t v r.temps step.step refl code
+      quiet_plain steps flags hidden (LdaaExtended f.memory_map.sample_flag) y t v r.temps step.step refl code
       (read, tt) l.regs l.temps agree
     where
       by : (q : ℕ) (b : Bool) → (q == 0x1028) ≡ b
           → (wide (is_hidden is_free y.regs.sp) n q && not (q == 0x1028)) ≡ false
           → get_or v.mem q 0 ≡ get_or (mailed f.memory_map samples k base) q 0
       by q true e h =
-          let there : q ≡ f.memory_map.ready =
+          let there : q ≡ f.memory_map.sample_flag =
           (let ready = box.ready in let z : q ≡ 0x1028 = grind (arith, nat_tests) in omega arith) in
           let free : is_hidden is_free y.regs.sp q ≡ false =
           (let z : q ≡ 0x1028 = grind (arith, nat_tests) in ready_shown y.regs.sp q z) in
@@ -225,8 +222,8 @@ module _ (steps : PlainStepLaws) (laws : TakingLaws) (flags : ℕ) (f : Firmware
   pub two_steps : (y t u v : State) (w k : ℕ) (qs : List Post) → IsHere y → IsLook f.memory_map image flags y t
       → IsChoice f.memory_map image flags t u → w ≤ length samples → k ≤ length samples
       → y.mem ≡ mailed f.memory_map samples k base
-      → get_or (mailed f.memory_map samples w base) f.memory_map.ready 0 ≡ get_or
-      (mailed f.memory_map samples k base) f.memory_map.ready 0
+      → get_or (mailed f.memory_map samples w base) f.memory_map.sample_flag 0 ≡ get_or
+      (mailed f.memory_map samples k base) f.memory_map.sample_flag 0
       → AllGood (IsGoodPost (length samples)) qs → up_to g qs ≡ []
       → Stands y w v → Passed u w qs (map (λ p. (g + 1, plain_frame t.regs)) (up_to (g + 1) qs)) v
   two_steps y t u v w k qs at look choice lw lk my same good none l =

@@ -42,7 +42,7 @@ answers_under have count runs are few_steps f flags samples posts hf good b vali
       few = omega (arith, inputs, few);
       samples = ap (λ (l : MemoryMap). l.samples) h.memory_map;
       ready =
-          ap (λ (l : MemoryMap). l.ready) h.memory_map;
+          ap (λ (l : MemoryMap). l.sample_flag) h.memory_map;
     } in
     let size : AreOfSize n samples =
     (λ k lo hi. (let i : AreInputBytes b (bytes_of samples k) = all (k - 1) [] (omega arith) in

@@ -3,6 +3,8 @@ use Rattle.mailbox_runs.proofs.Words.{[], ◌++◌, ◌+◌, ◌∙◌, ◌∷�
 use Rattle.mailbox_runs.proofs.Words.{counted, Execution, IsMaskedStep, length, List, MemoryMap, Next, next_of, Ok}
 use Rattle.mailbox_runs.proofs.Words.{Plain, PlainIsOneStep, refl, State, subst, sym, uninterrupted, ℕ}
 use Rattle.run_law.proofs.Algebra.{Stretch, no_stretch, one_stretch, joined}
+use Rattle.cpu12_parts.proofs.Algebra.{steps_append}
+use Rattle.std.proofs.lemmas.List.{length-append}
 
 -- a step is defined, and PC is not where the code waits
 pub record IsBusy (l : MemoryMap) (flags : ℕ) (s : State) : Type 0 where
@@ -19,14 +21,6 @@ pub one_step : (P : State → Type 0) (flags : ℕ) (s t : State) → P s
 one_step P flags s t p e =
     let r = one_stretch P flags Plain s t refl p e in record { goes = r.goes; counts = r.counts; each = r.each }
 
-pub steps_append : (ds es : List ℕ) → all_steps (ds ++ es) ≡ all_steps ds + all_steps es
-steps_append [] es = omega arith
-steps_append (d ∷ ds) es = let r = steps_append ds es in omega (arith, r)
-
-length_append : (ds es : List ℕ) → length (ds ++ es) ≡ length ds + length es
-length_append [] es = omega arith
-length_append (d ∷ ds) es = let r = length_append ds es in omega (arith, r)
-
 stretch : (P : State → Type 0) (flags : ℕ) (ds : List ℕ) (s t : State) → AreSteps P flags ds s t
     → Stretch P flags (all_steps ds) (length ds) s t
 stretch P flags ds s t a = record { goes = a.goes; counts = a.counts; each = a.each }
@@ -41,7 +35,7 @@ steps_on P flags ds es s t u a b =
     let r = joined P flags m n (length ds) (length es) s t u (stretch P flags ds s t a) (stretch P flags es t u b) in
     record {
       goes = ap (λ (k : ℕ). uninterrupted flags k s) e ∙ r.goes;
-      counts = ap (λ (k : ℕ). counted flags k s) e ∙ r.counts ∙ sym (length_append ds es);
+      counts = ap (λ (k : ℕ). counted flags k s) e ∙ r.counts ∙ sym (length-append ds es);
       each = subst (λ (k : ℕ). Before P flags k s) (sym e) r.each;
     }
 

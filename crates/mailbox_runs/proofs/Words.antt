@@ -18,8 +18,8 @@ pub use Rattle.mailbox_runs.specs.UninterruptedTurns.{MailboxRunsTurns, TurnsHav
 pub use Rattle.mailbox_runs.specs.UsedLaws.{PlainStepLaws, Stepping, TakingLaws, TurnLaws, Writing}
 pub use Rattle.run_law.specs.Forms.{Ran, Taking, before_rest, is_empty, one_if, put_take, taken, told}
 pub use Rattle.run_law.specs.Soundness.{AllGood, AllSimulate, Ascend, Before}
-pub use Rattle.run_law.specs.Uninterrupted.{counted, frames_after, has_moment, is_inside, is_new, kind_by}
-pub use Rattle.run_law.specs.Uninterrupted.{resumed_of, state_by, stepped, uninterrupted}
+pub use Rattle.run_law.specs.Uninterrupted.{counted, frames_after, has_moment, is_inside, is_new, kind_by, resumed_of}
+pub use Rattle.run_law.specs.Uninterrupted.{state_by, stepped, uninterrupted}
 pub use Rattle.std.proofs.Common.{All, Bool, List, None, Ok, Option, Result, Some, [], ap, append-nil, append_assoc}
 pub use Rattle.std.proofs.Common.{ap₂, arith, drop, false, get_or, inl, inr, length, length-append, map, max, min}
 pub use Rattle.std.proofs.Common.{nat_le, nat_lt, not, refl, set, subst, suc, sym, take, true, zero, ℕ, ◌&&◌, ◌*◌}
@@ -37,9 +37,9 @@ pub use Rattle.cpu12_isa.specs.{Memory.plus, Regions.is_free, Regions.is_hidden,
 pub use Rattle.cpu12_isa.specs.{declared.instr.Instr.TheVariants.Beq, declared.instr.Instr.TheVariants.LdaaExtended}
 pub use Rattle.cpu12_isa.specs.{declared.instr.Instr.TheVariants.Orcc, declared.instr.Regs.Regs}
 pub use Rattle.cpu12_isa.specs.{declared.instr.Write.Write}
-pub use Rattle.cpu12_parts.specs.{Executions.Execution, Executions.IsUntil, Executions.all_steps, Laws.addresses}
-pub use Rattle.cpu12_parts.specs.{Parts.suspended, Parts.wav, State.State, Whole.IsPlainStep}
-pub use Rattle.cpu12_parts.specs.{declared.temps.Temps.Temps, declared.temps.Temps.TheVariants.Free}
+pub use Rattle.cpu12_parts.specs.{Executions.Execution, Executions.IsUntil, Executions.all_steps, Parts.suspended}
+pub use Rattle.cpu12_parts.specs.{Parts.wav, State.State, Whole.IsPlainStep, declared.temps.Temps.Temps}
+pub use Rattle.cpu12_parts.specs.{declared.temps.Temps.TheVariants.Free}
 pub use Rattle.eval_code.specs.{Evaluation.put, Firing.AreInputBytes, Widths.answer}
 pub use Rattle.eval_code.specs.{declared.memory_map.MemoryMap.MemoryMap}
 pub use Rattle.firmware_runs.specs.{Facts.Facts, Facts.FactsBeside, Instructions.AreSteps}

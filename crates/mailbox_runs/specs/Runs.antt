@@ -27,7 +27,7 @@ writes_from at (v ∷ vs) = record { at = at; value = v } ∷ writes_from (plus 
 abbrev pub post_writes : MemoryMap → List (List ℕ) → Post → List Write
 post_writes l samples p =
     if p.sample == 0 then p.writes
-    else writes_from l.samples (bytes_of samples p.sample) ++ (record { at = l.ready; value = 1 } ∷ p.writes)
+    else writes_from l.samples (bytes_of samples p.sample) ++ (record { at = l.sample_flag; value = 1 } ∷ p.writes)
 
 abbrev pub TurnForm : Type 0
 TurnForm = Form (Unit {0}) Post (Unit {0})
@@ -110,7 +110,7 @@ then_turns f samples g v frames r rest =
 
 -- no sample is posted, and no post is left
 abbrev pub is_over : MemoryMap → Taking Post (Unit {0}) → Bool
-is_over l b = is_empty b.left && (slice_index b.state.mem l.ready == 0)
+is_over l b = is_empty b.left && (slice_index b.state.mem l.sample_flag == 0)
 
 -- The turn that begins at boundary g, where the code waits in state s and these posts are left: what is due is taken
 -- first, and then it runs up to boundary `last` at the most.

@@ -68,11 +68,11 @@ pub record IsAnswerRun (f : Firmware) (flags n : ℕ) (s : State) : Type 0 where
 -- A turn begins where the code waits and no sample is posted; so does the next.
 pub record IsTurnRun (f : Firmware) (flags : ℕ) (samples : List (List ℕ)) (t : Turn) (s : State) : Type 0 where
   pub at : IsAt (image_memory f.image.bytes) f.memory_map.wait s
-  pub cleared : slice_index s.mem f.memory_map.ready ≡ 0
+  pub cleared : slice_index s.mem f.memory_map.sample_flag ≡ 0
   pub rests : t.sample ≡ 0 → (t.steps ≡ 0) ⊎ ((t.steps ≡ 2) × IsIdleRun f flags s)
   pub answers : t.sample ≢ 0 → IsAnswerRun f flags t.steps (given f.memory_map (bytes_of samples t.sample) s)
   pub at_end : IsAt (image_memory f.image.bytes) f.memory_map.wait (ended flags f samples t s)
-  pub cleared_at_end : slice_index (ended flags f samples t s).mem f.memory_map.ready ≡ 0
+  pub cleared_at_end : slice_index (ended flags f samples t s).mem f.memory_map.sample_flag ≡ 0
 
 abbrev pub AllTurnRuns : Firmware → ℕ → List (List ℕ) → List Turn → State → Type 0
 AllTurnRuns f flags samples [] s = Unit {0}

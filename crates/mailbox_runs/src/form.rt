@@ -99,7 +99,7 @@ fn write_post(
         let sample = &samples[post.sample as usize - 1];
         count = put_bytes(writes, 0, memory_map.samples, sample.bytes.as_slice());
         let posted = Write {
-            at: memory_map.ready,
+            at: memory_map.sample_flag,
             value: 1,
         };
         put(writes, count, posted);

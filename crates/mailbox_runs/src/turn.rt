@@ -1,5 +1,6 @@
 //! A turn: from one arrival where the code waits to the next.
 ghost use Rattle.std.specs.Prelude.{◌≡◌, ◌≤◌, ◌<◌, ◌+◌, ◌-◌, ◌^◌, All, true, false, length, map, drop};
+ghost use Rattle.cpu12_emul.specs.Step.{SameMachine};
 ghost use Rattle.run_law.specs.Forms.{run_from};
 ghost use Rattle.run_forms.specs.{Rest.rest_at, Rest.counted_at, Rooms.Fits, SampleRests.IsSteady};
 ghost use Rattle.interrupt_plan.specs.Posts.{IsGoodPost};
@@ -38,7 +39,7 @@ pub(crate) fn turn<M: Mem>(
     ensures steady { IsSteady Fits posts.now st.new }
     ensures most { st.new.counts.moment ≤ last }
     ensures resumed { result ≡ true → st.new.counts.resumed ≤ st.new.counts.moment }
-    ensures flags { m.new.flags ≡ m.old.flags }
+    ensures machine { SameMachine m.old m.new }
 {
     st.counts.arrived = false;
     st.left = last - st.counts.moment;

@@ -1,6 +1,7 @@
 //! Runs as sequences of turns.
 ghost use Rattle.std.specs.Prelude.{ℕ, ◌≡◌, ◌≤◌, ◌<◌, ◌+◌, ◌-◌, ◌*◌, ◌^◌, ◌==◌, ◌&&◌, ◌++◌, [], ◌∷◌, true, false, min};
 ghost use Rattle.std.specs.Prelude.{if◌then◌else◌, suc, All, length, map, drop, slice_index, vec_len, vec_capacity};
+ghost use Rattle.cpu12_emul.specs.Step.{SameMachine};
 ghost use Rattle.run_law.specs.{Forms.takes, Forms.is_empty, Following.asked};
 ghost use Rattle.interrupt_plan.specs.Posts.{IsGoodPost, AreGoodPosts};
 ghost use Rattle.alone_code.specs.Uninterrupted.{values_in};
@@ -159,7 +160,7 @@ fn look<M: Mem>(
     ensures room { Fits t.new.notes (length posts.now - t.new.next) }
     ensures begins { t.new.moment ≡ t.old.moment }
     ensures fresh { (t.new.inside ≡ false) × (t.new.instrs ≡ 0) × (t.new.resumed ≡ t.old.resumed) }
-    ensures flags { m.new.flags ≡ m.old.flags }
+    ensures machine { SameMachine m.old m.new }
 {
     t.inside = false;
     t.instrs = 0;
@@ -177,10 +178,10 @@ fn is_over<M: Mem>(
 ) -> bool
     requires { t.now.next ≤ length posts.now }
     ensures { result ≡ (is_empty (drop t.now.next posts.now)
-        && (slice_index m.now.state.mem firmware.now.memory_map.ready == 0)) }
+        && (slice_index m.now.state.mem firmware.now.memory_map.sample_flag == 0)) }
 {
     if t.next == posts.len() {
-        m.peek(firmware.memory_map.ready) == 0
+        m.peek(firmware.memory_map.sample_flag) == 0
     } else {
         false
     }
@@ -223,7 +224,7 @@ fn next_turn<M: Mem>(
     ensures waits { waits.new ≤ length samples.now }
     ensures answers { result ≡ true → (vec_len answers.new + min waits.new 1 ≤ st.new.counts.next)
         × (length posts.now ≤ vec_capacity answers.new) }
-    ensures flags { m.new.flags ≡ m.old.flags }
+    ensures machine { SameMachine m.old m.new }
 {
     let begun = st.counts.moment;
     let form = MailboxForm {

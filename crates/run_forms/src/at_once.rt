@@ -1,6 +1,7 @@
 //! Parts of REV and REVW that are done at once, where no interrupt comes at the boundaries between them.
 ghost use Rattle.std.specs.Prelude.{◌≡◌, ◌≤◌, ◌<◌, ◌+◌, ◌^◌, List, drop};
 ghost use Rattle.cpu12_parts.specs.State.{State};
+ghost use Rattle.cpu12_emul.specs.Step.{SameMachine};
 ghost use Rattle.run_forms.specs.Forms.{moment_in};
 ghost use Rattle.run_forms.specs.SampleRests.{after_states, after_takes, after_parts, IsSteady, NoneDue};
 
@@ -57,8 +58,7 @@ pub(crate) fn pass_parts<M: Mem, A, U, R, F: SampleForm<A, U, R>>(
         × (after_takes m.old.flags (F.harness form.now) requests.now st.old m.old.state
         ≡ after_states states (after_takes m.old.flags (F.harness form.now) requests.now st.new m.new.state)) }
     ensures steady { IsSteady F.fits requests.now st.new }
-    ensures noted { m.new.noted ≡ m.old.noted }
-    ensures flags { m.new.flags ≡ m.old.flags }
+    ensures machine { SameMachine m.old m.new }
 {
     if st.over {
         return;

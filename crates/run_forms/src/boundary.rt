@@ -3,6 +3,7 @@
 ghost use Rattle.std.specs.Prelude.{ℕ, ◌≡◌, ◌≤◌, ◌<◌, ◌+◌, ◌-◌, ◌&&◌, nat_lt};
 ghost use Rattle.std.specs.Prelude.{◌^◌, All, true, false, Ok, Err, length};
 ghost use Rattle.cpu12_emul.specs.{declared.ends.Stepped.Stepped as Kind, Step.next_of, Step.is_part};
+ghost use Rattle.cpu12_emul.specs.Step.{SameMachine};
 ghost use Rattle.run_law.specs.Forms.{one_if};
 ghost use Rattle.run_forms.specs.SampleRests.{before_takes, after_takes, after_state, at_end, stepped_counts};
 ghost use Rattle.run_forms.specs.SampleRests.{IsSteady};
@@ -67,8 +68,7 @@ pub(crate) fn come<M: Mem, A, U, R, F: SampleForm<A, U, R>>(
         × (st.new.counts.resumed ≤ st.new.counts.moment + 1) }
     ensures on { st.new.over ≡ false → (st.new.counts.arrived ≡ false)
         × (st.new.counts.moment + st.new.left + 1 < 2 ^ 32) }
-    ensures noted { m.new.noted ≡ m.old.noted }
-    ensures flags { m.new.flags ≡ m.old.flags }
+    ensures machine { SameMachine m.old m.new }
 {
     if form.ends(m, st.counts.moment) {
         st.counts.arrived = true;
@@ -105,8 +105,7 @@ pub(crate) fn step_on<M: Mem, U>(m: &mut Machine<M>, st: &mut SampleState<U>) ->
           };
         } }
     ensures counts { result ≡ true → st.new.counts.instrs ≤ st.new.counts.moment }
-    ensures noted { m.new.noted ≡ m.old.noted }
-    ensures flags { m.new.flags ≡ m.old.flags }
+    ensures machine { SameMachine m.old m.new }
 {
     match m.step() {
         Ok(kind) => {
@@ -138,8 +137,7 @@ pub(crate) fn pass<M: Mem, A, U, R, F: SampleForm<A, U, R>>(
     ensures same { result ≡ false → (st.new ≡ st.old) × (m.new ≡ m.old) }
     ensures moment { result ≡ true → st.new.counts.moment ≡ st.old.counts.moment + 1 }
     ensures steady { IsSteady F.fits requests.now st.new }
-    ensures noted { m.new.noted ≡ m.old.noted }
-    ensures flags { m.new.flags ≡ m.old.flags }
+    ensures machine { SameMachine m.old m.new }
 {
     if st.over {
         return false;

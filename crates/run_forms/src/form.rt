@@ -2,7 +2,7 @@
 ghost use Rattle.std.specs.Prelude.{ℕ, ◌≡◌, ◌<◌, ◌≤◌, ◌+◌, ◌++◌, ◌∷◌, [], true, false, Some, List, length, slice_get};
 ghost use Rattle.std.specs.Prelude.{IsTrue, IfOk};
 ghost use Rattle.cpu12_parts.specs.{Parts.suspended, Parts.wav, State.State};
-ghost use Rattle.cpu12_emul.specs.Take.{may_interrupt, frame_of};
+ghost use Rattle.cpu12_emul.specs.{Step.SameMachine, Take.may_interrupt, Take.frame_of};
 ghost use Rattle.run_forms.specs.{Forms.Harness, Rest.counted_at, Rest.shown_by};
 
 use crate::sample::Counts;
@@ -12,8 +12,7 @@ use fz_list::Memory;
 use std::alloc::Global;
 
 /// What the run of a sample needs of a form, with the handler of its requests: requests are of type `A`, notes of
-/// them of type `U`, and runs of samples have rows of type `R`. No call changes the byte from which open flags are
-/// taken, nor what the memory notes.
+/// them of type `U`, and runs of samples have rows of type `R`. No call changes more of a machine than its state.
 pub trait SampleForm<A, U, R> {
     /// What the firmware is given.
     ghost Given: { Type 0 };
@@ -61,8 +60,7 @@ pub trait SampleForm<A, U, R> {
             ++ (harness self.now).parts.tells m.old.flags request.now (suspended wav m.old.state) ∷ [] }
         ensures room { (n : ℕ) → fits notes.old (n + 1)
             → fits notes.new n }
-        ensures noted { m.new.noted ≡ m.old.noted }
-        ensures flags { m.new.flags ≡ m.old.flags };
+        ensures machine { SameMachine m.old m.new };
 }
 
 /// A form of firmware with its samples.
@@ -76,16 +74,14 @@ pub trait RunForm<A, U, R>: SampleForm<A, U, R> {
         requires { k < length (Self.harness self.now).samples }
         ensures state { (x : Self.Given) → slice_get (Self.harness self.now).samples k ≡ Some x
             → m.new.state ≡ (Self.harness self.now).parts.give x m.old.state }
-        ensures noted { m.new.noted ≡ m.old.noted }
-        ensures flags { m.new.flags ≡ m.old.flags };
+        ensures machine { SameMachine m.old m.new };
 
     /// Takes sample `k` away, whose run ends here.
     fn leave<M: Mem>(&self, m: &mut Machine<M>, k: usize)
         requires { k < length (Self.harness self.now).samples }
         ensures state { (x : Self.Given) → slice_get (Self.harness self.now).samples k ≡ Some x
             → m.new.state ≡ (Self.harness self.now).parts.leave x m.old.state }
-        ensures noted { m.new.noted ≡ m.old.noted }
-        ensures flags { m.new.flags ≡ m.old.flags };
+        ensures machine { SameMachine m.old m.new };
 
     /// Room for notes of this many requests.
     fn room(&self, alloc: Global, count: usize) -> Result<U, Memory>

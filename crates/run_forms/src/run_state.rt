@@ -2,6 +2,7 @@
 ghost use Rattle.std.specs.Prelude.{ℕ, ◌≡◌, ◌≤◌, ◌<◌, ◌+◌, ◌-◌, ◌^◌, List};
 ghost use Rattle.std.specs.Prelude.{[], All, true, false, length, map, drop, vec_len, vec_capacity};
 ghost use Rattle.cpu12_parts.specs.State.{State};
+ghost use Rattle.cpu12_emul.specs.Step.{SameMachine};
 ghost use Rattle.run_forms.specs.{Rest.counted_at, Rest.shown_by, Rows.harness_rows};
 ghost use Rattle.run_forms.specs.Slices.{HasRoom, HaveRoom, IsInOrder};
 ghost use Rattle.run_forms.specs.RunRests.{rest_before, at_position, from_here, left_by, rest_here, rows_here};
@@ -88,8 +89,7 @@ fn end_sample<M: Mem, A, U: Drop, R, F: RunForm<A, U, R>>(
         (sample_at number (F.harness form.now).samples) m.old.state }
     ensures len { vec_len rows.new ≡ number }
     ensures room { vec_capacity rows.old ≤ vec_capacity rows.new }
-    ensures noted { m.new.noted ≡ m.old.noted }
-    ensures flags { m.new.flags ≡ m.old.flags }
+    ensures machine { SameMachine m.old m.new }
 {
     if number == 0 {
         return;
@@ -115,8 +115,7 @@ fn give_next<M: Mem, A, U: Drop, R, F: RunForm<A, U, R>>(
         (drop p.old.number (F.harness form.now).samples)
         (rows_here (F.harness form.now) p.old m.old.state) (state_here (F.harness form.now) p.old m.old.state) }
     ensures under_way { IsUnderWay F.fits (F.harness form.now) plan.now p.new }
-    ensures noted { m.new.noted ≡ m.old.noted }
-    ensures flags { m.new.flags ≡ m.old.flags }
+    ensures machine { SameMachine m.old m.new }
 {
     let Some(room) = p.rooms.pop_front() else {
         unreachable!()
@@ -152,8 +151,7 @@ pub fn advance<M: Mem, A, U: Drop, R, F: RunForm<A, U, R>>(
         } }
     ensures same { result ≡ false → (p.new ≡ p.old) × (m.new ≡ m.old) }
     ensures under_way { IsUnderWay F.fits (F.harness form.now) plan.now p.new }
-    ensures noted { m.new.noted ≡ m.old.noted }
-    ensures flags { m.new.flags ≡ m.old.flags }
+    ensures machine { SameMachine m.old m.new }
 {
     if pass(m, form, &plan[p.first..p.behind], &mut p.sample) {
         return true;
@@ -216,8 +214,7 @@ pub(crate) fn begin<M: Mem, A, U: Drop, R, F: RunForm<A, U, R>>(
         ≡ shown_run (F.harness form.now).shows m.old.state
         (harness_rows m.old.flags (F.harness form.now) p.old.most plan.now m.old.state) }
     ensures under_way { IsUnderWay F.fits (F.harness form.now) plan.now p.new }
-    ensures noted { m.new.noted ≡ m.old.noted }
-    ensures flags { m.new.flags ≡ m.old.flags }
+    ensures machine { SameMachine m.old m.new }
 {
     advance(m, form, plan, p);
 }

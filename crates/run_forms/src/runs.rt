@@ -1,6 +1,7 @@
 //! The run of any form over its samples under a plan.
 ghost use Rattle.std.specs.Prelude.{ℕ, ◌≡◌, ◌≤◌, ◌+◌, [], All, length, map, IfOk, vec_capacity};
-ghost use Rattle.cpu12_isa.specs.Watching.{nothing_noted};
+ghost use Rattle.cpu12_isa.specs.Tags.{untagged};
+ghost use Rattle.cpu12_emul.specs.Step.{SameMachine};
 ghost use Rattle.run_forms.specs.Rows.{arrival, arrived_at, frames_seen, harness_rows, shown};
 ghost use Rattle.run_forms.specs.{Rooms.Fits, Slices.HaveRoom, Slices.IsInOrder, Slices.requests_first};
 ghost use Rattle.run_forms.specs.RunRests.{from_here, shown_run, rest_here, IsUnderWay};
@@ -67,8 +68,8 @@ pub fn begun<M: Mem, A, U: Drop, R: Drop, F: RunForm<A, U, R>>(
         (harness_rows flags (F.harness form.now) start.now.most plan.now
         (arrived_at flags start.now.wait start.now.most start.now.image.now.bytes))) }
     ensures under_way { IfOk result (λ r. IsUnderWay F.fits (F.harness form.now) plan.now r.1) }
-    ensures noted { IfOk result (λ r. r.0.noted ≡ nothing_noted) }
-    ensures flags { IfOk result (λ r. r.0.flags ≡ flags) }
+    ensures machine { IfOk result (λ r.
+        r.0 ≡ record { state = r.0.state; flags = flags; tags = untagged 65536 }) }
 {
     let count = form.count();
     let none = form.room(alloc, 0)?;
@@ -86,8 +87,7 @@ pub fn begun<M: Mem, A, U: Drop, R: Drop, F: RunForm<A, U, R>>(
 /// Does steps until PC is at LOOP, at most `budget` of them, and while steps are defined.
 fn arrive<M: Mem>(m: &mut Machine<M>, loop_at: u16, budget: u32)
     ensures state { m.new.state ≡ arrival m.old.flags loop_at budget m.old.state }
-    ensures noted { m.new.noted ≡ m.old.noted }
-    ensures flags { m.new.flags ≡ m.old.flags }
+    ensures machine { SameMachine m.old m.new }
 {
     let mut left = budget;
     while left > 0 {

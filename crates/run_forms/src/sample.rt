@@ -1,6 +1,6 @@
 //! What is taken at a boundary, and what is counted.
 ghost use Rattle.std.specs.Prelude.{ℕ, ◌≡◌, ◌≤◌, ◌<◌, ◌+◌, ◌-◌, ◌++◌, ◌∷◌, [], true, All, length, drop};
-ghost use Rattle.cpu12_emul.specs.Take.{frame_seen};
+ghost use Rattle.cpu12_emul.specs.{Step.SameMachine, Take.frame_seen};
 ghost use Rattle.run_law.specs.Forms.{takes};
 ghost use Rattle.run_forms.specs.{Forms.moment_in, Forms.plan_form, Rows.frames_seen, Rest.is_due, Rest.with_before};
 ghost use Rattle.run_forms.specs.Rooms.{Fits};
@@ -97,8 +97,7 @@ fn take_next<M: Mem, A, U, R, F: SampleForm<A, U, R>>(
     ensures within { t.new.next ≤ length requests.now }
     ensures room { F.fits t.new.notes (length requests.now - t.new.next) }
     ensures rest { t.new ≡ record t.old { next = t.new.next; notes = t.new.notes } }
-    ensures noted { m.new.noted ≡ m.old.noted }
-    ensures flags { m.new.flags ≡ m.old.flags }
+    ensures machine { SameMachine m.old m.new }
 {
     form.take(m, &requests[t.next], t.moment, &mut t.notes);
     t.next += 1;
@@ -128,8 +127,7 @@ pub fn take_due<M: Mem, A, U, R, F: SampleForm<A, U, R>>(
     ensures next { (t.old.next ≤ t.new.next) × (t.new.next ≤ length requests.now) }
     ensures room { F.fits t.new.notes (length requests.now - t.new.next) }
     ensures rest { t.new ≡ record t.old { next = t.new.next; notes = t.new.notes } }
-    ensures noted { m.new.noted ≡ m.old.noted }
-    ensures flags { m.new.flags ≡ m.old.flags }
+    ensures machine { SameMachine m.old m.new }
 {
     while is_due(m, form, requests, t) {
         take_next(m, form, requests, t);

@@ -1,5 +1,6 @@
 //! The run of one sample.
 ghost use Rattle.std.specs.Prelude.{◌≡◌, ◌≤◌, ◌<◌, ◌+◌, ◌-◌, ◌^◌, All, true, false, length, drop};
+ghost use Rattle.cpu12_emul.specs.Step.{SameMachine};
 ghost use Rattle.run_law.specs.Forms.{run_from};
 ghost use Rattle.run_forms.specs.{Forms.plan_form, Rest.rest_at, Rest.counted_at, SampleRests.IsSteady};
 
@@ -35,8 +36,7 @@ pub fn run_sample<M: Mem, A, U, R, F: SampleForm<A, U, R>>(
     ensures steady { IsSteady F.fits requests.now st.new }
     ensures most { st.new.counts.moment ≤ st.old.counts.moment + st.old.left }
     ensures resumed { st.new.counts.arrived ≡ true → st.new.counts.resumed ≤ st.new.counts.moment }
-    ensures noted { m.new.noted ≡ m.old.noted }
-    ensures flags { m.new.flags ≡ m.old.flags }
+    ensures machine { SameMachine m.old m.new }
 {
     come(m, form, requests, st);
     while pass(m, form, requests, st) {

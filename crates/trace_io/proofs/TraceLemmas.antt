@@ -1,10 +1,10 @@
 -- Rows and samples, one by one.
 use Rattle.std.proofs.Common.{◌≤◌, ◌≡◌, ◌<◌, ◌+◌, ℕ, zero, suc, List, [], ◌∷◌, ◌++◌, length, take, drop, get_or, refl}
-use Rattle.std.proofs.Common.{sym, ◌∙◌, ap, subst, arith, add-one, drop-cons, take-append-drop}
+use Rattle.std.proofs.Common.{sym, ◌∙◌, ap, subst, arith}
 use Rattle.std.specs.List.{All}
 use Rattle.std.specs.Prelude.{map, Option, Some, None, option_map, Result, Ok, Err}
-use Rattle.std.proofs.Math.Seq.{take-suc}
-use Rattle.std.proofs.lemmas.List.{length-map, length-take-le, map-append}
+use Rattle.std.proofs.Math.Seq.{split_at}
+use Rattle.std.proofs.lemmas.List.{length-map, length-take-le, map-append, take_more}
 use Rattle.csv.specs.Records.{Row, fields_of}
 use Rattle.fz_num.specs.{declared.dec.Dec.Dec, declared.dec.DecFault.DecFault, Decimals.decimal}
 use Rattle.fuzzy_meaning.specs.{Blocks.IsWithin, declared.block.Input.Input}
@@ -13,14 +13,6 @@ use Rattle.trace_io.specs.Traces.{AreWithin, Fields, FirstFault, at_row, more, I
 use Rattle.trace_io.specs.Traces.{SpellsSample, decimals, with_decimal}
 use Rattle.trace_io.specs.declared.{sample.Sample.Sample, sample.TraceFault.TraceFault}
 use Rattle.trace_io.specs.declared.sample.TraceFault.TheVariants.{TooMany}
-
-take_more : {X : Type 0} (xs : List X) (i : ℕ) (d : X) → i < length xs
-    → take (i + 1) xs ≡ take i xs ++ get_or xs i d ∷ []
-take_more xs i d lt = rw add-one (take-suc xs i d lt)
-
-split_at : {X : Type 0} (xs : List X) (i : ℕ) (d : X) → i < length xs
-    → xs ≡ take i xs ++ get_or xs i d ∷ drop (suc i) xs
-split_at {X} xs i d lt = sym (ap (λ (l : List X). take i xs ++ l) (sym (drop-cons xs i d lt)) ∙ take-append-drop i xs)
 
 -- ---- decimals
 

@@ -105,10 +105,7 @@ fn samples_in(
         if at == MOST_SAMPLES {
             return Err(TraceFault::TooMany);
         }
-        let sample = match sample_in(alloc, inputs, row, at as u32 + 1) {
-            Ok(sample) => sample,
-            Err(fault) => return Err(fault),
-        };
+        let sample = sample_in(alloc, inputs, row, at as u32 + 1)?;
         match samples.push(sample) {
             Ok(()) => {}
             Err(_) => return Err(TraceFault::Memory),

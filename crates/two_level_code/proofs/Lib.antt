@@ -1,5 +1,4 @@
 mod Places
-mod FastCode
-mod Leaving
+mod FastRom
 mod Entering
 mod Standing

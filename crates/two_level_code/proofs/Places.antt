@@ -9,18 +9,13 @@ use Rattle.eval_code.specs.{MemoryMaps.main_map, Items.IsApart, Placed.IsInOrder
 use Rattle.alone_code.specs.{Code.frame_code, Images.vector_items}
 use Rattle.two_level_code.specs.MemoryMaps.{fast_front, fast_back, fast_map, slow_map}
 use Rattle.two_level_code.specs.Images.{slow_items, two_items}
+use Rattle.alone_code.proofs.Algebra.{main_in_order}
 
 pub fast_in_order : IsInOrder fast_map fast_front fast_back
 fast_in_order = search arith
 
-pub main_in_order : IsInOrder main_map (frame_code main_map) (Rts ∷ [])
-main_in_order = search arith
-
 pub fast_apart : IsApart fast_map
 fast_apart = search arith
-
-pub main_apart : IsApart main_map
-main_apart = search arith
 
 -- both blocks are valid and can be laid out
 pub record AreAccepted (slow fast : Block) : Type 0 where

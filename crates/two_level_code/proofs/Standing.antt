@@ -1,7 +1,7 @@
 -- Memory from the image of both blocks, beside that of the slow firmware alone.
 use Rattle.std.proofs.Common.{◌≡◌, ◌⊎◌, inl, inr, ℕ, ◌+◌, ◌-◌, ◌*◌, ◌^◌, ◌<◌, ◌≤◌, nat_lt, nat_le, ◌&&◌, ◌||◌, Bool}
-use Rattle.std.proofs.Common.{true, false, List, [], ◌∷◌, ◌++◌, All, get_or, Option, None, refl}
-use Rattle.std.proofs.Common.{sym, ap, ap₂, ◌∙◌, subst, arith, nat_cmp}
+use Rattle.std.proofs.Common.{true, false, List, [], ◌∷◌, ◌++◌, All, get_or, Option, None, refl, sym, ap, ap₂, ◌∙◌}
+use Rattle.std.proofs.Common.{subst, arith, nat_cmp}
 use Rattle.std.specs.BTreeMap.{is_at}
 use Rattle.std.specs.List.{list_all}
 use Rattle.std.proofs.lemmas.Bool.{cases_lt, and_parts, or_parts, ltb-true}
@@ -16,18 +16,19 @@ use Rattle.cpu12_asm.specs.declared.{items.Item.Item, items.Item.TheVariants.Pla
 use Rattle.cpu12_asm.specs.{Bytes.byte_at, Items.given_by}
 use Rattle.cpu12_emul.specs.Image.{byte_or_zero, image_memory, HoldsImage}
 use Rattle.eval_code.specs.declared.memory_map.MemoryMap.{MemoryMap}
-use Rattle.eval_code.specs.{MemoryMaps.main_map, Code.code_bytes, Items.block_items}
+use Rattle.eval_code.specs.{MemoryMaps.main_map, Code.code_bytes, Items.block_items, Evaluation.HasAnswers}
+use Rattle.eval_code.specs.{Evaluation.Reads, Evaluation.Writes, Standing.ImageIsBytes}
 use Rattle.eval_code.specs.Placed.{BlockStaysInside, GivesBehind, GiveBytes, BlockGivesBytes}
 use Rattle.byte_scaling.specs.{declared.width.Width.Width, declared.width.Width.TheVariants.Byte}
-use Rattle.eval_code.specs.{Evaluation.HasAnswers, Evaluation.Reads, Evaluation.Writes, Standing.ImageIsBytes}
 use Rattle.alone_code.specs.{Code.frame_code, Images.vector_items, Images.firmware_items}
 use Rattle.alone_code.specs.Answers.{LeavesMapped, FirmwareAnswersBeside, FirmwareArrivesAlike}
 use Rattle.two_level_code.specs.{declared.two.Two.Two, Standing.TwoStandBeside}
 use Rattle.two_level_code.specs.MemoryMaps.{fast_front, fast_back, fast_map, slow_map, is_fast_ram, is_fast_rom}
 use Rattle.two_level_code.specs.MemoryMaps.{is_open_to_fast}
 use Rattle.two_level_code.specs.Images.{fast_items, slow_items, two_items, IsTwoOf}
-use Rattle.two_level_code.proofs.FastCode.{CodeLaws, standing, first_decoded}
-use Rattle.two_level_code.proofs.Places.{fast_in_order, main_in_order, fast_apart, main_apart, AreAccepted}
+use Rattle.two_level_code.proofs.FastRom.{CodeLaws, standing, first_decoded}
+use Rattle.two_level_code.proofs.Places.{fast_in_order, fast_apart, AreAccepted}
+use Rattle.alone_code.proofs.Algebra.{main_in_order, main_apart}
 
 -- the laws of lower crates
 pub record StandingLaws : Type 0 where

@@ -1,6 +1,6 @@
 -- The image of a slow firmware with a fast block.
 -- Beside the promise.
-use Rattle.std.specs.Prelude.{◌≡◌, ℕ, ◌-◌, List, [], ◌∷◌, ◌++◌}
+use Rattle.std.specs.Prelude.{◌≡◌, ℕ, ◌-◌, List, [], ◌∷◌, ◌++◌, length}
 use Rattle.fuzzy_meaning.specs.{declared.block.Block.Block, Blocks.IsValid}
 use Rattle.rule_layout.specs.Layouts.{IsWithinLimits}
 use Rattle.cpu12_isa.specs.declared.instr.Instr.TheVariants.{Rts}
@@ -9,7 +9,7 @@ use Rattle.alone_code.specs.declared.firmware.Firmware.{Firmware}
 use Rattle.alone_code.specs.{Code.frame_code, Images.vector_items, Images.IsImageOf, Firmwares.IsFirmwareOf}
 use Rattle.byte_scaling.specs.declared.width.Width.TheVariants.{Byte}
 use Rattle.eval_code.specs.{MemoryMaps.main_map, Bounds.instruction_bound, Bounds.step_bound, Items.block_items}
-use Rattle.two_level_code.specs.declared.two.Two.{Two}
+use Rattle.two_level_code.specs.declared.two.{FastCode.FastCode, Two.Two}
 use Rattle.two_level_code.specs.MemoryMaps.{fast_front, fast_back, fast_map, slow_map}
 
 -- the fast block's code and data
@@ -38,11 +38,17 @@ pub record HasByteBounds (b : Block) (f : Firmware) : Type 0 where
 abbrev pub AloneHasByteBounds : Type 0
 AloneHasByteBounds = (b : Block) (f : Firmware) → IsAlone b f → HasByteBounds b f
 
--- The image has just the bytes of both, and the firmwares are those of each block alone.
+-- the outputs are the block's, and so are the bounds, for answers of bytes
+pub record IsFastOf (b : Block) (f : FastCode) : Type 0 where
+  pub outputs : f.outputs ≡ length b.outputs
+  pub instructions : f.instr_bound ≡ instruction_bound Byte b
+  pub steps : f.step_bound ≡ step_bound Byte b
+
+-- The image has just the bytes of both, and the slow firmware is that of its block alone.
 pub record IsTwoOf (slow fast : Block) (two : Two) : Type 0 where
   pub image : IsImageOf (two_items slow fast) two.image
   pub slow_alone : IsAlone slow two.slow
-  pub fast_alone : IsAlone fast two.fast
+  pub fast_is : IsFastOf fast two.fast
 
 -- Valid blocks within the limits have one.
 abbrev pub BlocksHaveTwos : Type 0

@@ -30,7 +30,7 @@ fast_map = record {
   singletons = lowered main_map.singletons;
   weights = lowered main_map.weights;
   rules = lowered main_map.rules;
-  ready = raised main_map.ready;
+  sample_flag = raised main_map.sample_flag;
   samples = raised main_map.samples;
   inputs = raised main_map.inputs;
   outputs = raised main_map.outputs;
@@ -50,7 +50,7 @@ fast_ram_end = fast_map.slots + 300
 
 -- the fast block's RAM: READY, the inputs, the outputs and the slots; and its ROM
 abbrev pub is_fast_ram : ℕ → Bool
-is_fast_ram at = nat_le fast_map.ready at && nat_lt at fast_ram_end
+is_fast_ram at = nat_le fast_map.sample_flag at && nat_lt at fast_ram_end
 
 abbrev pub is_fast_rom : ℕ → Bool
 is_fast_rom at = nat_le fast_map.code at && nat_lt at fast_rom_end

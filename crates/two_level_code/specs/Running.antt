@@ -1,24 +1,22 @@
 -- The fast code from where an interrupt enters it up to its return.
 -- Beside the promise.
-use Rattle.std.specs.Prelude.{◌≡◌, ℕ, ◌+◌, ◌^◌, ◌<◌, ◌≤◌, ◌⊎◌, true, false, Ok, List, length, slice_index}
+use Rattle.std.specs.Prelude.{◌≡◌, ℕ, ◌+◌, ◌^◌, ◌<◌, ◌≤◌, true, Ok, List}
 use Rattle.fuzzy_meaning.specs.{declared.block.Block.Block, Blocks.IsValid}
-use Rattle.rule_layout.specs.{Slots.slots_of, Layouts.IsWithinLimits}
+use Rattle.rule_layout.specs.Layouts.{IsWithinLimits}
 use Rattle.cpu12_isa.specs.declared.instr.Instr.TheVariants.{Andcc, Rti}
-use Rattle.cpu12_isa.specs.Flags.{has, interrupts_masked, x_masked}
-use Rattle.cpu12_isa.specs.{Code.decode_at, Code.six_from, Regions.stack_start, Regions.stack_end}
-use Rattle.cpu12_parts.specs.{State.State, Executions.Execution, Executions.all_steps}
-use Rattle.cpu12_parts.specs.Touching.{IsIn, Each, IsInstructionOver, IsBetween}
+use Rattle.cpu12_isa.specs.Flags.{has, interrupts_masked}
+use Rattle.cpu12_isa.specs.{Agreement.AgreeBetween, Code.decode_at, Code.six_from, Regions.stack_start}
+use Rattle.cpu12_isa.specs.{Regions.stack_end}
+use Rattle.cpu12_parts.specs.{State.State, Whole.after_plain, Touching.IsIn, Touching.Each, Touching.IsBetween}
 use Rattle.cpu12_emul.specs.Image.{image_memory}
 use Rattle.byte_scaling.specs.declared.width.Width.TheVariants.{Byte}
-use Rattle.eval_code.specs.{Widths.answer, Bounds.instruction_bound, Bounds.step_bound, Firing.AreInputBytes}
-use Rattle.eval_code.specs.Evaluation.{Reads, Writes, HasBytes, HasAnswers}
+use Rattle.eval_code.specs.{Firing.AreInputBytes, Evaluation.HasBytes, Evaluation.HasAnswers, Evaluation.IsEvaluated}
 use Rattle.two_level_code.specs.declared.two.Two.{Two}
-use Rattle.two_level_code.specs.{MemoryMaps.fast_map, MemoryMaps.fast_rom_end, Images.fast_most, Images.IsTwoOf}
+use Rattle.two_level_code.specs.{MemoryMaps.fast_map, MemoryMaps.fast_rom_end, Images.IsTwoOf}
 
 -- the bytes of the fast block's ROM are an image's, and 0 where it has none
 abbrev pub HasFastRom : List ℕ → List ℕ → Type 0
-HasFastRom image mem =
-    (at : ℕ) → fast_map.code ≤ at → at < fast_rom_end → slice_index mem at ≡ slice_index image at
+HasFastRom = AgreeBetween fast_map.code fast_rom_end
 
 -- an image whose fast code lets interrupts in at once
 abbrev pub LetsIn : List ℕ → Type 0
@@ -48,32 +46,13 @@ pub record IsEntered (b : Block) (image bytes : List ℕ) (before : ℕ → ℕ)
   pub inputs : HasBytes s.mem fast_map.inputs bytes
   pub outputs : HasAnswers fast_map b Byte before s.mem
 
--- A whole instruction of it before the return reads and writes what is the fast block's own, leaves SP and X, and
--- behind it I is 0.
-pub record IsFastStep (image : List ℕ) (flags d : ℕ) (s t : State) : Type 0 where
-  pub inside : IsInFast image s
-  pub instruction : IsInstructionOver (Reads fast_map) (Writes fast_map) flags d s t
-  pub stack : t.regs.sp ≡ s.regs.sp
-  pub x : has t.regs.ccr x_masked ≡ has s.regs.ccr x_masked
-  pub unmasked : has t.regs.ccr interrupts_masked ≡ false
-
--- Such instructions lead to its return, with the answers after those before, and leave SP and X; outside the answers'
--- bytes and the slots memory is as it was. With the return they are no more than the bounds say.
+-- It lets interrupts in at once, whatever X is, and EVAL leads on to its return, with the answers after those before.
 pub record IsFastAnswered (b : Block) (image : List ℕ) (flags : ℕ) (bytes : List ℕ) (before : ℕ → ℕ) (s t : State)
     : Type 0 where
-  pub ds : List ℕ
-  pub execution : Execution (IsFastStep image flags) ds s t
+  pub lets_in : decode_at s.mem s.regs.pc ≡ Ok (Andcc 0xEF)
+  pub evaluated : IsEvaluated fast_map b Byte flags bytes before (after_plain flags (Andcc 0xEF) s) t
   pub inside : IsInFast image t
   pub returns : decode_at t.mem t.regs.pc ≡ Ok Rti
-  pub stack : t.regs.sp ≡ s.regs.sp
-  pub x : has t.regs.ccr x_masked ≡ has s.regs.ccr x_masked
-  pub unmasked : has t.regs.ccr interrupts_masked ≡ false
-  pub answers : HasAnswers fast_map b Byte (λ o. answer Byte b o bytes (before o)) t.mem
-  pub elsewhere : (at : ℕ) → (at < fast_map.outputs) ⊎ (fast_map.outputs + length b.outputs ≤ at)
-      → (at < fast_map.slots) ⊎ (fast_map.slots + length (slots_of b) ≤ at)
-      → slice_index t.mem at ≡ slice_index s.mem at
-  pub instructions : length ds + 1 ≤ fast_most (instruction_bound Byte b)
-  pub steps : all_steps ds + 1 ≤ fast_most (step_bound Byte b)
 
 -- From wherever an interrupt enters it the fast code answers so, whatever the open flags are.
 abbrev pub AnswersEntered : Block → Two → Type 0

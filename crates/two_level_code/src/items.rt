@@ -1,16 +1,13 @@
 //! The items of a slow firmware with a fast block.
 ghost use Rattle.std.specs.Prelude.{◌≡◌, IfOk};
-ghost use Rattle.fuzzy_meaning.specs.Blocks.{IsValid};
-ghost use Rattle.rule_layout.specs.Layouts.{flat_of, IsLaidOut};
 ghost use Rattle.two_level_code.specs.{Images.two_items, MemoryMaps.fast_map, MemoryMaps.slow_map};
 
 use alone_code::{frame_code, push_vectors};
 use byte_scaling::Width;
 use cpu12_asm::Item;
 use cpu12_isa::instr::Instr;
-use eval_code::{MemoryMap, push_block};
-use fuzzy_meaning::Block;
-use rule_layout::Flat;
+use eval_code::{Around, MemoryMap, push_block};
+use rule_layout::LaidOut;
 use std::alloc::{AllocError, Global};
 
 /// How far the fast block's ROM is below that of a firmware that stands alone, and how far its RAM is above.
@@ -33,7 +30,7 @@ pub fn fast_map() -> MemoryMap
         singletons: main.singletons - LOWERED,
         weights: main.weights - LOWERED,
         rules: main.rules - LOWERED,
-        ready: main.ready + RAISED,
+        sample_flag: main.sample_flag + RAISED,
         samples: main.samples + RAISED,
         inputs: main.inputs + RAISED,
         outputs: main.outputs + RAISED,
@@ -41,51 +38,41 @@ pub fn fast_map() -> MemoryMap
     }
 }
 
-/// The items of the fast block and then those of the slow firmware. The flats are the blocks' rules as
-/// `spread` lays them out.
+/// The items of the fast block and then those of the slow firmware.
 pub(crate) fn two_items(
     alloc: Global,
-    slow: &Block,
-    slow_flat: &Flat,
-    fast: &Block,
-    fast_flat: &Flat,
+    slow: &LaidOut<'_>,
+    fast: &LaidOut<'_>,
 ) -> Result<Vec<Item>, AllocError>
-    requires slow { IsValid slow.now }
-    requires slow_flat { slow_flat.now ≡ flat_of slow.now }
-    requires slow_laid_out { IsLaidOut slow_flat.now }
-    requires fast { IsValid fast.now }
-    requires fast_flat { fast_flat.now ≡ flat_of fast.now }
-    requires fast_laid_out { IsLaidOut fast_flat.now }
-    ensures { IfOk result (λ items. items.items ≡ two_items slow.now fast.now) }
+    ensures { IfOk result (λ items. items.items ≡ two_items slow.now.block.now fast.now.block.now) }
 {
     let memory_map = fast_map();
     let mut items = Vec::new(alloc);
+    let (enter, leave) = ([Instr::Andcc(0xEF)], [Instr::Rti]);
+    let around_fast = Around {
+        before: &enter,
+        behind: &leave,
+    };
     push_block(
         alloc,
         &mut items,
         &memory_map,
         Width::Byte,
         fast,
-        fast_flat,
-        &[Instr::Andcc(0xEF)],
-        &[Instr::Rti],
+        &around_fast,
     )?;
-    let frame = frame_code(&MemoryMap::MAIN);
-    push_block(
-        alloc,
-        &mut items,
-        &MemoryMap::MAIN,
-        Width::Byte,
-        slow,
-        slow_flat,
-        &frame,
-        &[Instr::Rts],
-    )?;
+    let main = MemoryMap::MAIN;
+    let (frame, back) = (frame_code(&main), [Instr::Rts]);
+    let around_slow = Around {
+        before: &frame,
+        behind: &back,
+    };
+    push_block(alloc, &mut items, &main, Width::Byte, slow, &around_slow)?;
     push_vectors(
         &mut items,
         &MemoryMap {
             interrupt: memory_map.interrupt,
-            ..MemoryMap::MAIN
+            ..main
         },
     )?;
     Ok(items)

@@ -8,8 +8,8 @@ use alone_code::laws::{
     images_are_one, items_have_images,
 };
 use cpu12_emul::laws::holds_image;
-use cpu12_isa::laws::{decodes_encoded, stays_fit, writes_stay};
-use eval_code::laws::{blocks_are_placed, eval_answers, placed_items_stand};
+use cpu12_isa::laws::{decodes_encoded, stays_fit};
+use eval_code::laws::{blocks_are_placed, eval_answers, frames_leave, placed_items_stand};
 
 /// Wherever an interrupt enters the fast code, it reaches its return with its block's answers, within its bounds,
 /// accesses only what is the fast block's, and leaves X unchanged.
@@ -18,9 +18,9 @@ pub fn fast_answers_entered()
 {
     blocks_are_placed();
     eval_answers();
+    frames_leave();
     decodes_encoded();
     stays_fit();
-    writes_stay();
 }
 
 /// The slow firmware answers as it does alone, under interrupts that may change all that is the fast block's, and

@@ -13,4 +13,4 @@ pub mod laws;
 mod two;
 
 pub use items::fast_map;
-pub use two::{Two, TwoFault, compile_two, compile_two_laid_out};
+pub use two::{FastCode, Two, TwoFault, compile_two, compile_two_laid_out};

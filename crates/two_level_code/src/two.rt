@@ -1,7 +1,6 @@
 //! Two blocks at two levels.
 ghost use Rattle.std.specs.Prelude.{◌≡◌, IfOk, IfErr, OnOk};
 ghost use Rattle.fuzzy_meaning.specs.Blocks.{IsValid};
-ghost use Rattle.rule_layout.specs.Layouts.{flat_of, IsLaidOut, IsWithinLimits};
 ghost use Rattle.two_level_code.specs.{Images.IsTwoOf, Images.fast_most, Faults.AreWithinLimits, Faults.IsTwoFaultOf};
 ghost use Rattle.two_level_code.specs.{Running.AnswersEntered, Standing.StandsBeside, Standing.SlowAnswersBeside};
 
@@ -11,8 +10,9 @@ use alone_code::{Firmware, compile_laid_out, image_of};
 use byte_scaling::Width;
 use cpu12_asm::Image;
 use eval_code::laws::blocks_are_placed;
+use eval_code::{instruction_bound, steps_by};
 use fuzzy_meaning::Block;
-use rule_layout::{Flat, LayoutFault, spread};
+use rule_layout::{LaidOut, LayoutFault, spread};
 use std::alloc::{AllocError, Global};
 use thiserror::Error;
 
@@ -23,8 +23,18 @@ pub struct Two {
     pub image: Image,
     /// The slow block's firmware, as it stands alone.
     pub slow: Firmware,
-    /// The fast block's firmware, as it stands alone.
-    pub fast: Firmware,
+    /// What is known of the fast block's code.
+    pub fast: FastCode,
+}
+
+/// How many outputs a fast block has, and the bounds of its firmware that answers bytes and stands alone.
+#[derive(Clone, Copy)]
+pub struct FastCode {
+    pub outputs: u8,
+    /// The most instructions that a sample takes there.
+    pub instr_bound: u32,
+    /// The most steps that a sample takes there.
+    pub step_bound: u32,
 }
 
 /// Why two blocks are refused: for the slow one's rules, or else for the fast one's, or for lack of memory, which
@@ -83,54 +93,48 @@ pub fn compile_two(alloc: Global, slow: &Block, fast: &Block) -> Result<Two, Two
     ensures limits { OnOk result (AreWithinLimits slow.now fast.now) }
     ensures fault { IfErr result (IsTwoFaultOf slow.now fast.now) }
 {
-    let slow_flat = match spread(alloc, slow) {
-        Ok(flat) => flat,
+    let slow = match spread(alloc, slow) {
+        Ok(slow) => slow,
         Err(LayoutFault::Memory) => return Err(TwoFault::Memory),
         Err(fault) => return Err(TwoFault::Slow(fault)),
     };
-    let fast_flat = match spread(alloc, fast) {
-        Ok(flat) => flat,
+    let fast = match spread(alloc, fast) {
+        Ok(fast) => fast,
         Err(LayoutFault::Memory) => return Err(TwoFault::Memory),
         Err(fault) => return Err(TwoFault::Fast(fault)),
     };
-    match compile_two_laid_out(alloc, slow, &slow_flat, fast, &fast_flat) {
+    match compile_two_laid_out(alloc, &slow, &fast) {
         Ok(two) => Ok(two),
         Err(AllocError) => Err(TwoFault::Memory),
     }
 }
 
-/// The same for two blocks that are already laid out: the flats are the blocks' rules as `spread` lays them out.
-/// It can only fail for lack of memory.
+/// The same for two blocks that are already laid out. It can only fail for lack of memory.
 pub fn compile_two_laid_out(
     alloc: Global,
-    slow: &Block,
-    slow_flat: &Flat,
-    fast: &Block,
-    fast_flat: &Flat,
+    slow: &LaidOut<'_>,
+    fast: &LaidOut<'_>,
 ) -> Result<Two, AllocError>
-    requires slow { IsValid slow.now }
-    requires slow_limits { IsWithinLimits slow.now }
-    requires slow_flat { slow_flat.now ≡ flat_of slow.now }
-    requires slow_laid_out { IsLaidOut slow_flat.now }
-    requires fast { IsValid fast.now }
-    requires fast_limits { IsWithinLimits fast.now }
-    requires fast_flat { fast_flat.now ≡ flat_of fast.now }
-    requires fast_laid_out { IsLaidOut fast_flat.now }
-    ensures two { IfOk result (IsTwoOf slow.now fast.now) }
-    ensures beside { IfOk result (StandsBeside fast.now) }
-    ensures slow_answers { IfOk result (SlowAnswersBeside slow.now) }
-    ensures fast_answers { IfOk result (AnswersEntered fast.now) }
+    ensures two { IfOk result (IsTwoOf slow.now.block.now fast.now.block.now) }
+    ensures beside { IfOk result (StandsBeside fast.now.block.now) }
+    ensures slow_answers { IfOk result (SlowAnswersBeside slow.now.block.now) }
+    ensures fast_answers { IfOk result (AnswersEntered fast.now.block.now) }
 {
     two_stand_beside();
     fast_answers_entered();
     blocks_are_placed();
-    let items = two_items(alloc, slow, slow_flat, fast, fast_flat)?;
+    let items = two_items(alloc, slow, fast)?;
     let image = image_of(alloc, items.as_slice())?;
-    let slow_alone = compile_laid_out(alloc, Width::Byte, slow, slow_flat)?;
-    let fast_alone = compile_laid_out(alloc, Width::Byte, fast, fast_flat)?;
+    let slow_alone = compile_laid_out(alloc, Width::Byte, slow)?;
+    let instr_bound = instruction_bound(Width::Byte, fast);
+    let fast_code = FastCode {
+        outputs: fast.block.outputs.len() as u8,
+        instr_bound,
+        step_bound: steps_by(fast, instr_bound),
+    };
     Ok(Two {
         image,
         slow: slow_alone,
-        fast: fast_alone,
+        fast: fast_code,
     })
 }

@@ -107,11 +107,11 @@ fits_more : (ws : List (ℕ × ℕ)) (w : ℕ × ℕ) → FitsWrites ws → w.0 
 fits_more [] w h at byte = (at, byte, tt)
 fits_more (u ∷ ws) w h at byte = (h.0, h.1, fits_more ws w h.2 at byte)
 
-pub given_bytes : BytesStay → (l : MemoryMap) (x : List ℕ) (w : State) → l.samples < 2 ^ 16 → l.ready < 2 ^ 16
+pub given_bytes : BytesStay → (l : MemoryMap) (x : List ℕ) (w : State) → l.samples < 2 ^ 16 → l.sample_flag < 2 ^ 16
     → All (λ v. v < 2 ^ 8) x → AreBytes w.mem → AreBytes (given l x w).mem
 given_bytes stay l x w samples ready fits bytes =
-    stay (placed l.samples x ++ (l.ready, 1) ∷ []) w.mem
-    (fits_more (placed l.samples x) (l.ready, 1) (placed_fits l.samples x samples (all_bytes x fits)) ready
+    stay (placed l.samples x ++ (l.sample_flag, 1) ∷ []) w.mem
+    (fits_more (placed l.samples x) (l.sample_flag, 1) (placed_fits l.samples x samples (all_bytes x fits)) ready
     (omega arith)) bytes
 
 -- an interrupt begins with registers that fit

@@ -1,12 +1,12 @@
 -- An outer interrupt enters the fast code.
-use Rattle.two_level_runs.proofs.Words.{◌*◌, ◌+◌, ◌-◌, ◌<◌, ◌^◌, ◌∙◌, ◌≡◌, ◌≤◌, All, ap₂, AreBytes, arith, bit_or}
-use Rattle.two_level_runs.proofs.Words.{bit_or_is, BytesStay, Ccr, Each, entered, fast_code, fast_map, FitsRegs}
-use Rattle.two_level_runs.proofs.Words.{frame_bytes, has, HasFastCode, inl, inr, interrupts_masked, IsIn, length}
-use Rattle.two_level_runs.proofs.Words.{List, OuterEnters, placed, plus, six_from, slice_index, State, subst, sym}
-use Rattle.two_level_runs.proofs.Words.{true, word_of, WritesStay, ℕ}
+use Rattle.two_level_runs.proofs.Words.{◌*◌, ◌+◌, ◌-◌, ◌<◌, ◌^◌, ◌∙◌, ◌≡◌, ◌≤◌, All, ap₂, AreBytes, arith, BytesStay}
+use Rattle.two_level_runs.proofs.Words.{Each, entered, fast_code, fast_map, FitsRegs, frame_bytes, HasFastCode, inl}
+use Rattle.two_level_runs.proofs.Words.{inr, interrupts_masked, IsIn, length, List, OuterEnters, placed, plus}
+use Rattle.two_level_runs.proofs.Words.{six_from, slice_index, State, subst, sym, true, word_of, WritesStay, ℕ}
 use Rattle.cpu12_isa.proofs.{Algebra.fits_put}
 use Rattle.two_level_runs.proofs.Bytes.{all_bytes, placed_fits, frame_fits}
 use Rattle.two_level_runs.proofs.Pushing.{framed_mem, entered_mem, stays, size_stays, sample_read}
+use Rattle.eval_code.proofs.Algebra.{masked_on}
 
 -- the memory is one of bytes
 pub bytes_stay : BytesStay → (bytes : List ℕ) (v : State) → All (λ n. n < 2 ^ 8) bytes → FitsRegs v.regs
@@ -17,9 +17,6 @@ bytes_stay law bytes v fit fits m =
     (placed_fits fast_map.inputs bytes (omega arith) (all_bytes bytes fit))
     (law (placed (plus v.regs.sp 65527) (frame_bytes v.regs)) v.mem
     (placed_fits (plus v.regs.sp 65527) (frame_bytes v.regs) (omega arith) (frame_fits v.regs fits)) m)
-
-masked_on : (n : ℕ) → has (let c : Ccr = record { 0 = bit_or n 16 } in c) 4 ≡ true
-masked_on n = bit_or_is n 16 4
 
 pub outer_enters : WritesStay → BytesStay → OuterEnters
 outer_enters stay law b image bytes before v some few_outputs input can = record {

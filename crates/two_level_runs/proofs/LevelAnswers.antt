@@ -1,7 +1,7 @@
 -- Runs at two levels answer.
 use Rattle.two_level_runs.proofs.Words.{[], ◌∙◌, ◌≡◌, ◌≤◌, All, all_onto, ap, AreOnStack, AreTold, Byte, FactsBeside}
 use Rattle.two_level_runs.proofs.Words.{fast_most, FastSeen, FastStands, first_two, FirstAlike, image_memory}
-use Rattle.two_level_runs.proofs.Words.{is_open_to_fast, IsGoodLevel, length, Level, level_form, levels_of, List, map}
+use Rattle.two_level_runs.proofs.Words.{is_open_to_fast, IsGoodLevel, length, Level, two_level_form, levels_of, List, map}
 use Rattle.two_level_runs.proofs.Words.{OnStackOrNone, Option, plan_of, RequestsAreGood, Rows, rows_of_samples}
 use Rattle.two_level_runs.proofs.Words.{RowSeen, StandsBeside, State, step_bound, subst, sym, taken_by, TakenAtOnce}
 use Rattle.two_level_runs.proofs.Words.{TwoStandBeside, ℕ, AllComplete, answer_of_fast, AreInputBytes, arith, bytes_of}
@@ -9,10 +9,12 @@ use Rattle.run_law.specs.{Following.AllFollow, Following.RunsFollow}
 use Rattle.alone_runs.specs.{Rows.first_state, Rows.firmware_rows, Answering.FirstStatesAlike}
 use Rattle.alone_runs.specs.{Answering.FirstStatesAgree}
 use Rattle.firmware_runs.specs.{Facts.FactsAlone}
-use Rattle.two_level_runs.specs.{Levels.Levels, Rows.level_parts, Rows.two_rows, Answering.fast_runs_of}
+use Rattle.two_level_runs.specs.{Levels.Levels, Rows.two_level_parts, Rows.two_rows, Answering.fast_runs_of}
 use Rattle.two_level_runs.specs.{Answering.AnswersUnderLevels, Answering.UninterruptedValues}
 use Rattle.alone_code.specs.{Firmwares.IsFirmwareOf, Uninterrupted.AreAnswersOf, Uninterrupted.FirmwareIsUninterrupted}
 use Rattle.alone_code.specs.Uninterrupted as whole
+use Rattle.alone_code.specs.declared.firmware.Firmware.{Firmware}
+use Rattle.two_level_code.specs.Images.{IsAlone}
 use Rattle.alone_runs.specs.Following.{AllWait}
 use Rattle.byte_scaling.specs.declared.width.Width.{Width}
 use Rattle.std.proofs.lemmas.List.Elements.{All-map}
@@ -25,7 +27,7 @@ use Rattle.two_level_runs.proofs.LevelSound.{level_gives, level_sound}
 use Rattle.two_level_runs.proofs.LevelTelling.{steps_are, rows_told}
 use Rattle.two_level_runs.proofs.FastRuns.{Answer, runs_in, runs_are, all_answers, all_told, few_steps}
 use Rattle.two_level_runs.proofs.LevelRows.{SlowFacts, same_numbers, same_rows, same_taken, rows_low, on_stack}
-use Rattle.two_level_runs.proofs.LevelServing.{LevelLaws, Given, bounds, few_outputs}
+use Rattle.two_level_runs.proofs.LevelServing.{LevelLaws, Given, code_is, few_outputs}
 use Rattle.two_level_runs.proofs.Telling.{values_are_one}
 
 -- the laws of lower crates, and the law on runs
@@ -40,7 +42,7 @@ pub record AnswerLaws : Type 0 where
   pub requests_are_good : RequestsAreGood
   pub firmware_is_uninterrupted : FirmwareIsUninterrupted
   pub runs_follow : (x : Levels)
-      → RunsFollow OnStackOrNone is_open_to_fast (level_form x.flags x.two x.samples)
+      → RunsFollow OnStackOrNone is_open_to_fast (two_level_form x.flags x.two x.samples)
       (FactsBeside is_open_to_fast x.flags x.two.slow)
       (IsGoodLevel (length x.samples)) (FastStands x.fast x.two x.samples)
 
@@ -132,12 +134,12 @@ answers_under_levels laws two flags slow_samples samples levels hf good slow fas
     all : Rows (List ℕ) Level (Option FastSeen)
     all = two_rows two slow_samples samples levels flags
 
-    complete : AllComplete (SlowFacts flags two) (level_form flags two samples) runs.ns slow_samples first
+    complete : AllComplete (SlowFacts flags two) (two_level_form flags two samples) runs.ns slow_samples first
     complete =
-        all_complete (SlowFacts flags two) flags two.slow (level_parts two samples) runs.ns slow_samples first
+        all_complete (SlowFacts flags two) flags two.slow (two_level_parts two samples) runs.ns slow_samples first
         runs.complete
 
-    followed : AllFollow OnStackOrNone is_open_to_fast (level_form flags two samples) (FastStands fast two samples) []
+    followed : AllFollow OnStackOrNone is_open_to_fast (two_level_form flags two samples) (FastStands fast two samples) []
         (λ k. levels_of k levels) 1 runs.ns slow_samples first all
     followed =
         laws.runs_follow setting (λ k. levels_of k levels)
@@ -178,7 +180,7 @@ answers_under_levels laws two flags slow_samples samples levels hf good slow fas
         ∙ sym under.rows_are
 
     fast_are : fast_runs_of two slow_samples samples levels flags ≡ runs_in all.told
-    fast_are = runs_are (level_form flags two samples) two.slow.step_bound (λ k. levels_of k levels) 1 slow_samples
+    fast_are = runs_are (two_level_form flags two samples) two.slow.step_bound (λ k. levels_of k levels) 1 slow_samples
         (first_two two flags)
 
     told : AreTold fast two flags samples [] all.told runs.ns slow_samples first
@@ -187,7 +189,7 @@ answers_under_levels laws two flags slow_samples samples levels hf good slow fas
         followed.told
 
     bound : two.fast.step_bound ≡ step_bound Byte fast
-    bound = (let of_fast = bounds x in of_fast.steps)
+    bound = (let of_fast = code_is x in of_fast.steps)
 
     fast_runs : List FastSeen
     fast_runs = fast_runs_of two slow_samples samples levels flags
@@ -211,16 +213,16 @@ answers_under_levels laws two flags slow_samples samples levels hf good slow fas
     given_fit = All-map (AreInputBytes fast) (λ (f : FastSeen). bytes_of samples f.number) fast_runs
         (λ k f lt. (let n = numbered k f lt in inputs _ [] (omega (arith, n.0, n.1))))
 
-    uninterrupted : UninterruptedValues two.fast flags given (map (λ (f : FastSeen). f.answers) fast_runs)
-    uninterrupted =
-        (let alone = is.fast_alone in
-        let r = laws.firmware_is_uninterrupted fast two.fast vf lf alone.firmware flags given hf given_fit in
-        let byte = subst (λ (w : Width). AreAnswersOf w fast two.fast.instr_bound (λ o. 0) given r.0) alone.width
+    uninterrupted : (f : Firmware) → IsAlone fast f
+        → UninterruptedValues f flags given (map (λ (f : FastSeen). f.answers) fast_runs)
+    uninterrupted f alone =
+        (let r = laws.firmware_is_uninterrupted fast f vf lf alone.firmware flags given hf given_fit in
+        let byte = subst (λ (w : Width). AreAnswersOf w fast f.instr_bound (λ o. 0) given r.0) alone.width
         r.1.1 in (
           r.0,
           (
             r.1.0,
-            values_are_one Byte fast two.fast.instr_bound (fast_most two.fast.instr_bound) (λ o. 0) given r.0
+            values_are_one Byte fast f.instr_bound (fast_most two.fast.instr_bound) (λ o. 0) given r.0
                 (map answer_of_fast fast_runs) byte answers
                 ∙ map-map (λ (a : whole.Answer). a.values) answer_of_fast fast_runs,
           ),

@@ -1,8 +1,8 @@
 -- What rows under levels are to be.
 use Rattle.two_level_runs.proofs.Words.{[], ◌<◌, ◌∙◌, ◌∷◌, ◌≡◌, ◌≤◌, ◌⊎◌, All, All-cons, AllComplete, ap, ap₂}
 use Rattle.two_level_runs.proofs.Words.{AreOnStack, arith, Before, Bool, Completes, counted, FactsBeside, false}
-use Rattle.two_level_runs.proofs.Words.{frames_of, FrameSeen, given, inl, inr, is_open_to_fast, IsStackOfOneCall}
-use Rattle.two_level_runs.proofs.Words.{Level, level_form, levels_of, List, map, may_interrupt, None, not, plan_of}
+use Rattle.two_level_runs.proofs.Words.{frames_of, FrameSeen, given, inl, inr, is_open_to_fast}
+use Rattle.two_level_runs.proofs.Words.{Level, two_level_form, levels_of, List, map, may_interrupt, None, not, plan_of}
 use Rattle.two_level_runs.proofs.Words.{refl, Request, request_of, requests_of, resumed_of, rows_of_samples, RowSeen}
 use Rattle.two_level_runs.proofs.Words.{State, subst, suc, sym, taken_at, taken_before, taken_by, TakenAtOnce, true}
 use Rattle.two_level_runs.proofs.Words.{Two, uninterrupted, with_writes, ℕ, cases_lt, length, OnStackOrNone}
@@ -10,6 +10,7 @@ use Rattle.run_law.specs.Following.{expected_rows, expected_taken, RowsSimulate}
 use Rattle.alone_runs.specs.Following.{AllWait}
 use Rattle.firmware_runs.specs.{Facts.WaitsAlone, Ports.answers_in}
 use Rattle.alone_code.specs.declared.firmware.Firmware.{Firmware}
+use Rattle.alone_code.proofs.Algebra.{in_room}
 use Rattle.two_level_runs.proofs.Frames.{HasFrameRoom, frames_fit, low_all}
 use Rattle.two_level_runs.proofs.LevelPlans.{requests_are, resumed_each, frames_of_each}
 
@@ -97,7 +98,7 @@ row_alike flags two ls n x s =
 pub same_rows : TakenAtOnce → (flags : ℕ) (two : Two) (fast : List (List ℕ)) (levels : List Level) (k : ℕ) (ns : List ℕ)
     (samples : List (List ℕ)) (s : State)
     → AllComplete (SlowFacts flags two) (with_writes flags two.slow) ns samples s
-    → expected_rows (level_form flags two fast) (λ j. levels_of j levels) k ns samples s
+    → expected_rows (two_level_form flags two fast) (λ j. levels_of j levels) k ns samples s
     ≡ rows_of_samples flags two.slow (plan_of levels) k ns samples s
 same_rows law flags two fast levels k [] samples s h = refl
 same_rows law flags two fast levels k (n ∷ ns) [] s h = refl
@@ -114,7 +115,7 @@ same_rows law flags two fast levels k (n ∷ ns) (x ∷ rest) s h =
 pub same_taken : TakenAtOnce → (flags : ℕ) (two : Two) (fast : List (List ℕ)) (levels : List Level) (k : ℕ)
     (ns : List ℕ) (samples : List (List ℕ)) (s : State)
     → AllComplete (SlowFacts flags two) (with_writes flags two.slow) ns samples s
-    → expected_taken (level_form flags two fast) (λ j. levels_of j levels) k ns samples s
+    → expected_taken (two_level_form flags two fast) (λ j. levels_of j levels) k ns samples s
     ≡ taken_by k levels (map (λ (r : RowSeen (List ℕ)). r.steps)
     (rows_of_samples flags two.slow (plan_of levels) k ns samples s))
 same_taken law flags two fast levels k [] samples s h = refl
@@ -128,10 +129,6 @@ same_taken law flags two fast levels k (n ∷ ns) (x ∷ rest) s h =
     (same_taken law flags two fast levels (suc k) ns rest (uninterrupted flags n u) h.1)
 
 -- and no frame stands below the stack's start.
-sp_room : (sp : ℕ) → IsStackOfOneCall sp → (0x1FEF ≤ sp) × (sp ≤ 0x2000)
-sp_room sp (inl e) = (omega arith, omega arith)
-sp_room sp (inr e) = (omega arith, omega arith)
-
 pub on_stack : (flags : ℕ) (two : Two) (plan : List Request) (k : ℕ) (ns : List ℕ) (samples : List (List ℕ)) (s : State)
     → AllComplete (SlowFacts flags two) (with_writes flags two.slow) ns samples s
     → All (λ (r : RowSeen (List ℕ)). AreOnStack r.frames) (rows_of_samples flags two.slow plan k ns samples s)
@@ -141,7 +138,7 @@ on_stack flags two plan k (n ∷ ns) (x ∷ rest) s h =
     let u : State = given two.slow.memory_map x s in
     let holds = (let one = h.0 in one.holds) in
     let room : (j : ℕ) → j < n → HasFrameRoom (uninterrupted flags j u) =
-    λ j l. (let p = holds j l in sp_room (uninterrupted flags j u).regs.sp p.stack) in
+    λ j l. (let p = holds j l in in_room (uninterrupted flags j u).regs.sp p.stack) in
     All-cons (λ (r : RowSeen (List ℕ)). AreOnStack r.frames) (row_with flags two (requests_of k plan) n x u)
     (rows_of_samples flags two.slow plan (suc k) ns rest (uninterrupted flags n u))
     (frames_fit flags n u (λ (r : Request). r.moment) room (requests_of k plan) None)
@@ -158,7 +155,7 @@ pub rows_low : (flags : ℕ) (two : Two) (fast : List (List ℕ)) (ns : List ℕ
     (wss : List (List State)) (s : State)
     → AllComplete (SlowFacts flags two) (with_writes flags two.slow) ns samples s
     → AllWait flags two.slow ns samples s
-    → RowsSimulate OnStackOrNone is_open_to_fast (level_form flags two fast) ns samples wss s
+    → RowsSimulate OnStackOrNone is_open_to_fast (two_level_form flags two fast) ns samples wss s
     → map (λ (ws : List State). length ws) wss ≡ map (λ (n : ℕ). suc n) ns
     → All (λ (ws : List State). All (λ (w : State). 0x1FE0 ≤ w.regs.sp) ws) wss
 rows_low flags two fast ns samples [] s h waits a e = λ j d l. absurd (omega arith)
@@ -181,8 +178,8 @@ rows_low flags two fast (n ∷ ns) (x ∷ rest) (ws ∷ wss) s h waits a e =
     room : (j : ℕ) → (j < n) ⊎ (n ≤ j) → j ≤ n → HasFrameRoom (uninterrupted flags j u)
     room j (inl l) le =
         (let one = h.0 in
-        let p = one.holds j l in sp_room (uninterrupted flags j u).regs.sp p.stack)
+        let p = one.holds j l in in_room (uninterrupted flags j u).regs.sp p.stack)
     room j (inr l) le =
         (let w = first_waits flags two.slow ns rest (uninterrupted flags n u) waits.1 in
         let e : n ≡ j = omega arith in
-        subst (λ (k : ℕ). HasFrameRoom (uninterrupted flags k u)) e (sp_room (uninterrupted flags n u).regs.sp w.stack))
+        subst (λ (k : ℕ). HasFrameRoom (uninterrupted flags k u)) e (in_room (uninterrupted flags n u).regs.sp w.stack))

@@ -1,20 +1,21 @@
 -- A level's interrupt is quiet, and the fast code and its answers stand after it.
 use Rattle.two_level_runs.proofs.Words.{[], ◌-◌, ◌<◌, ◌^◌, ◌∙◌, ◌∷◌, ◌≡◌, ◌≤◌, ◌⊎◌, Agree, All, All-cons}
-use Rattle.two_level_runs.proofs.Words.{AloneHasByteBounds, ap, ap₂, AreInputBytes, AreSlow, arith, Ascend, Begins}
+use Rattle.two_level_runs.proofs.Words.{ap, ap₂, AreInputBytes, AreSlow, arith, Ascend, Begins}
 use Rattle.two_level_runs.proofs.Words.{below_sums, Block, bytes_of, CanEnter, counted, entered, FactsBeside, false}
 use Rattle.two_level_runs.proofs.Words.{fast_most, fast_run, FastRunsFollow, FastSeen, FastStands, FollowsInside}
 use Rattle.two_level_runs.proofs.Words.{framed, Free, HasFastCode, HasRoom, image_memory, inl, inr, is_fast_ram}
 use Rattle.two_level_runs.proofs.Words.{is_hidden, is_open_inside, is_open_to_fast, IsGoodLevel, IsQuietRun}
-use Rattle.two_level_runs.proofs.Words.{IsReadOff, IsServable, IsStackOfOneCall, IsTold, LeavesStack, length, Level}
+use Rattle.two_level_runs.proofs.Words.{IsReadOff, IsServable, IsTold, LeavesStack, length, Level}
 use Rattle.two_level_runs.proofs.Words.{List, nat_tests, None, OnStack, OnStackOrNone, Option, OuterEnters}
 use Rattle.two_level_runs.proofs.Words.{OuterIsQuiet, OuterIsServable, OuterServes, outputs_after, Quiet, Ran, refl}
 use Rattle.two_level_runs.proofs.Words.{Regs, Running, RunsFast, sample_of, seen_of, served_by, slice_get, Some}
 use Rattle.two_level_runs.proofs.Words.{State, subst, suc, sym, Temps, told_by, true, Two, word_of, zero, ℕ}
+use Rattle.alone_code.specs.Interruptible.{IsStackOfOneCall}
 use Rattle.std.specs.{Prelude.slice_index_or}
 use Rattle.fuzzy_meaning.specs.{Blocks.IsValid}
 use Rattle.cpu12_emul.specs.{Simulation.TakesQuietly}
 use Rattle.run_law.specs.{Soundness.FitBelow}
-use Rattle.two_level_code.specs.{Images.HasByteBounds, Images.IsTwoOf}
+use Rattle.two_level_code.specs.{Images.IsFastOf, Images.IsTwoOf}
 use Rattle.firmware_runs.specs.{Facts.AreNoneOrRunning}
 use Rattle.alone_runs.specs.{OpenBytes.StepsLeaveOpen, OpenBytes.GivenLeavesOpen}
 use Rattle.two_level_runs.specs.{Runs.Outer, Runs.served, Runs.told, Rows.outer_of}
@@ -34,7 +35,6 @@ pub record LevelLaws : Type 0 where
   pub serves : OuterServes
   pub servable : OuterIsServable
   pub enters : OuterEnters
-  pub alone_has_byte_bounds : AloneHasByteBounds
 
 -- two valid blocks with their image, open flags, and samples of the fast one
 pub record Given : Type 0 where
@@ -139,12 +139,12 @@ most_of x = fast_most x.two.fast.step_bound
 abbrev ran_of : Given → Level → State → Ran ℕ (Unit {0})
 ran_of x l v = fast_run x.flags (length x.fast.outputs) (most_of x) l.inner.items (entered (bytes_in x l) v)
 
--- the fast firmware's bounds are those of bytes, and its outputs are the block's
-pub bounds : (x : Given) → HasByteBounds x.fast x.two.fast
-bounds x = let laws = x.laws in let is = x.is_two in laws.alone_has_byte_bounds x.fast x.two.fast is.fast_alone
+-- the fast code's bounds and outputs are the block's
+pub code_is : (x : Given) → IsFastOf x.fast x.two.fast
+code_is x = let is = x.is_two in is.fast_is
 
 outputs_are : (x : Given) → x.two.fast.outputs ≡ length x.fast.outputs
-outputs_are x = let is = x.is_two in let alone = is.fast_alone in let firmware = alone.firmware in firmware.outputs
+outputs_are x = let code = code_is x in code.outputs
 
 servable : (x : Given) (done : List (Level × Option FastSeen)) (l : Level) (v s : State) → Serves x done v s
     → AreInputBytes x.fast (bytes_in x l)
@@ -211,7 +211,7 @@ served_stands x done l v s h good input ascend =
     let inside = ran.1 in
     let most = x.two.fast.instr_bound in
     let steps : (ran_of x l v).instrs ≤ fast_most most =
-    (let follows = inside.follows in let bound = bounds x in
+    (let follows = inside.follows in let bound = code_is x in
     subst (λ (n : ℕ). n ≤ fast_most most) (sym follows.instrs)
     (subst (λ (n : ℕ). counted x.flags (suc run.further) (entered (bytes_in x l) v) ≤ fast_most n)
     (sym bound.instructions) run.instructions)) in

@@ -1,7 +1,7 @@
 -- A slow firmware whose interrupts serve levels is a sound form.
 use Rattle.two_level_runs.proofs.Words.{◌*◌, ◌+◌, ◌<◌, ◌^◌, ◌∙◌, ◌≡◌, ◌≤◌, ap, AreBytes, AreInputBytes, AreOpenAlike}
 use Rattle.two_level_runs.proofs.Words.{arith, FactsBeside, FastSeen, FastStands, given, inl, is_open_to_fast}
-use Rattle.two_level_runs.proofs.Words.{IsGoodLevel, length, Level, level_form, List, MemoryMap, OnStackOrNone}
+use Rattle.two_level_runs.proofs.Words.{IsGoodLevel, length, Level, two_level_form, List, MemoryMap, OnStackOrNone}
 use Rattle.two_level_runs.proofs.Words.{Simulates, Sound, State, stepped, subst, suspended, sym, wav, WritesAgree}
 use Rattle.two_level_runs.proofs.Words.{WritesAreQuiet, ℕ}
 use Rattle.run_law.specs.{Soundness.GivenLeavesOwn}
@@ -34,7 +34,7 @@ outputs_few x =
 -- what is open leaves what is read from outside
 ports_of : (x : Given) → LeavesMapped is_open_to_fast main_map → LeavesPorts is_open_to_fast x.two.slow
 ports_of x leaves = record {
-  ready = ap (λ (l : MemoryMap). is_open_to_fast l.ready) (map_is x) ∙ leaves.ready;
+  ready = ap (λ (l : MemoryMap). is_open_to_fast l.sample_flag) (map_is x) ∙ leaves.ready;
   outputs = λ at from to. leaves.writes at (inl (
     subst (λ (l : MemoryMap). l.outputs ≤ at) (map_is x) from,
     end at (subst (λ (w : Width). at < main_map.outputs + places w * x.two.slow.outputs) (width_is x)
@@ -48,7 +48,7 @@ ports_of x leaves = record {
 -- a slow sample leaves the fast code and its answers, and memory one of bytes
 pub level_gives : (x : Given) → LeavesMapped is_open_to_fast x.two.slow.memory_map → (bytes : List ℕ)
     → AreInputBytes x.slow bytes
-    → GivenLeavesOwn (level_form x.flags x.two x.samples) (FastStands x.fast x.two x.samples) bytes
+    → GivenLeavesOwn (two_level_form x.flags x.two x.samples) (FastStands x.fast x.two x.samples) bytes
 level_gives x leaves bytes input done w own =
     stands x.fast x.two x.samples done w (given l bytes w) (few_outputs x) alike fit own
   where
@@ -62,8 +62,8 @@ level_gives x leaves bytes input done w own =
     alike =
         given_leaves laws.given_leaves_open is_open_to_fast l (map_is x) leaves x.slow x.slow_valid bytes input w
 
-    inside : (l.samples < 2 ^ 16) × (l.ready < 2 ^ 16)
-    inside = subst (λ (m : MemoryMap). (m.samples < 2 ^ 16) × (m.ready < 2 ^ 16)) (sym (map_is x))
+    inside : (l.samples < 2 ^ 16) × (l.sample_flag < 2 ^ 16)
+    inside = subst (λ (m : MemoryMap). (m.samples < 2 ^ 16) × (m.sample_flag < 2 ^ 16)) (sym (map_is x))
         (omega arith, omega arith)
 
     fit : AreBytes (given l bytes w).mem
@@ -71,7 +71,7 @@ level_gives x leaves bytes input done w own =
 
 pub level_sound : (x : Given) → LeavesMapped is_open_to_fast x.two.slow.memory_map → IsLow x.two.slow → WritesAgree
     → WritesAreQuiet
-    → Sound OnStackOrNone is_open_to_fast (level_form x.flags x.two x.samples)
+    → Sound OnStackOrNone is_open_to_fast (two_level_form x.flags x.two x.samples)
     (FactsBeside is_open_to_fast x.flags x.two.slow)
     (IsGoodLevel (length x.samples)) (FastStands x.fast x.two x.samples)
 level_sound x leaves_slow low agree quiet = record {

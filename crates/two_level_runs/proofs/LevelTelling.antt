@@ -1,7 +1,7 @@
 -- What levels told in a run that follows the slow run without interrupts.
 use Rattle.two_level_runs.proofs.Words.{[], ◌∷◌, ◌≡◌, All, AllComplete, ap, AreTold, arith, Before, EachTold}
 use Rattle.two_level_runs.proofs.Words.{FastSeen, FastStands, given, is_open_to_fast, IsGoodLevel, IsTold}
-use Rattle.two_level_runs.proofs.Words.{IsToldFrom, length, Level, level_form, List, map, onto, Option}
+use Rattle.two_level_runs.proofs.Words.{IsToldFrom, length, Level, two_level_form, List, map, onto, Option}
 use Rattle.two_level_runs.proofs.Words.{outputs_after, refl, Request, rows_of_samples, RowSeen, State, subst, suc}
 use Rattle.two_level_runs.proofs.Words.{sym, taken_at, TakenAtOnce, Two, uninterrupted, with_writes, ℕ}
 use Rattle.run_law.specs.{Following.IsToldIn, Following.IsToldAt, Following.RowsTold}
@@ -28,7 +28,7 @@ module _ (x : Given) (at_once : TakenAtOnce) where
   -- in a sample that is given in s
   each_told : (n : ℕ) (s : State) → Before (SlowFacts x.flags x.two) x.flags n s
       → (done ts : List (Level × Option FastSeen)) → All Good ts
-      → EachTold (IsToldAt is_open_to_fast (level_form x.flags x.two x.samples) Own n s) done ts
+      → EachTold (IsToldAt is_open_to_fast (two_level_form x.flags x.two x.samples) Own n s) done ts
       → EachTold (IsToldFrom x.fast x.two x.flags x.samples s) done ts
   each_told n s holds done [] good h = tt
   each_told n s holds done (t ∷ ts) good h =
@@ -40,7 +40,7 @@ module _ (x : Given) (at_once : TakenAtOnce) where
       at : ℕ
       at = taken_at x.flags (λ (q : Level). q.moment) n s l
 
-      said : IsToldIn is_open_to_fast (level_form x.flags x.two x.samples) Own (uninterrupted x.flags at s) done t
+      said : IsToldIn is_open_to_fast (two_level_form x.flags x.two x.samples) Own (uninterrupted x.flags at s) done t
       said = h.0.1
 
       Told : ℕ → Option FastSeen → Type 0
@@ -59,7 +59,7 @@ module _ (x : Given) (at_once : TakenAtOnce) where
   pub rows_told : (done : List (Level × Option FastSeen)) (tss : List (List (Level × Option FastSeen))) (ns : List ℕ)
       (samples : List (List ℕ)) (s : State)
       → AllComplete (SlowFacts x.flags x.two) (with_writes x.flags x.two.slow) ns samples s → All (All Good) tss
-      → RowsTold is_open_to_fast (level_form x.flags x.two x.samples) Own done tss ns samples s
+      → RowsTold is_open_to_fast (two_level_form x.flags x.two x.samples) Own done tss ns samples s
       → AreTold x.fast x.two x.flags x.samples done tss ns samples s
   rows_told done [] ns samples s complete good h = tt
   rows_told done (ts ∷ tss) [] samples s complete good h = h

@@ -24,6 +24,5 @@ pub mod Servable
 pub mod Writing
 pub mod Ordering
 pub mod FastRows
-pub mod SampleBytes
 pub mod Entered
 pub mod Words

@@ -16,11 +16,12 @@ use Rattle.eval_code.specs.{Widths.answer, Firing.AreInputBytes}
 use Rattle.alone_code.specs.{declared.firmware.Firmware.Firmware, Uninterrupted.Answer, Uninterrupted.AreAnswersOf}
 use Rattle.alone_code.specs.Uninterrupted.{AreUninterrupted}
 use Rattle.two_level_code.specs.declared.two.Two.{Two}
-use Rattle.two_level_code.specs.{Images.fast_most, Images.IsTwoOf, MemoryMaps.is_open_to_fast, Running.IsEntered}
+use Rattle.two_level_code.specs.{Images.fast_most, Images.IsAlone, Images.IsTwoOf, MemoryMaps.is_open_to_fast}
+use Rattle.two_level_code.specs.Running.{IsEntered}
 use Rattle.firmware_runs.specs.{Facts.FactsBeside, Ports.given}
 use Rattle.alone_runs.specs.{Rows.bytes_of, Rows.first_state, Rows.firmware_rows, Answering.AnswerBlock}
 use Rattle.two_level_runs.specs.Runs.{entered, fast_run, FastSeen, seen_of}
-use Rattle.two_level_runs.specs.Rows.{level_form, levels_of, two_rows, TwoSeen, two_seen}
+use Rattle.two_level_runs.specs.Rows.{two_level_form, levels_of, two_rows, TwoLevelSeen, two_level_seen}
 use Rattle.two_level_runs.specs.{Steps.IsFastRun, Inside.AreOnStack, Inside.AreBelow, Inside.FollowsInside}
 use Rattle.two_level_runs.specs.Outer.{HasFastCode}
 
@@ -35,12 +36,12 @@ plan_of levels = map request_of levels
 abbrev pub runs_told : List (Option FastSeen) → List FastSeen
 runs_told ts = filter_map (λ t. t) ts
 
-abbrev pub fast_runs : List TwoSeen → List FastSeen
+abbrev pub fast_runs : List TwoLevelSeen → List FastSeen
 fast_runs rows = flat_map (λ r. runs_told r.fast) rows
 
 -- those of the run
 abbrev pub fast_runs_of : Two → List (List ℕ) → List (List ℕ) → List Level → ℕ → List FastSeen
-fast_runs_of two slow fast levels flags = fast_runs (two_seen two slow fast levels flags)
+fast_runs_of two slow fast levels flags = fast_runs (two_level_seen two slow fast levels flags)
 
 abbrev pub answer_of_fast : FastSeen → Answer
 answer_of_fast f = record { values = f.answers; instructions = f.instrs }
@@ -141,9 +142,9 @@ pub record AnswersAtTwoLevels (slow fast : Block) (two : Two) (flags : ℕ) (slo
   pub slow_answers : AnswerBlock slow two.slow flags slow_samples
       (two_rows two slow_samples fast_samples levels flags).rows
   pub ns : List ℕ
-  pub complete : AllComplete (FactsBeside is_open_to_fast flags two.slow) (level_form flags two fast_samples) ns
+  pub complete : AllComplete (FactsBeside is_open_to_fast flags two.slow) (two_level_form flags two fast_samples) ns
       slow_samples (first_state two.slow flags)
-  pub simulates : RowsSimulate OnStackOrNone is_open_to_fast (level_form flags two fast_samples) ns slow_samples
+  pub simulates : RowsSimulate OnStackOrNone is_open_to_fast (two_level_form flags two fast_samples) ns slow_samples
       (two_rows two slow_samples fast_samples levels flags).states (first_state two.slow flags)
   pub low : All (λ ws. All (λ w. stack_start ≤ w.regs.sp) ws)
       (two_rows two slow_samples fast_samples levels flags).states
@@ -156,7 +157,7 @@ pub record AnswersAtTwoLevels (slow fast : Block) (two : Two) (flags : ℕ) (slo
   pub fast_answers : AreAnswersOf Byte fast (fast_most two.fast.instr_bound) (λ o. 0)
       (map (λ f. bytes_of fast_samples f.number) (fast_runs_of two slow_samples fast_samples levels flags))
       (map answer_of_fast (fast_runs_of two slow_samples fast_samples levels flags))
-  pub fast_uninterrupted : UninterruptedValues two.fast flags
+  pub fast_uninterrupted : (f : Firmware) → IsAlone fast f → UninterruptedValues f flags
       (map (λ f. bytes_of fast_samples f.number) (fast_runs_of two slow_samples fast_samples levels flags))
       (map (λ f. f.answers) (fast_runs_of two slow_samples fast_samples levels flags))
   pub fast_steps : All (λ f. f.steps ≤ fast_most two.fast.step_bound)
@@ -170,7 +171,7 @@ pub record AnswersAtTwoLevels (slow fast : Block) (two : Two) (flags : ℕ) (slo
 abbrev pub RowsAreSeen : Type 0
 RowsAreSeen =
     (two : Two) (slow fast : List (List ℕ)) (levels : List Level) (flags : ℕ)
-    → map (λ r. r.row) (two_seen two slow fast levels flags) ≡ (two_rows two slow fast levels flags).rows
+    → map (λ r. r.row) (two_level_seen two slow fast levels flags) ≡ (two_rows two slow fast levels flags).rows
 
 -- So does each run over samples of two valid blocks, where the image is that of both.
 abbrev pub AnswersItsBlocks : Two → ℕ → List (List ℕ) → List (List ℕ) → List Level → Type 0

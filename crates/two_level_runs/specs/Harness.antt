@@ -8,7 +8,7 @@ use Rattle.alone_runs.specs.Rows as plain
 use Rattle.trace_io.specs.Traces.{input_bytes}
 use Rattle.two_level_code.specs.declared.two.Two.{Two}
 use Rattle.two_level_runs.specs.{declared.serve.FastRow.FastRow, declared.rows.TwoRow.TwoRow, Runs.FastSeen}
-use Rattle.two_level_runs.specs.{InnerNotes.inner_frames_seen, Rows.TwoSeen, Rows.level_parts, Rows.with_fast}
+use Rattle.two_level_runs.specs.{InnerNotes.inner_frames_seen, Rows.TwoLevelSeen, Rows.two_level_parts, Rows.with_fast}
 
 -- a fast run of the code as it is seen, and what an interrupt told
 abbrev pub fast_seen : FastRow → FastSeen
@@ -26,15 +26,15 @@ fast_told None = None
 fast_told (Some r) = Some (fast_seen r)
 
 -- a row of the code, as it is seen
-abbrev pub row_seen : TwoRow → TwoSeen
+abbrev pub row_seen : TwoRow → TwoLevelSeen
 row_seen r = record { row = plain.row_seen r.row; fast = map fast_told r.fast.items }
 
 -- the form with its samples
-abbrev pub level_harness : Two → List Sample → List Sample
-    → Harness Level (Notes (Option FastRow)) TwoRow (List ℕ) (Option FastSeen) TwoSeen
-level_harness two slow fast = record {
+abbrev pub two_level_harness : Two → List Sample → List Sample
+    → Harness Level (Notes (Option FastRow)) TwoRow (List ℕ) (Option FastSeen) TwoLevelSeen
+two_level_harness two slow fast = record {
   samples = map input_bytes slow;
-  parts = level_parts two (map input_bytes fast);
+  parts = two_level_parts two (map input_bytes fast);
   notes = seen_notes fast_told;
   shows = with_fast;
   seen = row_seen;

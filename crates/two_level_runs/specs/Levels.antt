@@ -14,7 +14,7 @@ use Rattle.two_level_code.specs.{declared.two.Two.Two, Images.fast_most, MemoryM
 use Rattle.two_level_code.specs.{MemoryMaps.is_open_to_fast}
 use Rattle.firmware_runs.specs.Facts.{FactsBeside}
 use Rattle.alone_runs.specs.Rows.{bytes_of}
-use Rattle.two_level_runs.specs.{Runs.FastSeen, Outer.HasFastCode, Rows.level_form}
+use Rattle.two_level_runs.specs.{Runs.FastSeen, Outer.HasFastCode, Rows.two_level_form}
 use Rattle.two_level_runs.specs.Answering.{answer_of_fast, outputs_after}
 
 -- each fast run answered its sample after the run before it
@@ -45,5 +45,5 @@ pub record Levels : Type 0 where
   pub flags : ℕ
   pub samples : List (List ℕ)
   pub sound : WritesAgree → WritesAreQuiet
-      → Sound OnStackOrNone is_open_to_fast (level_form flags two samples) (FactsBeside is_open_to_fast flags two.slow)
-      (IsGoodLevel (length samples)) (FastStands fast two samples)
+      → Sound OnStackOrNone is_open_to_fast (two_level_form flags two samples)
+      (FactsBeside is_open_to_fast flags two.slow) (IsGoodLevel (length samples)) (FastStands fast two samples)

@@ -22,14 +22,14 @@ abbrev pub place_of_level : Level → ℕ × ℕ
 place_of_level l = (l.sample, l.moment)
 
 -- The parts of the form: the slow firmware as it stands alone, whose interrupts serve outer requests.
-abbrev pub level_parts : Two → List (List ℕ) → FormParts (List ℕ) Level (Option FastSeen)
-level_parts two fast =
+abbrev pub two_level_parts : Two → List (List ℕ) → FormParts (List ℕ) Level (Option FastSeen)
+two_level_parts two fast =
     stand_alone two.slow place_of_level
     (λ flags l v. served flags two.fast.outputs (fast_most two.fast.step_bound) (outer_of fast l) v)
     (λ flags l v. told flags two.fast.outputs (fast_most two.fast.step_bound) (outer_of fast l) v)
 
-abbrev pub level_form : ℕ → Two → List (List ℕ) → Form (List ℕ) Level (Option FastSeen)
-level_form flags two fast = plan_form flags (level_parts two fast)
+abbrev pub two_level_form : ℕ → Two → List (List ℕ) → Form (List ℕ) Level (Option FastSeen)
+two_level_form flags two fast = plan_form flags (two_level_parts two fast)
 
 abbrev pub levels_of : ℕ → List Level → List Level
 levels_of k levels = of_sample place_of_level k levels
@@ -41,15 +41,15 @@ first_two two flags = arrived_at flags two.slow.memory_map.wait two.slow.step_bo
 -- the run over a list of slow samples under levels over a list of fast ones
 abbrev pub two_rows : Two → List (List ℕ) → List (List ℕ) → List Level → ℕ → Rows (List ℕ) Level (Option FastSeen)
 two_rows two slow fast levels flags =
-    rows_from (level_form flags two fast) two.slow.step_bound (λ k. levels_of k levels) 1 slow (first_two two flags)
+    rows_from (two_level_form flags two fast) two.slow.step_bound (λ k. levels_of k levels) 1 slow (first_two two flags)
 
 -- a row, and what its outer requests told of their fast runs
-pub record TwoSeen : Type 0 where
+pub record TwoLevelSeen : Type 0 where
   pub row : RowSeen (List ℕ)
   pub fast : List (Option FastSeen)
 
-abbrev pub with_fast : RowSeen (List ℕ) → List (Option FastSeen) → TwoSeen
+abbrev pub with_fast : RowSeen (List ℕ) → List (Option FastSeen) → TwoLevelSeen
 with_fast row fast = record { row = row; fast = fast }
 
-abbrev pub two_seen : Two → List (List ℕ) → List (List ℕ) → List Level → ℕ → List TwoSeen
-two_seen two slow fast levels flags = shown with_fast (two_rows two slow fast levels flags)
+abbrev pub two_level_seen : Two → List (List ℕ) → List (List ℕ) → List Level → ℕ → List TwoLevelSeen
+two_level_seen two slow fast levels flags = shown with_fast (two_rows two slow fast levels flags)

@@ -14,7 +14,7 @@ use Rattle.eval_code.specs.Widths.{answer}
 use Rattle.eval_code.specs.{Bounds.instruction_bound, Bounds.step_bound, Firing.AreInputBytes, Evaluation.HasAnswers}
 use Rattle.run_law.specs.{Uninterrupted.stepped, Uninterrupted.uninterrupted, Uninterrupted.counted, Soundness.Before}
 use Rattle.two_level_code.specs.MemoryMaps.{fast_map, is_fast_ram, is_fast_rom}
-use Rattle.two_level_code.specs.Running.{HasFastRom, LetsIn, IsFastStack, IsEntered, IsFastAnswered}
+use Rattle.two_level_code.specs.Running.{HasFastRom, IsFastStack, IsEntered, IsFastAnswered}
 use Rattle.two_level_code.specs.{Images.fast_most, Images.IsTwoOf, declared.two.Two.Two}
 
 -- nothing is open to inner requests
@@ -79,7 +79,7 @@ pub record IsFastRun (b : Block) (image : List ℕ) (flags : ℕ) (bytes : List 
 abbrev pub FastStepsReturn : Type 0
 FastStepsReturn =
     (b : Block) (image : List ℕ) (flags : ℕ) (bytes : List ℕ) (before : ℕ → ℕ) (s u : State) → flags < 2 ^ 8
-    → LetsIn image → IsEntered b image bytes before s → IsFastAnswered b image flags bytes before s u
+    → IsEntered b image bytes before s → IsFastAnswered b image flags bytes before s u
     → (t : State) × IsFastRun b image flags bytes before s t
 
 -- So from wherever it is entered the fast code of two blocks has such a run.

@@ -2,7 +2,7 @@
 ghost use Rattle.std.specs.Prelude.{ℕ, ◌≡◌, ◌≤◌, length, IsTrue};
 ghost use Rattle.cpu12_parts.specs.Parts.{suspended, wav};
 ghost use Rattle.cpu12_isa.specs.Memory.{from, bytes_at};
-ghost use Rattle.cpu12_emul.specs.Take.{may_interrupt, frame_seen, frame_of};
+ghost use Rattle.cpu12_emul.specs.{Step.SameMachine, Take.may_interrupt, Take.frame_seen, Take.frame_of};
 ghost use Rattle.two_level_code.specs.MemoryMaps.{fast_map};
 ghost use Rattle.two_level_runs.specs.{Runs.fast_run, Runs.entered, InnerNotes.inner_notes};
 ghost use Rattle.run_forms.specs.Rest.{summary, counted_at};
@@ -24,8 +24,7 @@ pub(crate) fn enter<M: Mem>(m: &mut Machine<M>, bytes: &[u8]) -> Frame
     requires few { length bytes.now ≤ 8 }
     ensures state { m.new.state ≡ entered bytes.now (suspended wav m.old.state) }
     ensures frame { frame_seen result ≡ frame_of m.old.state }
-    ensures noted { m.new.noted ≡ m.old.noted }
-    ensures flags { m.new.flags ≡ m.old.flags }
+    ensures machine { SameMachine m.old m.new }
 {
     let mut writes = [Write { at: 0, value: 0 }; 8];
     let mut next = fast_map().inputs;
@@ -50,8 +49,7 @@ pub(crate) fn run_inside<M: Mem>(
     requires { length moments.now ≤ 8 }
     ensures counted { counted_at inner_notes result m.new.state
         ≡ summary (fast_run m.old.flags outputs most moments.now m.old.state) }
-    ensures noted { m.new.noted ≡ m.old.noted }
-    ensures flags { m.new.flags ≡ m.old.flags }
+    ensures machine { SameMachine m.old m.new }
 {
     let form = FastForm {
         entered: m.regs().sp,

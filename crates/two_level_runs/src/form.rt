@@ -1,7 +1,8 @@
 //! A slow firmware with a fast block, as a form of runs.
 ghost use Rattle.std.specs.Prelude.{ℕ, ◌≡◌, ◌≤◌, ◌<◌, List, Option, Some, length, slice_get};
 ghost use Rattle.run_forms.specs.{Rest.counted_at, Rest.shown_by, Rooms.Fits};
-ghost use Rattle.two_level_runs.specs.{Runs.FastSeen, Rows.TwoSeen, Rows.level_form, Harness.level_harness};
+ghost use Rattle.two_level_runs.specs.{Runs.FastSeen, Rows.TwoLevelSeen, Rows.two_level_form};
+ghost use Rattle.two_level_runs.specs.{Harness.two_level_harness};
 ghost use Rattle.cpu12_emul.specs.Simulation.{OnStackOrNone};
 ghost use Rattle.interrupt_plan.specs.declared.levels.Level as plan;
 ghost use Rattle.interrupt_plan.specs.Levels.{IsGoodLevel};
@@ -41,9 +42,9 @@ impl<'a> SampleForm<Level, Notes<Option<FastRow>>, TwoRow> for TwoLevelForm<'a> 
 
     ghost Told = { Option FastSeen };
 
-    ghost Shown = { TwoSeen };
+    ghost Shown = { TwoLevelSeen };
 
-    ghost harness = { λ x. level_harness x.two.now x.slow.now x.fast.now };
+    ghost harness = { λ x. two_level_harness x.two.now x.slow.now x.fast.now };
 
     ghost fits = { Fits };
 
@@ -95,14 +96,14 @@ impl<'a> RunForm<Level, Notes<Option<FastRow>>, TwoRow> for TwoLevelForm<'a> {
         k: usize,
         counts: Counts<Notes<Option<FastRow>>>,
     ) -> TwoRow
-        requires sample { k < length (level_harness self.now.two.now self.now.slow.now self.now.fast.now).samples }
+        requires sample { k < length (two_level_harness self.now.two.now self.now.slow.now self.now.fast.now).samples }
         requires few { (n : ℕ) × Fits counts.notes n }
         ensures { (x : List ℕ)
-            → slice_get (level_harness self.now.two.now self.now.slow.now self.now.fast.now).samples k ≡ Some x
-            → (level_harness self.now.two.now self.now.slow.now self.now.fast.now).seen result
-            ≡ shown_by (level_harness self.now.two.now self.now.slow.now self.now.fast.now).shows
-            (level_harness self.now.two.now self.now.slow.now self.now.fast.now).parts.answers
-            (counted_at (level_harness self.now.two.now self.now.slow.now self.now.fast.now).notes counts
+            → slice_get (two_level_harness self.now.two.now self.now.slow.now self.now.fast.now).samples k ≡ Some x
+            → (two_level_harness self.now.two.now self.now.slow.now self.now.fast.now).seen result
+            ≡ shown_by (two_level_harness self.now.two.now self.now.slow.now self.now.fast.now).shows
+            (two_level_harness self.now.two.now self.now.slow.now self.now.fast.now).parts.answers
+            (counted_at (two_level_harness self.now.two.now self.now.slow.now self.now.fast.now).notes counts
             m.now.state) x }
     {
         let bytes = self.slow[k].bytes.as_slice();
@@ -120,7 +121,7 @@ impl<'a> SoundForm for TwoLevelForm<'a> {
 
     ghost Told = { Option FastSeen };
 
-    ghost form = { λ x. level_form x.flags x.two x.samples };
+    ghost form = { λ x. two_level_form x.flags x.two x.samples };
 
     ghost marks = { OnStackOrNone };
 

@@ -14,9 +14,10 @@ use alone_runs::laws::{
 use cpu12_emul::laws::{holds_image, step_fits, step_keeps, takes_quietly};
 use cpu12_isa::laws::{bytes_stay, frame_comes_back, writes_stay};
 use cpu12_parts::laws::wav_suspends;
+use eval_code::laws::frames_leave;
 use firmware_runs::laws::instruction_stays_within;
 use run_law::laws::{run_follows, runs_follow, sums_fit_below, taken_at_once, writes_are_quiet};
-use two_level_code::laws::{alone_has_byte_bounds, fast_answers_entered, two_stand_beside};
+use two_level_code::laws::{fast_answers_entered, two_stand_beside};
 
 /// The whole instructions with which the fast code answers, and its return, are steps from the state in which it
 /// was entered to that after the interrupt, within its bounds; before each step the state keeps what the law on
@@ -24,7 +25,7 @@ use two_level_code::laws::{alone_has_byte_bounds, fast_answers_entered, two_stan
 pub fn fast_steps_return()
     ensures { FastStepsReturn }
 {
-    writes_stay();
+    frames_leave();
     instruction_stays_within();
 }
 
@@ -32,7 +33,6 @@ pub fn fast_steps_return()
 pub fn fast_runs_exist()
     ensures { FastRunsExist }
 {
-    two_stand_beside();
     fast_answers_entered();
     fast_steps_return();
 }
@@ -76,7 +76,6 @@ pub fn outer_is_servable()
 {
     outer_enters();
     fast_runs_exist();
-    alone_has_byte_bounds();
 }
 
 /// An outer interrupt leaves the registers unchanged, leaves no sums running, and leaves memory unchanged except
@@ -127,7 +126,6 @@ pub fn answers_under_levels()
     taken_at_once();
     answers_under_plans();
     requests_are_good();
-    alone_has_byte_bounds();
     firmware_is_uninterrupted();
     runs_follow::<TwoLevelForm>();
 }

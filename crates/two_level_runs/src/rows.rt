@@ -2,7 +2,7 @@
 ghost use Rattle.std.specs.Prelude.{◌≡◌, ◌≤◌, map, length, IfOk};
 ghost use Rattle.interrupt_plan.specs.Levels.{AreGoodLevels};
 ghost use Rattle.trace_io.specs.Traces.{input_bytes};
-ghost use Rattle.two_level_runs.specs.{Answering.AnswersItsBlocks, Rows.two_seen, Harness.row_seen};
+ghost use Rattle.two_level_runs.specs.{Answering.AnswersItsBlocks, Rows.two_level_seen, Harness.row_seen};
 
 use crate::form::TwoLevelForm;
 use crate::laws::{answers_under_levels, levels_are_in_order};
@@ -42,7 +42,7 @@ pub fn run_two(
     requires fast_outputs { two.now.fast.outputs ≤ 4 }
     requires levels { AreGoodLevels (length fast.now) levels.now }
     ensures rows { IfOk result (λ rows. map row_seen rows.items
-        ≡ two_seen two.now (map input_bytes slow.now) (map input_bytes fast.now) levels.now flags) }
+        ≡ two_level_seen two.now (map input_bytes slow.now) (map input_bytes fast.now) levels.now flags) }
     ensures answers { IfOk result (λ rows. AnswersItsBlocks two.now flags (map input_bytes slow.now)
         (map input_bytes fast.now) levels.now) }
 {

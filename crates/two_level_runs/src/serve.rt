@@ -1,7 +1,7 @@
 //! How an outer request is served.
 ghost use Rattle.std.specs.Prelude.{ℕ, ◌≡◌, ◌≤◌, None, Some, map, length, MatchOption, IsTrue};
 ghost use Rattle.cpu12_parts.specs.Parts.{suspended, wav};
-ghost use Rattle.cpu12_emul.specs.Take.{may_interrupt, frame_seen, frame_of};
+ghost use Rattle.cpu12_emul.specs.{Step.SameMachine, Take.may_interrupt, Take.frame_seen, Take.frame_of};
 ghost use Rattle.trace_io.specs.Traces.{input_bytes};
 ghost use Rattle.two_level_code.specs.Images.{fast_most};
 ghost use Rattle.two_level_runs.specs.Runs.{served, told, served_by, told_by};
@@ -64,8 +64,7 @@ fn run_fast<M: Mem>(
     ensures frame { frame_seen result.0 ≡ frame_of m.old.state }
     ensures row { Some (fast_seen result.1) ≡ told_by m.old.flags two.now.fast.outputs
         (fast_most two.now.fast.step_bound) number moments.now (Some bytes.now) (suspended wav m.old.state) }
-    ensures noted { m.new.noted ≡ m.old.noted }
-    ensures flags { m.new.flags ≡ m.old.flags }
+    ensures machine { SameMachine m.old m.new }
 {
     let frame = enter(m, bytes);
     let counts = run_inside(m, two.fast.outputs, two.fast_step_bound(), moments);
@@ -95,8 +94,7 @@ pub(crate) fn serve<M: Mem>(
     ensures frame { frame_seen result.0 ≡ frame_of m.old.state }
     ensures told { fast_told result.1 ≡ told m.old.flags two.now.fast.outputs (fast_most two.now.fast.step_bound)
         (outer_of (map input_bytes fast.now) level.now) (suspended wav m.old.state) }
-    ensures noted { m.new.noted ≡ m.old.noted }
-    ensures flags { m.new.flags ≡ m.old.flags }
+    ensures machine { SameMachine m.old m.new }
 {
     match sample_of(fast, level.fast) {
         Some(sample) => {

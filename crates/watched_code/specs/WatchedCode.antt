@@ -4,9 +4,9 @@ use Rattle.std.specs.Prelude.{ℕ, ◌+◌, ◌-◌, ◌^◌, ◌<◌, ◌≤◌
 use Rattle.std.specs.Prelude.{option_map}
 use Rattle.fuzzy_meaning.specs.declared.{block.Block.Block, block.Output.Output}
 use Rattle.byte_scaling.specs.Cells.{nearest_byte}
-use Rattle.rule_layout.specs.declared.flat.Form.{Form}
-use Rattle.rule_layout.specs.declared.flat.Form.TheVariants as form
-use Rattle.rule_layout.specs.Layouts.{form_of, weights_of}
+use Rattle.rule_layout.specs.declared.flat.RuleInstruction.{RuleInstruction}
+use Rattle.rule_layout.specs.declared.flat.RuleInstruction.TheVariants as instruction
+use Rattle.rule_layout.specs.Layouts.{instruction_of, weights_of}
 use Rattle.cpu12_isa.specs.declared.instr.Instr.{Instr}
 use Rattle.cpu12_isa.specs.declared.instr.Instr.TheVariants.{LdabImmediate, LdxImmediate, StabExtended, ClrExtended}
 use Rattle.cpu12_isa.specs.declared.instr.Instr.TheVariants.{CpxImmediate, Bne, Rts, AddbImmediate}
@@ -24,15 +24,15 @@ fault_at = 0x1030
 abbrev pub segment : ℕ → List ℕ → Segment
 segment at bytes = record { at = at; bytes = bytes }
 
-abbrev pub weight_segments : ℕ → Form → List ℕ → List Segment
-weight_segments at form.Rev weights = []
-weight_segments at form.Revw weights = segment at weights ∷ []
+abbrev pub weight_segments : ℕ → RuleInstruction → List ℕ → List Segment
+weight_segments at instruction.Rev weights = []
+weight_segments at instruction.Revw weights = segment at weights ∷ []
 
 -- the term tables, the singletons, the weights where there are some, and the rule list
 abbrev pub segments_of : MemoryMap → Block → List Segment
 segments_of l b =
     segment l.tables (table_bytes b) ∷ segment l.singletons (singleton_bytes b)
-    ∷ (weight_segments l.weights (form_of b) (weights_of b) ++ segment l.rules (rule_bytes l.slots b) ∷ [])
+    ∷ (weight_segments l.weights (instruction_of b) (weights_of b) ++ segment l.rules (rule_bytes l.slots b) ∷ [])
 
 -- their bytes, one after another
 abbrev pub segment_bytes : List Segment → List ℕ

@@ -1,4 +1,4 @@
-//! The form of firmware that watches its tables.
+//! The instruction of firmware that watches its tables.
 //!
 //! [`compile_scrub`] makes a block's firmware that sums its tables before each sample and, if they have changed,
 //! answers the outputs' defaults with a byte FAULT set. Its image holds exactly the bytes that its definition

@@ -1,15 +1,12 @@
 //! The parts of an image whose bytes are summed before a sample is answered.
 ghost use Rattle.std.specs.Prelude.{◌≡◌, ◌+◌, ◌%◌, ◌^◌, ◌<◌, ◌≤◌, ◌++◌, length, sum, sum_by, All, IfOk, OnOk};
-ghost use Rattle.fuzzy_meaning.specs.Blocks.{IsValid};
-ghost use Rattle.rule_layout.specs.Layouts.{flat_of, IsLaidOut};
 ghost use Rattle.watched_code.specs.{Checksums.check_byte, Watched.segment_bound};
 ghost use Rattle.watched_code.specs.WatchedCode.{segment_bytes, segments_of, weight_segments};
 
 use eval_code::{MemoryMap, rule_bytes, singleton_bytes, table_bytes};
-use fuzzy_meaning::Block;
 use fz_list::List;
 use rule_layout::laws::flat_has_parts;
-use rule_layout::{Flat, Form};
+use rule_layout::{Flat, LaidOut, RuleInstruction};
 use std::alloc::{AllocError, Global};
 
 /// A part of an image whose bytes are summed: where it starts, and its bytes.
@@ -27,11 +24,11 @@ fn push_weights(
     flat: &Flat,
 ) -> Result<(), AllocError>
     ensures { OnOk result (segments.new.items
-        ≡ segments.old.items ++ weight_segments memory_map.now.weights flat.now.form flat.now.weights) }
+        ≡ segments.old.items ++ weight_segments memory_map.now.weights flat.now.instruction flat.now.weights) }
 {
-    match flat.form {
-        Form::Rev => Ok(()),
-        Form::Revw => {
+    match flat.instruction {
+        RuleInstruction::Rev => Ok(()),
+        RuleInstruction::Revw => {
             let mut weights = Vec::new(alloc);
             weights.extend_from_slice(flat.weights.as_slice())?;
             segments.push(Segment {
@@ -44,20 +41,17 @@ fn push_weights(
 }
 
 /// The segments of a block's image: the tables of its terms, its singletons, the weights with REVW, and the rule
-/// list. `flat` is the block's rules as `spread` lays them out.
+/// list.
 pub(crate) fn segments(
     alloc: Global,
     memory_map: &MemoryMap,
-    block: &Block,
-    flat: &Flat,
+    laid_out: &LaidOut<'_>,
 ) -> Result<Vec<Segment>, AllocError>
-    requires valid { IsValid block.now }
-    requires flat { flat.now ≡ flat_of block.now }
-    requires laid_out { IsLaidOut flat.now }
-    requires room { memory_map.now.slots + 1024 < 2 ^ 16 }
-    ensures { IfOk result (λ v. v.items ≡ segments_of memory_map.now block.now) }
+    requires { memory_map.now.slots + 1024 < 2 ^ 16 }
+    ensures { IfOk result (λ v. v.items ≡ segments_of memory_map.now laid_out.now.block.now) }
 {
     flat_has_parts();
+    let block = laid_out.block;
     let mut segments = Vec::new(alloc);
     segments.push(Segment {
         at: memory_map.tables,
@@ -67,10 +61,10 @@ pub(crate) fn segments(
         at: memory_map.singletons,
         bytes: List::new(singleton_bytes(alloc, block)?),
     })?;
-    push_weights(alloc, &mut segments, memory_map, flat)?;
+    push_weights(alloc, &mut segments, memory_map, &laid_out.flat)?;
     segments.push(Segment {
         at: memory_map.rules,
-        bytes: List::new(rule_bytes(alloc, memory_map.slots, flat)?),
+        bytes: List::new(rule_bytes(alloc, memory_map.slots, laid_out)?),
     })?;
     Ok(segments)
 }

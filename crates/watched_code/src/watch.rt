@@ -1,7 +1,7 @@
 //! Firmware that watches its tables.
 ghost use Rattle.std.specs.Prelude.{◌≡◌, IfOk, IfErr, OnOk};
 ghost use Rattle.fuzzy_meaning.specs.Blocks.{IsValid};
-ghost use Rattle.rule_layout.specs.Layouts.{IsWithinLimits, IsFaultOf, flat_of, IsLaidOut};
+ghost use Rattle.rule_layout.specs.Layouts.{IsWithinLimits, IsFaultOf};
 ghost use Rattle.eval_code.specs.{MemoryMaps.main_map, Items.HasRoom};
 ghost use Rattle.alone_code.specs.Images.{IsImageOf};
 ghost use Rattle.watched_code.specs.Watched.{AnswersWatched, IsWatchedFirmwareOf, watched_items};
@@ -15,37 +15,36 @@ use byte_scaling::Width;
 use cpu12_asm::{Image, Item};
 use cpu12_isa::instr::Instr;
 use eval_code::laws::blocks_are_placed;
-use eval_code::{MemoryMap, instruction_bound, push_block, steps_by};
+use eval_code::{Around, MemoryMap, instruction_bound, push_block, steps_by};
 use fuzzy_meaning::Block;
-use rule_layout::{Flat, LayoutFault, spread};
+use rule_layout::{LaidOut, LayoutFault, spread};
 use std::alloc::{AllocError, Global};
 
 /// The items of the image of a firmware with watched tables, at its memory map and with the code before EVAL.
 fn watched_items(
     alloc: Global,
     memory_map: &MemoryMap,
-    block: &Block,
-    flat: &Flat,
+    laid_out: &LaidOut<'_>,
     front: &[Instr],
 ) -> Result<Vec<Item>, AllocError>
-    requires valid { IsValid block.now }
-    requires flat { flat.now ≡ flat_of block.now }
-    requires laid_out { IsLaidOut flat.now }
-    requires memory_map { memory_map.now ≡ watched_map block.now }
+    requires memory_map { memory_map.now ≡ watched_map laid_out.now.block.now }
     requires room { HasRoom memory_map.now }
-    requires front { front.now ≡ watched_front main_map block.now }
-    ensures { IfOk result (λ items. items.items ≡ watched_items block.now) }
+    requires front { front.now ≡ watched_front main_map laid_out.now.block.now }
+    ensures { IfOk result (λ items. items.items ≡ watched_items laid_out.now.block.now) }
 {
     let mut items = Vec::new(alloc);
+    let behind = [Instr::Rts];
+    let around = Around {
+        before: front,
+        behind: &behind,
+    };
     push_block(
         alloc,
         &mut items,
         memory_map,
         Width::Byte,
-        block,
-        flat,
-        front,
-        &[Instr::Rts],
+        laid_out,
+        &around,
     )?;
     push_vectors(&mut items, memory_map)?;
     Ok(items)
@@ -55,20 +54,15 @@ fn watched_items(
 fn watched_image(
     alloc: Global,
     memory_map: &MemoryMap,
-    block: &Block,
-    flat: &Flat,
+    laid_out: &LaidOut<'_>,
     front: &[Instr],
 ) -> Result<Image, AllocError>
-    requires valid { IsValid block.now }
-    requires flat { flat.now ≡ flat_of block.now }
-    requires laid_out { IsLaidOut flat.now }
-    requires limits { IsWithinLimits block.now }
-    requires memory_map { memory_map.now ≡ watched_map block.now }
-    requires front { front.now ≡ watched_front main_map block.now }
-    ensures { IfOk result (IsImageOf (watched_items block.now)) }
+    requires memory_map { memory_map.now ≡ watched_map laid_out.now.block.now }
+    requires front { front.now ≡ watched_front main_map laid_out.now.block.now }
+    ensures { IfOk result (IsImageOf (watched_items laid_out.now.block.now)) }
 {
     blocks_are_placed();
-    let items = watched_items(alloc, memory_map, block, flat, front)?;
+    let items = watched_items(alloc, memory_map, laid_out, front)?;
     image_of(alloc, items.as_slice())
 }
 
@@ -87,33 +81,32 @@ pub fn compile_scrub(alloc: Global, block: &Block) -> Result<Firmware, LayoutFau
     ensures limits { OnOk result (IsWithinLimits block.now) }
     ensures fault { IfErr result (IsFaultOf block.now) }
 {
+    let laid_out = spread(alloc, block)?;
+    Ok(compile_scrub_laid_out(alloc, &laid_out)?)
+}
+
+/// The same for a block that is already laid out. It can only fail for lack of memory.
+fn compile_scrub_laid_out(alloc: Global, laid_out: &LaidOut<'_>) -> Result<Firmware, AllocError>
+    ensures firmware { IfOk result (IsWatchedFirmwareOf laid_out.now.block.now) }
+    ensures answers { IfOk result (AnswersWatched laid_out.now.block.now) }
+{
     blocks_are_placed();
     watched_answers();
-    let flat = match spread(alloc, block) {
-        Ok(flat) => flat,
-        Err(fault) => return Err(fault),
-    };
-    let Ok(segments) = segments(alloc, &MemoryMap::MAIN, block, &flat) else {
-        return Err(LayoutFault::Memory);
-    };
-    let outputs = block.outputs.as_slice();
-    let Ok(front) = watched_front(alloc, &MemoryMap::MAIN, outputs, &segments) else {
-        return Err(LayoutFault::Memory);
-    };
+    let segments = segments(alloc, &MemoryMap::MAIN, laid_out)?;
+    let outputs = laid_out.block.outputs.as_slice();
+    let front = watched_front(alloc, &MemoryMap::MAIN, outputs, &segments)?;
     let memory_map = MemoryMap {
         eval: MemoryMap::MAIN.code + code_length(&front),
         ..MemoryMap::MAIN
     };
-    let Ok(image) = watched_image(alloc, &memory_map, block, &flat, &front) else {
-        return Err(LayoutFault::Memory);
-    };
-    let instr_bound = instruction_bound(Width::Byte, block, &flat) + 4 + segment_bounds(&segments);
-    let step_bound = steps_by(block, &flat, instr_bound);
+    let image = watched_image(alloc, &memory_map, laid_out, &front)?;
+    let instr_bound = instruction_bound(Width::Byte, laid_out) + 4 + segment_bounds(&segments);
+    let step_bound = steps_by(laid_out, instr_bound);
     Ok(Firmware {
         image,
         memory_map,
-        inputs: block.inputs.len() as u8,
-        outputs: block.outputs.len() as u8,
+        inputs: laid_out.block.inputs.len() as u8,
+        outputs: laid_out.block.outputs.len() as u8,
         width: Width::Byte,
         instr_bound,
         step_bound,

@@ -5,7 +5,7 @@ use Rattle.std.specs.Prelude.{◌≢◌, ◌==◌, if◌then◌else◌, All, Opt
 use Rattle.std.proofs.lemmas.Bool.{and_parts}
 use Rattle.std.proofs.lemmas.Bool.Decides.{nat_tests}
 use Rattle.std.proofs.lemmas.List.{get_or-set_same, get_or-set_other}
-use Rattle.cpu12_isa.specs.Regions.{is_free}
+use Rattle.cpu12_isa.specs.{Agreement.AgreeFrom, Regions.is_free, Regions.stack_end}
 use Rattle.cpu12_asm.specs.Bytes.{byte_at}
 use Rattle.cpu12_parts.specs.State.{State}
 use Rattle.cpu12_emul.specs.Image.{image_memory}
@@ -13,7 +13,7 @@ use Rattle.interrupt_plan.specs.{declared.upsets.Upset.Upset, Upsets.is_there, U
 use Rattle.alone_code.specs.{declared.firmware.Firmware.Firmware, Interruptible.IsInterruptible}
 use Rattle.eval_code.specs.declared.memory_map.MemoryMap.{MemoryMap}
 use Rattle.watched_code.specs.Watched.{Change, changed, restored, IsTableChange}
-use Rattle.firmware_runs.specs.Facts.{HasImageBytes, WaitsAlone}
+use Rattle.firmware_runs.specs.Facts.{WaitsAlone}
 use Rattle.watched_runs.specs.Samples.{change_of}
 
 not_none : (o : Option ℕ) → is_there o ≡ true → o ≢ None
@@ -48,7 +48,7 @@ good_change l image k (u ∷ us) tables good =
 
 -- a byte that is changed and put back, and the others, are the image's
 put_back : (image : List ℕ) (c : Change) (s : State) → c.0 < 65536
-    → IsInterruptible is_free (changed (Some c) image) s → HasImageBytes image (restored image (Some c) s)
+    → IsInterruptible is_free (changed (Some c) image) s → AgreeFrom stack_end image (restored image (Some c) s).mem
 put_back image c s lt h at from = by (is_it at c.0)
   where
     is_it : (i j : ℕ) → (i ≡ j) ⊎ (i ≢ j)

@@ -5,7 +5,7 @@ use Rattle.std.proofs.Common.{ap, sym, ◌∙◌, subst, arith, inl, inr, ◌⊎
 use Rattle.std.specs.Prelude.{All, slice_index}
 use Rattle.std.proofs.lemmas.List.Elements.{All-cons}
 use Rattle.fuzzy_meaning.specs.declared.block.Block.{Block}
-use Rattle.cpu12_isa.specs.Regions.{is_free, is_hidden}
+use Rattle.cpu12_isa.specs.{Agreement.AgreeFrom, Regions.is_free, Regions.is_hidden, Regions.stack_end}
 use Rattle.cpu12_isa.proofs.Algebra.{agree_self}
 use Rattle.cpu12_parts.specs.{State.State, Executions.all_steps}
 use Rattle.cpu12_emul.specs.{Image.image_memory, Step.reset_with, Simulation.OnStackOnly}
@@ -23,7 +23,7 @@ use Rattle.run_law.specs.{Forms.rows_from, Uninterrupted.uninterrupted}
 use Rattle.run_law.specs.Following.{Completes, AllComplete, AllWithin, AllFollow, expected_row, expected_rows}
 use Rattle.firmware_runs.specs.Ports.{answers_at, answers_in}
 use Rattle.alone_runs.specs.{Rows.requests_of, Rows.first_state, Following.IsLow, Following.Nothing}
-use Rattle.firmware_runs.specs.Facts.{HasImageBytes, WaitsAlone}
+use Rattle.firmware_runs.specs.Facts.{WaitsAlone}
 use Rattle.firmware_runs.specs.Instructions.{AreSteps, IsServing}
 use Rattle.watched_runs.specs.Samples.{change_of, changes_from, with_upsets}
 use Rattle.watched_runs.specs.Forms.{given_changed, watched_form, FactsWatched}
@@ -144,11 +144,11 @@ holds_change b f flags before x s t a g j l = by (one_of j (all_steps a.ds) l)
     first = given_changed f.memory_map x s
 
     by : (suc j ≤ all_steps a.ds) ⊎ (j ≡ all_steps a.ds)
-        → HasImageBytes (changed x.change (image f)) (uninterrupted flags j (given_changed f.memory_map x s))
+        → AgreeFrom stack_end memory (uninterrupted flags j (given_changed f.memory_map x s)).mem
     by (inl less) = let k = g.each j less in k.image
     by (inr e) =
         let end = a.interruptible in
-        subst (λ (u : State). HasImageBytes (changed x.change (image f)) u)
+        subst (λ (u : State). AgreeFrom stack_end memory u.mem)
         (sym (ap (λ (i : ℕ). uninterrupted flags i (given_changed f.memory_map x s)) e ∙ g.goes)) end.same
 
 all_hold : Laws → (b : Block) (f : Firmware) → HasPorts b f → (flags : ℕ) (before : ℕ → ℕ) (xs : List Watched)
@@ -310,7 +310,7 @@ ports b f few h =
     let at : (g : MemoryMap → ℕ) → g f.memory_map ≡ g (watched_map b) = λ g. ap g h.memory_map in
     let samples : f.memory_map.samples ≡ 0x1001 = at (λ l. l.samples) in
     let outputs : f.memory_map.outputs ≡ 0x1010 = at (λ l. l.outputs) in
-    let ready : f.memory_map.ready ≡ 0x1000 = at (λ l. l.ready) in
+    let ready : f.memory_map.sample_flag ≡ 0x1000 = at (λ l. l.sample_flag) in
     let n = h.outputs in
     let size = few_answers f.width f.outputs h.width (omega (arith, n, few)) in
     let steps : f.step_bound ≡ steps_by b f.instr_bound = h.steps ∙ sym (ap (steps_by b) h.instructions) in

@@ -3,7 +3,7 @@
 use Rattle.std.specs.Prelude.{◌≡◌, ℕ, ◌-◌, ◌^◌, ◌<◌, ◌≤◌, List, [], ◌∷◌, All, length, slice_index}
 use Rattle.fuzzy_meaning.specs.{declared.block.Block.Block, Blocks.IsValid}
 use Rattle.rule_layout.specs.Layouts.{IsWithinLimits}
-use Rattle.cpu12_isa.specs.Regions.{is_free}
+use Rattle.cpu12_isa.specs.{Agreement.AgreeFrom, Regions.is_free, Regions.stack_end}
 use Rattle.cpu12_parts.specs.State.{State}
 use Rattle.cpu12_emul.specs.{Image.image_memory, Simulation.OnStackOnly}
 use Rattle.interrupt_plan.specs.declared.{Request.Request, upsets.Upset.Upset}
@@ -12,7 +12,7 @@ use Rattle.alone_code.specs.declared.firmware.Firmware.{Firmware}
 use Rattle.eval_code.specs.Firing.{AreInputBytes}
 use Rattle.watched_code.specs.Watched.{Watched, changed, restored, watched_answer, watched_fault, IsWatchedFirmwareOf}
 use Rattle.run_law.specs.{Uninterrupted.uninterrupted, Following.AllComplete, Following.AllFollow}
-use Rattle.firmware_runs.specs.Facts.{HasImageBytes, WaitsAlone}
+use Rattle.firmware_runs.specs.Facts.{WaitsAlone}
 use Rattle.alone_runs.specs.{Following.Nothing, Rows.requests_of, Rows.first_state}
 use Rattle.watched_runs.specs.{Samples.with_upsets, Forms.given_changed, Forms.watched_form, Forms.FactsWatched}
 use Rattle.watched_runs.specs.Rows.{FaultSeen, upset_rows, faults_of, rows_of_watched}
@@ -41,8 +41,8 @@ AreWatchedRows b f before (x ∷ xs) (r ∷ rs) =
 -- each boundary up to the end.
 abbrev pub HoldsChange : ℕ → Firmware → ℕ → Watched → State → Type 0
 HoldsChange flags f n x s =
-    (j : ℕ) → j ≤ n → HasImageBytes (changed x.change (image_memory f.image.bytes))
-    (uninterrupted flags j (given_changed f.memory_map x s))
+    (j : ℕ) → j ≤ n → AgreeFrom stack_end (changed x.change (image_memory f.image.bytes))
+    (uninterrupted flags j (given_changed f.memory_map x s)).mem
 
 -- So it is for all samples; and before the first and after each the firmware waits over the image as it was made.
 abbrev pub AllHoldChanges : ℕ → Firmware → List ℕ → List Watched → State → Type 0

@@ -1,6 +1,6 @@
 //! The upset of a sample, in a list with ascending samples, and what it does.
 ghost use Rattle.std.specs.Prelude.{ℕ, ◌≡◌, MatchResult, None, slice_get};
-ghost use Rattle.cpu12_emul.specs.Image.{image_memory};
+ghost use Rattle.cpu12_emul.specs.{Image.image_memory, Step.SameMachine};
 ghost use Rattle.interrupt_plan.specs.Upsets.{SamplesAscend};
 ghost use Rattle.watched_code.specs.Watched.{changed, restored};
 ghost use Rattle.watched_runs.specs.Samples.{AscendThroughout, change_of, change_in};
@@ -44,8 +44,7 @@ pub(crate) fn upset_of(upsets: &[Upset], number: usize) -> Option<Upset>
 pub(crate) fn change<M: Mem>(m: &mut Machine<M>, upset: Option<Upset>)
     ensures state { m.new.state
         ≡ record (m.old.state) { mem = changed (change_in upset) m.old.state.mem } }
-    ensures noted { m.new.noted ≡ m.old.noted }
-    ensures flags { m.new.flags ≡ m.old.flags }
+    ensures machine { SameMachine m.old m.new }
 {
     if let Some(upset) = upset {
         m.poke(upset.at, upset.value);
@@ -55,8 +54,7 @@ pub(crate) fn change<M: Mem>(m: &mut Machine<M>, upset: Option<Upset>)
 /// Restores the image's byte where an upset changed it, if there is one.
 pub(crate) fn restore<M: Mem>(m: &mut Machine<M>, image: &Image, upset: Option<Upset>)
     ensures state { m.new.state ≡ restored (image_memory image.now.bytes) (change_in upset) m.old.state }
-    ensures noted { m.new.noted ≡ m.old.noted }
-    ensures flags { m.new.flags ≡ m.old.flags }
+    ensures machine { SameMachine m.old m.new }
 {
     holds_image();
     if let Some(upset) = upset {

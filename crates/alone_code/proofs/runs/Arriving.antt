@@ -1,12 +1,12 @@
 -- From reset to where the code waits.
 use Rattle.alone_code.proofs.Words.{[], ◌%◌, ◌*◌, ◌++◌, ◌+◌, ◌-◌, ◌/◌, ◌<◌, ◌^◌, ◌∙◌, ◌∷◌, ◌≡◌, ◌≢◌, ◌≤◌, ◌⊎◌}
-use Rattle.alone_code.proofs.Words.{after_plain, Agree, Andcc, ap, ap₂, arith, Block, block_items, Bool, Byte}
-use Rattle.alone_code.proofs.Words.{bytes_after_set, bytes_at, bytes_of, bytes_of_word, bytes_set_out, cases_eq}
+use Rattle.alone_code.proofs.Words.{after_plain, Agree, AgreeFrom, Andcc, ap, ap₂, arith, Block, block_items, Bool}
+use Rattle.alone_code.proofs.Words.{Byte, bytes_after_set, bytes_at, bytes_of, bytes_of_word, bytes_set_out, cases_eq}
 use Rattle.alone_code.proofs.Words.{ClrExtended, code_bytes, decode_at, decode_same, DecodesWhereItStands, false}
 use Rattle.alone_code.proofs.Words.{Free, get_or, get_or-set_other, get_or-set_same, given_by, HasBytes, high_set}
 use Rattle.alone_code.proofs.Words.{Holds, image_memory, inl, inr, Instr, IsRising, IsStarted, Item, length}
 use Rattle.alone_code.proofs.Words.{length-set, List, Live, MemoryMap, Ok, places, PlainExecution, refl, reset_with}
-use Rattle.alone_code.proofs.Words.{rule_bytes, same_bytes, SameHigh, set, Setting, singleton_bytes, start_code}
+use Rattle.alone_code.proofs.Words.{rule_bytes, same_bytes, set, Setting, singleton_bytes, stack_end, start_code}
 use Rattle.alone_code.proofs.Words.{State, subst, sym, table_bytes, true, unmasked, weight_bytes, Width, Word, ℕ}
 use Rattle.alone_code.proofs.Words.{⊎_elim}
 use Rattle.std.proofs.{Common.map}
@@ -50,23 +50,23 @@ start_execution decodes flags l image f vector start =
     let r = f.ready in
     let s0 = reset_with image in
     let s1 = after_plain flags (LdsImmediate 0x2000) s0 in
-    let s2 = after_plain flags (ClrExtended l.ready) s1 in
+    let s2 = after_plain flags (ClrExtended l.sample_flag) s1 in
     let s3 = after_plain flags (Andcc 0xEF) s2 in
     let p0 : s0.regs.pc ≡ l.code = ap₂ (λ x y. x * 2 ^ 8 + y) vector.0 vector.1.0 ∙ omega arith in
     let p1 : s1.regs.pc ≡ l.code + 3 = omega arith in
     let p2 : s2.regs.pc ≡ l.code + 6 = omega arith in
-    let m = set image l.ready 0 in
-    let same : SameHigh image m = high_set image image l.ready 0 (omega arith) (λ at le. refl) in
+    let m = set image l.sample_flag 0 in
+    let same : AgreeFrom stack_end image m = high_set image image l.sample_flag 0 (omega arith) (λ at le. refl) in
     let d0 : decode_at image s0.regs.pc ≡ Ok (LdsImmediate 0x2000) =
     ap (decode_at image) p0
     ∙ decodes image l.code (LdsImmediate 0x2000) (omega arith) (omega arith)
     (start.0, (start.1.0, (start.1.1.0, tt))) in
     let at1 : l.code + 1 + 1 + 1 ≡ l.code + 3 = omega arith in
-    let b1 : HasBytes image (l.code + 3) (121 ∷ l.ready / 2 ^ 8 ∷ l.ready % 2 ^ 8 ∷ 16 ∷ 239 ∷ []) =
-    subst (λ p. HasBytes image p (121 ∷ l.ready / 2 ^ 8 ∷ l.ready % 2 ^ 8 ∷ 16 ∷ 239 ∷ [])) at1 start.1.1.1 in
-    let d1 : decode_at image s1.regs.pc ≡ Ok (ClrExtended l.ready) =
+    let b1 : HasBytes image (l.code + 3) (121 ∷ l.sample_flag / 2 ^ 8 ∷ l.sample_flag % 2 ^ 8 ∷ 16 ∷ 239 ∷ []) =
+    subst (λ p. HasBytes image p (121 ∷ l.sample_flag / 2 ^ 8 ∷ l.sample_flag % 2 ^ 8 ∷ 16 ∷ 239 ∷ [])) at1 start.1.1.1 in
+    let d1 : decode_at image s1.regs.pc ≡ Ok (ClrExtended l.sample_flag) =
     ap (decode_at image) p1
-    ∙ decodes image (l.code + 3) (ClrExtended l.ready) (omega arith) (omega arith) (b1.0, (b1.1.0, (b1.1.1.0, tt))) in
+    ∙ decodes image (l.code + 3) (ClrExtended l.sample_flag) (omega arith) (omega arith) (b1.0, (b1.1.0, (b1.1.1.0, tt))) in
     let at2 : l.code + 3 + 1 + 1 + 1 ≡ l.code + 6 = omega arith in
     let b2 : HasBytes image (l.code + 6) (16 ∷ 239 ∷ []) = subst (λ p. HasBytes image p (16 ∷ 239 ∷ [])) at2 b1.1.1.1 in
     let d2 : decode_at m s2.regs.pc ≡ Ok (Andcc 0xEF) =
@@ -80,7 +80,7 @@ start_execution decodes flags l image f vector start =
           s2,
           (
             omega arith,
-            (ClrExtended l.ready, record { decoded = d1; plain = refl; after = refl }),
+            (ClrExtended l.sample_flag, record { decoded = d1; plain = refl; after = refl }),
             (s3, (omega arith, (Andcc 0xEF, record { decoded = d2; plain = refl; after = refl }), refl)),
           ),
         ),
@@ -104,14 +104,14 @@ arrive c b width before f a v start h =
     let z = a.slots in
     let s0 = reset_with c.image in
     let s1 = after_plain c.flags (LdsImmediate 0x2000) s0 in
-    let s2 = after_plain c.flags (ClrExtended l.ready) s1 in
+    let s2 = after_plain c.flags (ClrExtended l.sample_flag) s1 in
     let s3 = after_plain c.flags (Andcc 0xEF) s2 in
     let p0 : s0.regs.pc ≡ l.code = ap₂ (λ x y. x * 2 ^ 8 + y) vector.0 vector.1.0 ∙ omega arith in
     let p1 : s1.regs.pc ≡ l.code + 3 = omega arith in
     let p2 : s2.regs.pc ≡ l.code + 6 = omega arith in
     let p3 : s3.regs.pc ≡ l.code + 8 = omega arith in
-    let m = set c.image l.ready 0 in
-    let same : SameHigh c.image m = high_set c.image c.image l.ready 0 (omega arith) (λ at le. refl) in
+    let m = set c.image l.sample_flag 0 in
+    let same : AgreeFrom stack_end c.image m = high_set c.image c.image l.sample_flag 0 (omega arith) (λ at le. refl) in
     let f0 : FitsRegs s0.regs =
     record {
       a = omega arith;
@@ -124,19 +124,19 @@ arrive c b width before f a v start h =
       ccr = omega arith;
     } in
     let f1 = (c.stays_fit c.flags (LdsImmediate 0x2000) s0.regs c.image c.fits (omega arith) f0 bytes).0 in
-    let f2 = (c.stays_fit c.flags (ClrExtended l.ready) s1.regs c.image c.fits (omega arith) f1 bytes).0 in
-    let bm : AreBytes m = bytes_after_set c.image l.ready 0 bytes (omega arith) (omega arith) in
+    let f2 = (c.stays_fit c.flags (ClrExtended l.sample_flag) s1.regs c.image c.fits (omega arith) f1 bytes).0 in
+    let bm : AreBytes m = bytes_after_set c.image l.sample_flag 0 bytes (omega arith) (omega arith) in
     let f3 = (c.stays_fit c.flags (Andcc 0xEF) s2.regs m c.fits (omega arith) f2 bm).0 in
     let live : Live c s3 = record {
       temps = refl;
-      size = length-set c.image l.ready 0 ∙ size;
+      size = length-set c.image l.sample_flag 0 ∙ size;
       bytes = bm;
       fits = f3;
       stack = inr refl;
       mask = unmasked s2.regs.ccr.0;
       same = same;
     } in
-    let ready : get_or m l.ready 0 ≡ 0 = get_or-set_same c.image l.ready 0 0 (omega arith) in
+    let ready : get_or m l.sample_flag 0 ≡ 0 = get_or-set_same c.image l.sample_flag 0 0 (omega arith) in
     let home : s3.regs.pc ≡ l.wait = p3 ∙ sym w in
     record {
       t = s3;
@@ -149,7 +149,7 @@ arrive c b width before f a v start h =
         outs = λ o from to.
             (let p = l.outputs + places width * (o - 1) in
             let room = answer_room width o 0 from (omega arith) in
-            bytes_set_out c.image l.ready 0 p (bytes_of width 0)
+            bytes_set_out c.image l.sample_flag 0 p (bytes_of width 0)
             (⊎_elim (λ before. inr (omega arith)) (λ behind. inl (omega arith)) f.apart)
             (none_stand width c.image p (λ q lo hi. h.low q (omega arith))));
         ready_is = ready;
@@ -200,7 +200,7 @@ set_agree open_to m n at v lt a =
 apart : (open_to : ℕ → Bool) (p q : ℕ) → open_to p ≡ true → open_to q ≡ false → p ≢ q
 apart open_to p q t f e = cc
 
-pub arrive_alike : (c : Setting) (mem : List ℕ) → IsStarted c.memory_map → c.open_to c.memory_map.ready ≡ false
+pub arrive_alike : (c : Setting) (mem : List ℕ) → IsStarted c.memory_map → c.open_to c.memory_map.sample_flag ≡ false
     → ((at : ℕ) → 0xFFFE ≤ at → at < 2 ^ 16 → c.open_to at ≡ false)
     → HasBytes c.image 0xFFFE (bytes_of_word c.memory_map.code)
     → HasBytes c.image c.memory_map.code (code_bytes (start_code c.memory_map)) → length c.image ≡ 65536
@@ -221,8 +221,8 @@ arrive_alike c mem f shown reset vector start size a =
     record {
       state = first_waiting c.flags l mem;
       execution = start_execution c.decodes c.flags l mem f here code;
-      regs = ap (regs_from c.flags l.ready) pc;
+      regs = ap (regs_from c.flags l.sample_flag) pc;
       temps = refl;
-      bytes = set_agree c.open_to mem c.image l.ready 0 (omega arith) a;
-      open_bytes = λ at is. get_or-set_other mem l.ready at 0 0 (apart c.open_to at l.ready is shown);
+      bytes = set_agree c.open_to mem c.image l.sample_flag 0 (omega arith) a;
+      open_bytes = λ at is. get_or-set_other mem l.sample_flag at 0 0 (apart c.open_to at l.sample_flag is shown);
     }

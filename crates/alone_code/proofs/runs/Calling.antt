@@ -1,24 +1,24 @@
 -- EVAL called in a firmware that stands alone, from what it owns.
 use Rattle.alone_code.proofs.Words.{[], ◌&&◌, ◌*◌, ◌++◌, ◌+◌, ◌<◌, ◌^◌, ◌∙◌, ◌∷◌, ◌≡◌, ◌≤◌, act_of, addresses}
+use Rattle.alone_code.proofs.Words.{AgreeFrom, stack_end}
 use Rattle.alone_code.proofs.Words.{after_plain, AllShown, ap, ap₂, arith, Back, Block, Bool, code_bytes, Each}
 use Rattle.alone_code.proofs.Words.{effect, eval_bytes, EvalAnswers, Execution, execution_on, false, Free, get_or}
-use Rattle.alone_code.proofs.Words.{has, HasBytes, HasRoutine, Here, high_set, high_writes, inl, inr, Instr}
-use Rattle.alone_code.proofs.Words.{is_hidden, IsApart, IsCalled, IsInCode, IsInterruptibleStep, IsShownInstruction}
-use Rattle.alone_code.proofs.Words.{IsShut, IsValid, length, length-append, List, Live, MemoryMap, min, nat_le}
-use Rattle.alone_code.proofs.Words.{nat_lt, nat_tests, or_parts, plus, read_by, Reads, refl, Rts, rule_bytes}
-use Rattle.alone_code.proofs.Words.{same_bytes, SameHigh, set, Setting, singleton_bytes, six_from, State}
-use Rattle.alone_code.proofs.Words.{steps_append, subst, sym, table_bytes, weight_bytes, Width, WriteBelow, Writes, ℕ}
-use Rattle.alone_code.proofs.Words.{⊎_elim}
-use Rattle.eval_code.specs.Evaluation.{HasEval, IsAtEval, IsEvaluated, code_region, IsEvalStep}
-use Rattle.eval_code.proofs.Algebra.{Below, From, apart_by, below_front, below_back, places_few}
-use Rattle.std.proofs.{Common.max}
+use Rattle.alone_code.proofs.Words.{has, HasBytes, HasRoutine, Here, inl, inr, Instr, is_hidden, IsApart, IsCalled}
+use Rattle.alone_code.proofs.Words.{IsInCode, IsInterruptibleStep, IsShownInstruction, IsShut, IsValid, length}
+use Rattle.alone_code.proofs.Words.{length-append, List, Live, MemoryMap, min, nat_le, nat_lt, nat_tests, or_parts}
+use Rattle.alone_code.proofs.Words.{plus, read_by, Reads, refl, Rts, rule_bytes, same_bytes, Setting}
+use Rattle.alone_code.proofs.Words.{singleton_bytes, six_from, State, steps_append, sym, table_bytes, weight_bytes}
+use Rattle.alone_code.proofs.Words.{Width, Writes, ℕ, ⊎_elim, ◌⊎◌}
+use Rattle.eval_code.specs.Evaluation.{HasEval, IsAtEval, IsEvaluated, eval_frame}
+use Rattle.eval_code.proofs.Algebra.{Below, From, apart_by, places_few, each_more, shown_each, written_low}
 use Rattle.cpu12_isa.specs.{declared.instr.Instr.TheVariants.Rev, declared.instr.Instr.TheVariants.Revw}
 use Rattle.cpu12_parts.specs.{Touching.IsIn, Touching.IsRulesOver, Touching.IsInstructionOver}
 use Rattle.eval_code.specs.{Code.eval_code}
 use Rattle.alone_code.specs.{Interruptible.IsShownRules, Settings.ReturnGoesOn, Calls.CalledEvalReturns}
-use Rattle.cpu12_parts.specs.Rules.{Rule, Form, concluded, all_concluded, named, raised, rules_written, rules_target}
-use Rattle.cpu12_parts.specs.Rules.{strength}
+use Rattle.cpu12_parts.specs.Rules.{Rule, RuleOperands, rules_written, rev_operands, revw_operands, rules_read}
 use Rattle.alone_code.proofs.runs.Stepping.{plain_next, low_shown, high_shown, not_at}
+use Rattle.eval_code.specs.Frames.{FramesLeave, IsLeft, IsRunIn, IsStepIn}
+use Rattle.cpu12_parts.specs.Averages.{wav_read}
 
 -- RTS with the return address on the stack
 less_hidden : (open_to : ℕ → Bool) (at : ℕ) → is_hidden open_to 0x2000 at ≡ false → is_hidden open_to 0x1FFE at ≡ false
@@ -43,230 +43,128 @@ rts_run c s p ret l ep h es er =
     (ap₂ (λ a b. get_or s.mem a 0 * 2 ^ 8 + get_or s.mem b 0) es e1 ∙ er)
 
 -- What is owned is not hidden.
+read_apart : (l : MemoryMap) (at : ℕ) → IsApart l → Reads l at → (at < 0x1800) ⊎ (0x2000 ≤ at)
+read_apart l at a (inl o) = inl (omega (arith, a.inputs, a.outputs, a.slots, o.1))
+read_apart l at a (inr (inl o)) = inl (omega (arith, a.slots, o.1))
+read_apart l at a (inr (inr (inl o))) = inr (omega (arith, a.tables, o.0))
+read_apart l at a (inr (inr (inr (inl o)))) = inr (omega (arith, a.singletons, o.0))
+read_apart l at a (inr (inr (inr (inr (inl o))))) = inr (omega (arith, a.weights, o.0))
+read_apart l at a (inr (inr (inr (inr (inr (inl o)))))) = inr (omega (arith, a.rules, o.0))
+read_apart l at a (inr (inr (inr (inr (inr (inr o)))))) = absurd o
+
 read_shown : (open_to : ℕ → Bool) (l : MemoryMap) (sp at : ℕ) → IsShut open_to l → IsApart l → sp ≤ 0x2000 → Reads l at
     → is_hidden open_to sp at ≡ false
-read_shown open_to l sp at u a h (inl o) = let low : at < 0x1800 = omega (arith, a.inputs, a.outputs, a.slots, o.1) in
-    low_shown open_to sp at (u.reads at (inl o)) low
-read_shown open_to l sp at u a h (inr (inl o)) = let low : at < 0x1800 = omega (arith, a.slots, o.1) in
-    low_shown open_to sp at (u.reads at (inr (inl o))) low
-read_shown open_to l sp at u a h (inr (inr (inl o))) =
-    high_shown open_to sp at (u.reads at (inr (inr (inl o)))) (omega (arith, a.tables, o.0))
-read_shown open_to l sp at u a h (inr (inr (inr (inl o)))) =
-    high_shown open_to sp at (u.reads at (inr (inr (inr (inl o))))) (omega (arith, a.singletons, o.0))
-read_shown open_to l sp at u a h (inr (inr (inr (inr (inl o))))) =
-    high_shown open_to sp at (u.reads at (inr (inr (inr (inr (inl o)))))) (omega (arith, a.weights, o.0))
-read_shown open_to l sp at u a h (inr (inr (inr (inr (inr (inl o)))))) =
-    high_shown open_to sp at (u.reads at (inr (inr (inr (inr (inr (inl o))))))) (omega (arith, a.rules, o.0))
-read_shown open_to l sp at u a h (inr (inr (inr (inr (inr (inr o)))))) = absurd o
-
-all_read : (open_to : ℕ → Bool) (l : MemoryMap) (sp : ℕ) (ats : List ℕ) → IsShut open_to l → IsApart l → sp ≤ 0x2000
-    → Each (Reads l) ats → AllShown (is_hidden open_to sp) ats
-all_read open_to l sp [] u a h e = tt
-all_read open_to l sp (at ∷ ats) u a h e = (read_shown open_to l sp at u a h e.0, all_read open_to l sp ats u a h e.1)
-
--- What EVAL writes lies below the free bytes.
-written_low : (l : MemoryMap) (at : ℕ) → IsApart l → Writes l at → at < 0x1800
-written_low l at a (inl o) = omega (arith, a.outputs, a.slots, o.1)
-written_low l at a (inr (inl o)) = omega (arith, a.slots, o.1)
-written_low l at a (inr (inr o)) = absurd o
-
-writes_low : (l : MemoryMap) (ws : List (ℕ × ℕ)) → IsApart l → Each (Writes l) (addresses ws) → WriteBelow 0x2000 ws
-writes_low l [] a e = tt
-writes_low l (w ∷ ws) a e = ((let low = written_low l w.0 a e.0 in omega arith), writes_low l ws a e.1)
-
-all_written : (open_to : ℕ → Bool) (l : MemoryMap) (sp : ℕ) (ats : List ℕ) → IsShut open_to l → IsApart l
-    → Each (Writes l) ats → AllShown (is_hidden open_to sp) ats
-all_written open_to l sp [] u a e = tt
-all_written open_to l sp (at ∷ ats) u a e =
-    let low = written_low l at a e.0 in
-    (low_shown open_to sp at (u.writes at e.0) low, all_written open_to l sp ats u a e.1)
+read_shown open_to l sp at u a h r =
+    ⊎_elim (λ low. low_shown open_to sp at (u.reads at r) low)
+    (λ high. high_shown open_to sp at (u.reads at r) (omega arith)) (read_apart l at a r)
 
 written_below : (l : MemoryMap) (ats : List ℕ) → IsApart l → Each (Writes l) ats → Below 0x1800 ats
 written_below l [] a e = tt
 written_below l (at ∷ ats) a e = (written_low l at a e.0, written_below l ats a e.1)
 
-code_above : (l : MemoryMap) (ats : List ℕ) → IsApart l → Each (IsIn (code_region l)) ats → From 0x2000 ats
+code_above : (l : MemoryMap) (ats : List ℕ) → IsApart l → Each (IsIn (eval_frame l).code) ats → From 0x2000 ats
 code_above l [] r e = tt
 code_above l (at ∷ ats) r e = (omega (arith, r.eval, e.0.0), code_above l ats r e.1)
 
-code_seen : (open_to : ℕ → Bool) (l : MemoryMap) (sp : ℕ) (ats : List ℕ) → IsShut open_to l → IsApart l → IsInCode l
-    → sp ≤ 0x2000 → Each (IsIn (code_region l)) ats
-    → AllShown (is_hidden open_to sp) ats
-code_seen open_to l sp [] u r c h e = tt
-code_seen open_to l sp (at ∷ ats) u r c h e = (
-  high_shown open_to sp at (u.code at (omega (arith, c.from, e.0.0)) (omega (arith, c.to, e.0.1)))
-      (omega (arith, r.eval, e.0.0)),
-  code_seen open_to l sp ats u r c h e.1,
-)
+-- Neither is what a step of EVAL touches.
+shown : (open_to : ℕ → Bool) (l : MemoryMap) (flags d : ℕ) (s t : State) → IsShut open_to l → IsApart l → l.wait < l.eval
+    → s.regs.sp ≤ 0x2000 → IsStepIn (eval_frame l) flags d s t → IsShownInstruction open_to l.wait flags d s t
+shown open_to l flags d s t u a w sp e = by e.instruction
+  where
+    reads : (ats : List ℕ) → Each (Reads l) ats → AllShown (is_hidden open_to s.regs.sp) ats
+    reads = shown_each (is_hidden open_to s.regs.sp) (Reads l) (λ at r. read_shown open_to l s.regs.sp at u a sp r)
 
--- rules whose conclusions are low keep what stands high
-record High (m mem : List ℕ) : Type 0 where
-  same : SameHigh m mem
+    writes : (n : ℕ) (ats : List ℕ) → Each (Writes l) ats → AllShown (is_hidden open_to n) ats
+    writes n = shown_each (is_hidden open_to n) (Writes l)
+        (λ at o. low_shown open_to n at (u.writes at o) (written_low l at a o))
 
-raised_high : (f : Form) (m mem : List ℕ) (t : ℕ) (es : List ℕ) → Below 0x1800 (named f es) → High m mem
-    → High m (raised f t mem es)
-raised_high f m mem t [] b h = h
-raised_high f m mem t (e ∷ es) b h =
-    let v = max (get_or mem (f.place e) 0) t in
-    let low = b.0 in
-    raised_high f m (set mem (f.place e) v) t es b.1
-    (record { same = high_set m mem (f.place e) v (omega arith) h.same })
+    rules : (i : Instr) (f : RuleOperands) (p : Rule) (ps : List Rule) → IsRulesOver (Reads l) (Writes l) i f flags d p ps s t
+        → IsShownRules open_to l.wait i f flags d p ps s t
+    rules i f p ps k = record {
+      step = k.step;
+      reads = reads (rules_read f s.regs p ps) k.reads;
+      writes = writes s.regs.sp (rules_written f p ps) k.writes;
+      below = each_more (Writes l) (λ at. at < 0x2000) (λ at o. (let low = written_low l at a o in omega arith))
+          (rules_written f p ps) k.writes;
+      itself = apart_by (rules_written f p ps) (six_from s.regs.pc) (written_below l (rules_written f p ps) a k.writes)
+          (code_above l (six_from s.regs.pc) a e.code);
+      away = (let from = e.code.0.0 in λ q. omega arith);
+    }
 
-all_high : (f : Form) (m mem : List ℕ) (p : Rule) (ps : List Rule) → Below 0x1800 (rules_target f (p ∷ ps)) → High m mem
-    → High m (all_concluded f mem p ps)
-all_high f m mem p [] b h =
-    raised_high f m mem (strength f mem p) p.conclusions
-    (below_front 0x1800 (named f p.conclusions) (rules_target f []) b) h
-all_high f m mem p (q ∷ qs) b h =
-    all_high f m (concluded f mem p) q qs (below_back 0x1800 (named f p.conclusions) (rules_target f (q ∷ qs)) b)
-    (raised_high f m mem (strength f mem p) p.conclusions
-    (below_front 0x1800 (named f p.conclusions) (rules_target f (q ∷ qs)) b) h)
+    by : IsInstructionOver (Reads l) (Writes l) flags d s t → IsShownInstruction open_to l.wait flags d s t
+    by (inl p) = let k = p.1.0 in
+        inl (
+          p.0,
+          (
+            record {
+              step = k.step;
+              reads = reads (read_by (act_of flags p.0 s.regs) s.mem) k.reads;
+              writes = writes (min s.regs.sp t.regs.sp) (addresses (effect flags p.0 s.regs s.mem).writes) k.writes;
+              uncovers = λ at g. inl (ap (λ n. is_hidden open_to n at) (sym e.stack) ∙ g);
+            },
+            p.1.1,
+          ),
+        )
+    by (inr (inl p)) = inr (inl (p.0, p.1, rules Rev (rev_operands s.regs.y) p.0 p.1 p.2))
+    by (inr (inr (inl p))) = inr (inr (inl (p.0, p.1, rules Revw revw_operands p.0 p.1 p.2)))
+    by (inr (inr (inr k))) =
+        inr (inr (inr (record {
+          step = k.step;
+          some = k.some;
+          reads = reads (wav_read s.regs) k.reads;
+          away = (let next = e.code.1.0.0 in λ q. omega arith);
+        })))
 
--- what the caller adds
+-- what the caller adds, and a run leaves
 record Alone (image : List ℕ) (s : State) : Type 0 where
   temps : s.temps ≡ Free
   stack : s.regs.sp ≡ 0x1FFE
   unmasked : has s.regs.ccr 4 ≡ false
-  same : SameHigh image s.mem
+  same : AgreeFrom stack_end image s.mem
 
-record Carried (open_to : ℕ → Bool) (l : MemoryMap) (image : List ℕ) (flags d : ℕ) (s t : State) : Type 0 where
-  instruction : IsShownInstruction open_to l flags d s t
-  temps : t.temps ≡ Free
-  same : SameHigh image t.mem
-
-below_image : (ats : List ℕ) → Below 0x1800 ats → Each (λ at. at < 0x2000) ats
-below_image [] b = tt
-below_image (at ∷ ats) b = ((let l = b.0 in omega arith), below_image ats b.1)
-
-over_rules : (open_to : ℕ → Bool) (l : MemoryMap) (i : Instr) (f : Form) (flags d : ℕ) (p : Rule) (ps : List Rule)
-    (s t : State) → IsShut open_to l → IsApart l → l.wait < l.eval → s.regs.sp ≤ 0x2000
-    → Each (IsIn (code_region l)) (six_from s.regs.pc) → IsRulesOver (Reads l) (Writes l) i f flags d p ps s t
-    → IsShownRules open_to l i f flags d p ps s t
-over_rules open_to l i f flags d p ps s t u a w sp code h = record {
-  step = h.step;
-  reads = all_read open_to l s.regs.sp _ u a sp h.reads;
-  writes = all_written open_to l s.regs.sp _ u a h.writes;
-  below = below_image (rules_written f p ps) (written_below l (rules_written f p ps) a h.writes);
-  itself = apart_by (rules_written f p ps) (six_from s.regs.pc) (written_below l (rules_written f p ps) a h.writes)
-      (code_above l (six_from s.regs.pc) a code);
-  away = (let from = code.0.0 in λ e. omega arith);
+alone_left : (l : MemoryMap) (image : List ℕ) (s t : State) → IsApart l → Alone image s → IsLeft (eval_frame l) s t
+    → Alone image t
+alone_left l image s t a h left = record {
+  temps = left.free h.temps;
+  stack = left.stack ∙ h.stack;
+  unmasked = ap (λ (m : Bool × Bool). m.0) left.masks ∙ h.unmasked;
+  same = λ at le. left.bytes at (λ o. (let low = written_low l at a o in absurd (omega arith))) ∙ h.same at le;
 }
 
-rules_same : (l : MemoryMap) (image : List ℕ) (i : Instr) (f : Form) (flags d : ℕ) (p : Rule) (ps : List Rule)
-    (s t : State) → IsApart l
-    → IsRulesOver (Reads l) (Writes l) i f flags d p ps s t → SameHigh image s.mem → SameHigh image t.mem
-rules_same l image i f flags d p ps s t a h same =
-    subst (λ (u : State). SameHigh image u.mem) (sym h.step.after)
-    (all_high f image s.mem p ps (written_below l (rules_written f p ps) a h.writes) (record { same = same })).same
-
-over : (open_to : ℕ → Bool) (l : MemoryMap) (image : List ℕ) (flags d : ℕ) (s t : State) → IsShut open_to l → IsApart l
-    → l.wait < l.eval → Alone image s → t.regs.sp ≡ s.regs.sp
-    → Each (IsIn (code_region l)) (six_from s.regs.pc) → IsInstructionOver (Reads l) (Writes l) flags d s t
-    → Carried open_to l image flags d s t
-over open_to l image flags d s t u a w h sp code (inl p) =
-    let i = p.0 in
-    let o = p.1.0 in
-    let e = effect flags i s.regs s.mem in
-    let low : s.regs.sp ≤ 0x2000 = omega (arith, h.stack) in
-    record {
-      instruction = inl (
-        i,
-        (
-          record {
-            step = o.step;
-            reads = all_read open_to l s.regs.sp (read_by (act_of flags i s.regs) s.mem) u a low o.reads;
-            writes = all_written open_to l (min s.regs.sp t.regs.sp) (addresses e.writes) u a o.writes;
-            uncovers = λ at g. inl (ap (λ k. is_hidden open_to k at) (sym sp) ∙ g);
-          },
-          p.1.1,
-        ),
-      );
-      temps = ap (λ (u : State). u.temps) o.step.after ∙ h.temps;
-      same = subst (λ (u : State). SameHigh image u.mem) (sym o.step.after)
-          (high_writes image s.mem e.writes (writes_low l e.writes a o.writes) h.same);
-    }
-over open_to l image flags d s t u a w h sp code (inr (inl q)) =
-    let low : s.regs.sp ≤ 0x2000 = omega (arith, h.stack) in
-    record {
-      instruction =
-          inr (inl (q.0, q.1, over_rules open_to l Rev _ flags d q.0 q.1 s t u a w low code q.2));
-      temps =
-          ap (λ (u : State). u.temps) q.2.step.after ∙ h.temps;
-      same =
-          rules_same l image Rev _ flags d q.0 q.1 s t a q.2 h.same;
-    }
-over open_to l image flags d s t u a w h sp code (inr (inr (inl q))) =
-    let low : s.regs.sp ≤ 0x2000 = omega (arith, h.stack) in
-    record {
-      instruction =
-          inr (inr (inl (q.0, q.1, over_rules open_to l Revw _ flags d q.0 q.1 s t u a w low code q.2)));
-      temps =
-          ap (λ (u : State). u.temps) q.2.step.after ∙ h.temps;
-      same =
-          rules_same l image Revw _ flags d q.0 q.1 s t a q.2 h.same;
-    }
-over open_to l image flags d s t u a w h sp code (inr (inr (inr o))) =
-    let low : s.regs.sp ≤ 0x2000 = omega (arith, h.stack) in
-    record {
-      instruction =
-          inr
-          (inr
-          (inr (record {
-            step = o.step;
-            some = o.some;
-            reads = all_read open_to l s.regs.sp _ u a low o.reads;
-            away =
-                (let next = code.1.0.0 in λ e. omega arith);
-          })));
-      temps = ap (λ (u : State). u.temps) o.step.after;
-      same = subst (λ (u : State). SameHigh image u.mem) (sym o.step.after) h.same;
-    }
-
-interruptible_step : (open_to : ℕ → Bool) (l : MemoryMap) (image : List ℕ) (flags d : ℕ) (s t : State)
-    → IsShut open_to l
-    → IsApart l → l.wait < l.eval → IsInCode l → Alone image s → IsEvalStep l flags d s t
-    → IsInterruptibleStep open_to l image flags d s t × Alone image t
-interruptible_step open_to l image flags d s t u a w c h e =
-    let k = over open_to l image flags d s t u a w h e.stack e.code e.instruction in
+interruptible_execution : FramesLeave → (open_to : ℕ → Bool) (l : MemoryMap) (image : List ℕ) (flags : ℕ) (ds : List ℕ)
+    (s t : State) → IsShut open_to l → IsApart l → l.wait < l.eval → IsInCode l → Alone image s
+    → IsRunIn (eval_frame l) flags ds s t → Execution (IsInterruptibleStep open_to l image flags) ds s t
+interruptible_execution leave open_to l image flags [] s t u a w c h e = e
+interruptible_execution leave open_to l image flags (d ∷ ds) s t u a w c h r =
+    let e = r.1.0 in
     let from = e.code.0.0 in
-    let low : s.regs.sp ≤ 0x2000 = omega (arith, h.stack) in (
-      record {
-        busy = not_at l s s.regs.pc refl (λ q. omega arith);
-        interruptible = record {
-          temps = h.temps;
-          size = e.between.size;
-          bytes = e.between.bytes;
-          fits = e.between.fits;
-          stack =
-              inl h.stack;
-          mask = h.unmasked;
-          same = h.same;
-          code =
-              code_seen open_to l s.regs.sp (six_from s.regs.pc) u a c low e.code;
-        };
-        instruction = k.instruction;
-      },
-      record {
-        temps = k.temps;
-        stack = e.stack ∙ h.stack;
-        unmasked = ap (λ (m : Bool × Bool). m.0) e.masks
-            ∙ h.unmasked;
-        same = k.same;
-      },
+    let low : s.regs.sp ≤ 0x2000 = omega (arith, h.stack) in
+    let left = leave (eval_frame l) flags (d ∷ []) s r.0 (r.0, (e, refl)) in
+    let step : IsInterruptibleStep open_to l image flags d s r.0 = record {
+      busy = not_at l s s.regs.pc refl (λ q. omega arith);
+      interruptible = record {
+        temps = h.temps;
+        size = e.between.size;
+        bytes = e.between.bytes;
+        fits = e.between.fits;
+        stack = inl h.stack;
+        mask = h.unmasked;
+        same = h.same;
+        code = shown_each (is_hidden open_to s.regs.sp) (IsIn (eval_frame l).code)
+            (λ at i. high_shown open_to s.regs.sp at (u.code at (omega (arith, c.from, i.0)) (omega (arith, c.to, i.1)))
+            (omega (arith, a.eval, i.0))) (six_from s.regs.pc) e.code;
+      };
+      instruction = shown open_to l flags d s r.0 u a w low e;
+    } in (
+      r.0,
+      (
+        step,
+        interruptible_execution leave open_to l image flags ds r.0 t u a w c (alone_left l image s r.0 a h left) r.1.1,
+      ),
     )
 
-interruptible_execution : (open_to : ℕ → Bool) (l : MemoryMap) (image : List ℕ) (flags : ℕ) (ds : List ℕ) (s t : State)
-    → IsShut open_to l → IsApart l → l.wait < l.eval → IsInCode l → Alone image s
-    → Execution (IsEvalStep l flags) ds s t
-    → Execution (IsInterruptibleStep open_to l image flags) ds s t × Alone image t
-interruptible_execution open_to l image flags [] s t u a w c h e = (e, subst (Alone image) e h)
-interruptible_execution open_to l image flags (d ∷ ds) s t u a w c h e =
-    let one = interruptible_step open_to l image flags d s e.0 u a w c h e.1.0 in
-    let rest = interruptible_execution open_to l image flags ds e.0 t u a w c one.1 e.1.1 in
-    ((e.0, (one.0, rest.0)), rest.1)
-
 found : (l : MemoryMap) (b : Block) (w : Width) (image mem : List ℕ) → IsApart l → HasEval l b w image
-    → SameHigh image mem
+    → AgreeFrom stack_end image mem
     → HasEval l b w mem
 found l b w image mem a h same =
     let low = a.eval in
@@ -342,8 +240,8 @@ returned c b w back bytes before s a v h k t g e alone =
       steps = omega (arith, g.steps, steps_append g.ds (0 ∷ []));
     }
 
-pub called : EvalAnswers → CalledEvalReturns
-called go c b w back bytes before s a v limits h i k =
+pub called : EvalAnswers → FramesLeave → CalledEvalReturns
+called go leave c b w back bytes before s a v limits h i k =
     let l = c.memory_map in
     let state = k.interruptible in
     let at : IsAtEval l b w bytes before s =
@@ -357,6 +255,7 @@ called go c b w back bytes before s a v limits h i k =
     let alone : Alone c.image s =
     record { temps = state.temps; stack = k.sp; unmasked = state.mask; same = state.same } in
     let r = go l b w c.flags bytes before s a v limits c.fits i at in
-    let e = interruptible_execution c.open_to l c.image c.flags r.1.ds s r.0 c.shut a h.above h.inside alone
-    r.1.execution in
-    returned c b w back bytes before s a v h k r.0 r.1 e.0 e.1
+    let e = r.1 in
+    returned c b w back bytes before s a v h k r.0 e
+    (interruptible_execution leave c.open_to l c.image c.flags e.ds s r.0 c.shut a h.above h.inside alone e.run)
+    (alone_left l c.image s r.0 a alone (leave (eval_frame l) c.flags e.ds s r.0 e.run))

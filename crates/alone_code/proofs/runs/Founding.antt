@@ -25,11 +25,11 @@ start_stands stand image front l h rise =
 
 -- its frame in three pieces
 abbrev pub turn_code : MemoryMap → List Instr
-turn_code l = Beq 0xFB ∷ JsrExtended l.eval ∷ ClrExtended l.ready ∷ Bra 0xF3 ∷ []
+turn_code l = Beq 0xFB ∷ JsrExtended l.eval ∷ ClrExtended l.sample_flag ∷ Bra 0xF3 ∷ []
 
 pub record FrameBytes (image : List ℕ) (l : MemoryMap) : Type 0 where
   pub start : HasBytes image l.code (code_bytes (start_code l))
-  pub load : HasBytes image (l.code + 8) (encode_of (LdaaExtended l.ready))
+  pub load : HasBytes image (l.code + 8) (encode_of (LdaaExtended l.sample_flag))
   pub turn : HasBytes image (l.code + 8 + 3) (code_bytes (turn_code l))
 
 pub frame_bytes : (image : List ℕ) (l : MemoryMap) → HasBytes image l.code (code_bytes (frame_code l))
@@ -37,16 +37,16 @@ pub frame_bytes : (image : List ℕ) (l : MemoryMap) → HasBytes image l.code (
 frame_bytes image l h =
     let rest = Rti ∷ [] in
     let h1 = bytes_back image l.code (code_bytes (start_code l))
-    (code_bytes (LdaaExtended l.ready ∷ (turn_code l ++ rest))) h in
-    let h2 = bytes_back image (l.code + 8) (encode_of (LdaaExtended l.ready)) (code_bytes (turn_code l ++ rest)) h1 in
+    (code_bytes (LdaaExtended l.sample_flag ∷ (turn_code l ++ rest))) h in
+    let h2 = bytes_back image (l.code + 8) (encode_of (LdaaExtended l.sample_flag)) (code_bytes (turn_code l ++ rest)) h1 in
     record {
       start = bytes_front image l.code (code_bytes (start_code l))
-          (code_bytes (LdaaExtended l.ready ∷ (turn_code l ++ rest))) h;
-      load = bytes_front image (l.code + 8) (encode_of (LdaaExtended l.ready)) (code_bytes (turn_code l ++ rest)) h1;
+          (code_bytes (LdaaExtended l.sample_flag ∷ (turn_code l ++ rest))) h;
+      load = bytes_front image (l.code + 8) (encode_of (LdaaExtended l.sample_flag)) (code_bytes (turn_code l ++ rest)) h1;
       turn = bytes_front image (l.code + 8 + 3) (code_bytes (turn_code l)) (code_bytes rest) h2;
     }
 
-pub has_frame : (c : Setting) → c.open_to c.memory_map.ready ≡ false → IsFramed c.memory_map → IsApart c.memory_map
+pub has_frame : (c : Setting) → c.open_to c.memory_map.sample_flag ≡ false → IsFramed c.memory_map → IsApart c.memory_map
     → FrameBytes c.image c.memory_map → HasFrame c
 has_frame c shown f a h =
     let l = c.memory_map in
@@ -65,7 +65,7 @@ has_frame c shown f a h =
       shown = shown;
       from = omega arith;
       to = omega arith;
-      load = ap (decode_at c.image) w ∙ c.decodes c.image (l.code + 8) (LdaaExtended l.ready) (omega arith)
+      load = ap (decode_at c.image) w ∙ c.decodes c.image (l.code + 8) (LdaaExtended l.sample_flag) (omega arith)
           (omega arith) h.load;
       rest = subst (λ p. Stands c p (turn_code l)) e3
           (stands_of c (l.code + 8 + 3) (turn_code l)

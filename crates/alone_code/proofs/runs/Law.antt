@@ -116,7 +116,7 @@ record Founded (c : Setting) (b : Block) (w : Width) : Type 0 where
   arrived : Arrived c b w
 
 -- its items are in order, can be placed, and are few
-main_in_order : IsInOrder main_map (frame_code main_map) (Rts ∷ [])
+pub main_in_order : IsInOrder main_map (frame_code main_map) (Rts ∷ [])
 main_in_order = search arith
 
 pub main_rises : BlockRises → (b : Block) (w : Width) → IsValid b → IsWithinLimits b
@@ -157,7 +157,7 @@ founded laws open_to leaves b w image flags fits v limits h =
         apart = main_apart;
         valid = v;
         limits = limits;
-        eval_answers = laws.eval_answers;
+        called = laws.called;
         routine = firmware.routine;
         frame = has_frame c leaves.ready main_framed main_apart fb;
       };

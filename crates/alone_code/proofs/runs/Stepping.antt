@@ -1,21 +1,27 @@
 -- One instruction of the code around EVAL, and where it leads.
-use Rattle.alone_code.proofs.Words.{[], ◌&&◌, ◌+◌, ◌<◌, ◌==◌, ◌^◌, ◌∙◌, ◌∷◌, ◌≡◌, ◌≢◌, ◌≤◌, ◌⊎◌, act_of, addresses}
+use Rattle.alone_code.proofs.Words.{[], ◌&&◌, ◌+◌, ◌-◌, ◌<◌, ◌==◌, ◌^◌, ◌∙◌, ◌∷◌, ◌≡◌, ◌≢◌, ◌≤◌, ◌⊎◌, act_of, addresses}
 use Rattle.alone_code.proofs.Words.{after_plain, AllShown, ap, arith, Beq, Bool, bytes_back, bytes_front, ClrExtended}
 use Rattle.alone_code.proofs.Words.{code_bytes, code_room, decode_at, decode_same, Each, effect, encode_of, false}
 use Rattle.alone_code.proofs.Words.{has, Here, high_writes, if◌then◌else◌, inl, inr, Instr, is_hidden, is_idle}
 use Rattle.alone_code.proofs.Words.{IsInterruptibleStep, IsShut, IsSteady, length, length-append, List, Live, Lives}
 use Rattle.alone_code.proofs.Words.{masked_four, MemoryMap, min, nat_le, nat_lt, nat_tests, Next, Ok, plus, read_by}
-use Rattle.alone_code.proofs.Words.{refl, Setting, six_from, State, sym, true, WriteBelow, ℕ, ⊎_elim}
-use Rattle.cpu12_isa.specs.{Agreement.Uncovers, Code.FitsOperands, Meaning.is_plain}
-use Rattle.eval_code.specs.{Masks.interrupt_masks}
-use Rattle.alone_code.specs.{Interruptible.IsShownPlain, Settings.InstructionGoesOn}
+use Rattle.alone_code.proofs.Words.{refl, Setting, six_from, stack_end, State, sym, true, WriteBelow, ℕ, ⊎_elim}
+use Rattle.cpu12_isa.specs.{Agreement.Uncovers, Code.FitsOperands, Meaning.is_plain, Regions.stack_start}
+use Rattle.cpu12_isa.specs.Plain.{interrupt_masks}
+use Rattle.alone_code.specs.{Interruptible.IsShownPlain, Interruptible.IsStackOfOneCall, Settings.InstructionGoesOn}
 use Rattle.eval_code.proofs.{Algebra.below_more, Algebra.bytes_writes}
 use Rattle.cpu12_isa.proofs.Algebra.{length_writes}
 use Rattle.alone_code.specs.Settings.{InstructionsStand, LiveIsInterruptible}
 use Rattle.cpu12_parts.proofs.Algebra.{Bounded, bounded_one, bounded_on}
+use Rattle.eval_code.proofs.Algebra.{all_shown, six_each}
 
-pub sp_high : (s : State) → (s.regs.sp ≡ 0x1FFE) ⊎ (s.regs.sp ≡ 0x2000) → s.regs.sp ≤ 0x2000
-sp_high s h = ⊎_elim (λ l. omega arith) (λ r. omega arith) h
+-- SP while a call may be open, and with room for an interrupt
+pub sp_near : (sp : ℕ) → IsStackOfOneCall sp → (stack_end - 2 ≤ sp) × (sp ≤ stack_end)
+sp_near sp (inl e) = (omega arith, omega arith)
+sp_near sp (inr e) = (omega arith, omega arith)
+
+pub in_room : (sp : ℕ) → IsStackOfOneCall sp → (stack_start + 15 ≤ sp) × (sp ≤ stack_end)
+in_room sp h = let near = sp_near sp h in (omega (arith, near.0), near.1)
 
 -- a byte that is not open is shown below the stack, and from SP on
 pub low_shown : (open_to : ℕ → Bool) (sp at : ℕ) → open_to at ≡ false → at < 0x1800 → is_hidden open_to sp at ≡ false
@@ -35,14 +41,9 @@ pub code_shown : (open_to : ℕ → Bool) (l : MemoryMap) (sp pc : ℕ) → IsSh
 code_shown open_to l sp pc shut a b c =
     let lo = shut.low in
     let hi = shut.high in
-    let at : (k : ℕ) → k ≤ 5 → is_hidden open_to sp (plus pc k) ≡ false =
-    λ k le. high_shown open_to sp (plus pc k) (shut.code (plus pc k) (omega arith) (omega arith)) (omega arith) in (
-      high_shown open_to sp pc (shut.code pc (omega arith) (omega arith)) (omega arith),
-      (
-        at 1 (omega arith),
-        (at 2 (omega arith), (at 3 (omega arith), (at 4 (omega arith), (at 5 (omega arith), tt)))),
-      ),
-    )
+    all_shown (is_hidden open_to sp) (six_from pc)
+    (six_each (λ at. is_hidden open_to sp at ≡ false) pc (omega arith)
+    (λ at from to. high_shown open_to sp at (shut.code at (omega arith) (omega arith)) (omega arith)))
 
 pub steady_of : (c : Setting) (masked : Bool) (s : State) → Lives c.image masked s → c.memory_map.code ≤ s.regs.pc
     → s.regs.pc + 6 ≤ c.memory_map.code + code_room → IsSteady c.open_to masked c.image s
@@ -54,7 +55,7 @@ steady_of c masked s l lo hi = record {
   stack = l.stack;
   mask = l.mask;
   same = l.same;
-  code = code_shown c.open_to c.memory_map s.regs.sp s.regs.pc c.shut (sp_high s l.stack) lo hi;
+  code = code_shown c.open_to c.memory_map s.regs.sp s.regs.pc c.shut (sp_near s.regs.sp l.stack).1 lo hi;
 }
 
 pub interruptible_of : LiveIsInterruptible
@@ -82,7 +83,7 @@ pub plain_went : (c : Setting) (masked later : Bool) (s : State) (p q : ℕ) (i 
     → Uncovers (is_hidden c.open_to s.regs.sp) (effect c.flags i s.regs s.mem).writes
     (is_hidden c.open_to (effect c.flags i s.regs s.mem).regs.sp)
     → WriteBelow 0x2000 (effect c.flags i s.regs s.mem).writes
-    → ((effect c.flags i s.regs s.mem).regs.sp ≡ 0x1FFE) ⊎ ((effect c.flags i s.regs s.mem).regs.sp ≡ 0x2000)
+    → IsStackOfOneCall (effect c.flags i s.regs s.mem).regs.sp
     → has (effect c.flags i s.regs s.mem).regs.ccr 4 ≡ later
     → (effect c.flags i s.regs s.mem).regs.pc ≡ q
     → Went c later i s (after_plain c.flags i s) q
@@ -124,7 +125,7 @@ pub plain_next : (c : Setting) (s : State) (p q : ℕ) (i : Instr) → Live c s 
     → Uncovers (is_hidden c.open_to s.regs.sp) (effect c.flags i s.regs s.mem).writes
     (is_hidden c.open_to (effect c.flags i s.regs s.mem).regs.sp)
     → WriteBelow 0x2000 (effect c.flags i s.regs s.mem).writes
-    → ((effect c.flags i s.regs s.mem).regs.sp ≡ 0x1FFE) ⊎ ((effect c.flags i s.regs s.mem).regs.sp ≡ 0x2000)
+    → IsStackOfOneCall (effect c.flags i s.regs s.mem).regs.sp
     → interrupt_masks (effect c.flags i s.regs s.mem).regs.ccr ≡ interrupt_masks s.regs.ccr
     → (effect c.flags i s.regs s.mem).regs.pc ≡ q
     → Next c s (after_plain c.flags i s) q

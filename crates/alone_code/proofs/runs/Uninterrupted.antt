@@ -6,11 +6,10 @@ use Rattle.alone_code.proofs.Words.{is_idle, IsInterruptibleStep, IsShownInstruc
 use Rattle.alone_code.proofs.Words.{MemoryMap, nat_tests, places, PlainExecution, refl, reset_with, State, subst, suc}
 use Rattle.alone_code.proofs.Words.{sym, true, values_in, Width, Word, zero, ℕ}
 use Rattle.alone_code.specs.Uninterrupted.{value_at, values_from, is_waiting, UninterruptedAreOne, answers_by}
-use Rattle.alone_code.specs.Uninterrupted.{AnsweredAreUninterrupted}
+use Rattle.alone_code.specs.Uninterrupted.{AnsweredAreUninterrupted, FirmwareIsUninterrupted}
 use Rattle.cpu12_isa.specs.{Memory.word_of}
 use Rattle.cpu12_parts.specs.{Whole.IsWholeStep, Executions.IsUntil, Executions.ExecutionsAreOne}
 use Rattle.alone_code.specs.{Answers.AreAnswered}
-use Rattle.alone_code.specs.Uninterrupted.{FirmwareIsUninterrupted}
 
 -- They have one value.
 answer_is : (a b : Answer) → a.values ≡ b.values → a.instructions ≡ b.instructions → a ≡ b
@@ -42,12 +41,12 @@ uninterrupted_are_one one f flags samples xs ys a b =
     (subst (AreAnswersTo f flags samples ys) (sym same.1) b.each)
 
 -- a step on which an interrupt may come is a whole instruction
-whole : (open_to : ℕ → Bool) (l : MemoryMap) (flags d : ℕ) (s t : State) → IsShownInstruction open_to l flags d s t
+whole : (open_to : ℕ → Bool) (wait flags d : ℕ) (s t : State) → IsShownInstruction open_to wait flags d s t
     → IsWholeStep flags d s t
-whole open_to l flags d s t (inl p) = inl (p.0, (p.1.0.step, p.1.1))
-whole open_to l flags d s t (inr (inl p)) = inr (inl (p.0, p.1, p.2.step))
-whole open_to l flags d s t (inr (inr (inl p))) = inr (inr (inl (p.0, p.1, p.2.step)))
-whole open_to l flags d s t (inr (inr (inr p))) = inr (inr (inr p.step))
+whole open_to wait flags d s t (inl p) = inl (p.0, (p.1.0.step, p.1.1))
+whole open_to wait flags d s t (inr (inl p)) = inr (inl (p.0, p.1, p.2.step))
+whole open_to wait flags d s t (inr (inr (inl p))) = inr (inr (inl (p.0, p.1, p.2.step)))
+whole open_to wait flags d s t (inr (inr (inr p))) = inr (inr (inr p.step))
 
 pub uninterrupted : (open_to : ℕ → Bool) (l : MemoryMap) (image : List ℕ) (flags : ℕ) (ds : List ℕ) (s t : State)
     → Execution (IsInterruptibleStep open_to l image flags) ds s t
@@ -56,7 +55,7 @@ uninterrupted open_to l image flags [] s t e = e
 uninterrupted open_to l image flags (d ∷ ds) s t e = (
   e.0,
   (
-    record { on = e.1.0.busy; step = whole open_to l flags d s e.0 e.1.0.instruction },
+    record { on = e.1.0.busy; step = whole open_to l.wait flags d s e.0 e.1.0.instruction },
     uninterrupted open_to l image flags ds e.0 t e.1.1,
   ),
 )

@@ -43,8 +43,7 @@ with_code laws b w image flags fits v limits firmware =
       inputs = refl;
       valid = v;
       limits = limits;
-      eval_answers =
-          laws.eval_answers;
+      called = laws.called;
       routine = firmware.routine;
       call = call.call;
       back = call.back;

@@ -1,15 +1,14 @@
 -- EVAL is called on the copy, and the code waits again.
 use Rattle.alone_code.proofs.Words.{[], ◌%◌, ◌*◌, ◌++◌, ◌+◌, ◌-◌, ◌/◌, ◌<◌, ◌^◌, ◌∙◌, ◌∷◌, ◌≡◌, ◌≤◌, after_plain, ap}
-use Rattle.alone_code.proofs.Words.{ap₂, AreInputBytes, arith, Back, Block, Bool, Bra, bytes_of, bytes_set_out}
-use Rattle.alone_code.proofs.Words.{EvalAnswers, execution_on, false, get_or, get_or-set_other, HasAnswers, HasBytes}
-use Rattle.alone_code.proofs.Words.{HasRoutine, Here, if◌then◌else◌, inl, inr, instruction_bound, is_postable}
-use Rattle.alone_code.proofs.Words.{IsApart, IsAt, IsCalled, IsInterruptibleStep, IsValid, IsWithinLimits}
-use Rattle.alone_code.proofs.Words.{JsrExtended, length, length-append, List, Live, mailbox_bound, mailbox_map}
-use Rattle.alone_code.proofs.Words.{nat_lt, nat_tests, Next, places, plus, refl, set, State, steps_append, steps_by}
-use Rattle.alone_code.proofs.Words.{subst, sym, Width, ℕ}
-use Rattle.alone_code.specs.{Turns.IsTurned}
-use Rattle.alone_code.proofs.{runs.Stepping.next, runs.Stepping.interruptible_of, runs.Calling.called}
-use Rattle.alone_code.proofs.runs.Framing.{answer_room, pushed_word, jsr_run}
+use Rattle.alone_code.proofs.Words.{ap₂, AreInputBytes, arith, Back, Block, Bool, Bra, bytes_of, execution_on, false}
+use Rattle.alone_code.proofs.Words.{get_or, get_or-set_other, HasAnswers, HasBytes, HasRoutine, Here, if◌then◌else◌}
+use Rattle.alone_code.proofs.Words.{inl, inr, instruction_bound, is_postable, IsApart, IsAt, IsCalled}
+use Rattle.alone_code.proofs.Words.{IsInterruptibleStep, IsValid, IsWithinLimits, JsrExtended, length, length-append}
+use Rattle.alone_code.proofs.Words.{List, Live, mailbox_bound, mailbox_map, nat_lt, nat_tests, Next, places, plus}
+use Rattle.alone_code.proofs.Words.{refl, set, State, steps_append, steps_by, subst, sym, Width, ℕ}
+use Rattle.alone_code.specs.{Calls.CalledEvalReturns, Turns.IsTurned}
+use Rattle.alone_code.proofs.{runs.Stepping.next, runs.Stepping.interruptible_of}
+use Rattle.alone_code.proofs.runs.Framing.{answer_room, pushed_word, pushed_bytes, jsr_run}
 use Rattle.alone_code.proofs.turns.Posting.{Post, post_ctx, lives_of, at_of}
 
 -- what a turn stands on
@@ -18,7 +17,7 @@ pub record Turns (p : Post) (b : Block) (w : Width) : Type 0 where
   pub inputs : length b.inputs ≡ p.n
   pub valid : IsValid b
   pub limits : IsWithinLimits b
-  pub eval_answers : EvalAnswers
+  pub called : CalledEvalReturns
   pub routine : HasRoutine (mailbox_map p.n) b w p.image
   pub call : Here (post_ctx p) (0xC014 + 6 * p.n) (JsrExtended (0xC01A + 6 * p.n))
   pub back : Here (post_ctx p) (0xC017 + 6 * p.n) (Bra (239 - 6 * p.n))
@@ -123,15 +122,13 @@ turn_run p b w bytes before s h i at hi ho =
     let m1 = set s.mem 0x1FFE (ret / 2 ^ 8) in
     let keep : HasBytes r.t.mem 0x1001 bytes =
     subst (λ x. HasBytes x 0x1001 bytes) (sym r.mem_is)
-    (bytes_set_out m1 0x1FFF (ret % 2 ^ 8) 0x1001 bytes (inl (omega arith))
-    (bytes_set_out s.mem 0x1FFE (ret / 2 ^ 8) 0x1001 bytes (inl (omega arith)) hi)) in
+    (pushed_bytes s.mem ret 0x1001 bytes (omega arith) hi) in
     let kept : HasAnswers l b w before r.t.mem = λ o lo le.
     (let q = 0x1010 + places w * (o - 1) in
     let vs = bytes_of w (before o) in
     let room = answer_room w o (before o) lo (omega arith) in
     subst (λ (m : List ℕ). HasBytes m q vs) (sym r.mem_is)
-    (bytes_set_out m1 0x1FFF (ret % 2 ^ 8) q vs (inl (omega arith))
-    (bytes_set_out s.mem 0x1FFE (ret / 2 ^ 8) q vs (inl (omega arith)) (ho o lo le)))) in
+    (pushed_bytes s.mem ret q vs (omega arith) (ho o lo le))) in
     let pushed : get_or r.t.mem 0x1FFE 0 * 2 ^ 8 + get_or r.t.mem 0x1FFF 0 ≡ ret =
     ap (λ (x : List ℕ). get_or x 0x1FFE 0 * 2 ^ 8 + get_or x 0x1FFF 0) r.mem_is ∙ pushed_word s.mem ret size in
     let k : IsCalled is_postable l b w p.image ret bytes before r.t = record {
@@ -143,4 +140,4 @@ turn_run p b w bytes before s h i at hi ho =
       outputs = kept;
     } in
     left p b w bytes before s h at r
-    (called h.eval_answers (post_ctx p) b w ret bytes before r.t h.apart h.valid h.limits h.routine i k)
+    (h.called (post_ctx p) b w ret bytes before r.t h.apart h.valid h.limits h.routine i k)

@@ -1,8 +1,8 @@
 -- EVAL, from its first instruction to behind its last.
 use Rattle.eval_code.proofs.Words.{[], ◌*◌, ◌++◌, ◌+◌, ◌-◌, ◌∙◌, ◌∷◌, ◌≡◌, ◌≤◌, after_plain, All, ap, append-nil}
 use Rattle.eval_code.proofs.Words.{AreInputBytes, arith, Block, complement_count, Conjunction, conjunctions_of, drop}
-use Rattle.eval_code.proofs.Words.{element_count, element_width, entry_count, eval_code, fired, Form, form_bound}
-use Rattle.eval_code.proofs.Words.{form_of, fuzzify_code, get_or, inl, Input, input_slots, input_term_count}
+use Rattle.eval_code.proofs.Words.{element_count, element_width, entry_count, eval_code, fired, RuleInstruction, revw_bound}
+use Rattle.eval_code.proofs.Words.{instruction_of, fuzzify_code, get_or, inl, Input, input_slots, input_term_count}
 use Rattle.eval_code.proofs.Words.{input_terms, Instr, IsValid, IsValidOutput, IsWithinLimits, LdxImmediate}
 use Rattle.eval_code.proofs.Words.{LdyImmediate, length, length-append, length-drop, length-map, length-take, List}
 use Rattle.eval_code.proofs.Words.{list_size, list_words, map, marked, MemoryMap, output_term_count, outputs_code}
@@ -22,9 +22,9 @@ use Rattle.eval_code.proofs.phases.Ruling.{AreFull, address, AtRules, rev_run, r
 use Rattle.eval_code.proofs.phases.RuleFacts.{BlockFacts, HasRules, has_rules, all_below, weights_below, rev_is_plain}
 use Rattle.eval_code.proofs.steps.Stepping.{Ctx, Live, Stands, Goes, goes_one, goes_on, stands_front, stands_back}
 use Rattle.eval_code.proofs.steps.Stepping.{Reaches, reaches_at, reaches_after}
-use Rattle.eval_code.proofs.steps.Instructions.{ldx, ldy}
+use Rattle.eval_code.proofs.steps.Instructions.{straight}
 use Rattle.eval_code.proofs.phases.Outputs.{outputs_run, output_answers, all_bytes, length-all_bytes, places_few}
-use Rattle.rule_layout.specs.declared.flat.Form.TheVariants as form
+use Rattle.rule_layout.specs.declared.flat.RuleInstruction.TheVariants as instruction
 
 -- the masses as the slots hold them
 abbrev pub masses : Block → List ℕ → List ℕ
@@ -49,7 +49,7 @@ pub outputs_few : (b : Block) → IsValid b → sum_by singleton_count b.outputs
 outputs_few b v = omega (arith, sum_by-le singleton_count 15 b.outputs (few_singletons b v), v.few_outputs)
 
 pub list_size-le : (b : Block) → IsWithinLimits b
-    → element_width (form_of b) * length (marked 0xFE 0xFF (conjunctions_of b)) ≤ 9984
+    → element_width (instruction_of b) * length (marked 0xFE 0xFF (conjunctions_of b)) ≤ 9984
 unfolding list_size
 list_size-le b h = h.short_list
 
@@ -144,8 +144,8 @@ outputs_on c b w bytes bs m s p h live ep st lm em hb =
     reaches_at c _ _ _ _ s _ _ _ _ (omega arith) (omega arith) refl
     (ap (λ x. put x l.outputs (all_bytes w (output_answers w b.outputs (masses b bytes) bs))) em) r
 
--- what the rules stand on, in either form
-record RulesHere (c : Ctx) (m ss : List ℕ) (f : Form) (s : State) (p : ℕ) (cs : List Conjunction)
+-- what the rules stand on, in either instruction
+record RulesHere (c : Ctx) (m ss : List ℕ) (f : RuleInstruction) (s : State) (p : ℕ) (cs : List Conjunction)
     (ws : List ℕ) : Type 0 where
   live : Live c s
   pc_is : s.regs.pc ≡ p
@@ -154,25 +154,25 @@ record RulesHere (c : Ctx) (m ss : List ℕ) (f : Form) (s : State) (p : ℕ) (c
   size : length m ≡ 65536
   below : AllBelow (length ss) cs
   light : Below 256 ws
-  plain : f ≡ form.Rev → (length ss ≤ 254) × AreFull ws
+  plain : f ≡ instruction.Rev → (length ss ≤ 254) × AreFull ws
   few : length ss ≤ 300
   rules : HasBytes c.image c.memory_map.rules (rule_bytes_by c.memory_map.slots f cs)
   weights : HasBytes c.image c.memory_map.weights (weight_bytes_by f ws)
   rules_few : element_width f * length (marked 0xFE 0xFF cs) ≤ 9984
   weights_few : length ws ≤ 512
 
-rules_at : (c : Ctx) (m ss : List ℕ) (f : Form) (s : State) (p : ℕ) (k : Conjunction) (ks : List Conjunction) (w : ℕ)
+rules_at : (c : Ctx) (m ss : List ℕ) (f : RuleInstruction) (s : State) (p : ℕ) (k : Conjunction) (ks : List Conjunction) (w : ℕ)
     (vs : List ℕ) → length vs ≡ length ks
     → RulesHere c m ss f s p (k ∷ ks) (w ∷ vs)
-    → Reaches c (5 + form_bound f) (sum_by entry_count (k ∷ ks) - 1) s (p + code_size (rules_code c.memory_map f))
+    → Reaches c (5 + revw_bound f) (sum_by entry_count (k ∷ ks) - 1) s (p + code_size (rules_code c.memory_map f))
     (put m c.memory_map.slots (fired ss (k ∷ ks) (w ∷ vs)))
-rules_at c m ss form.Rev s p k ks w vs e h =
+rules_at c m ss instruction.Rev s p k ks w vs e h =
     let plain = h.plain refl in
     let at : AtRules c m ss k ks w vs s =
     record { live = h.live; mem_is = h.mem_is; size = h.size; below = h.below; weights = e; few = h.few } in
     reaches_at c _ _ _ _ s _ _ _ _ (omega arith) (omega arith) refl refl
     (rev_run c m ss k ks w vs s p at h.pc_is h.code plain.1 plain.0 h.rules (omega (arith, h.rules_few)))
-rules_at c m ss form.Revw s p k ks w vs e h =
+rules_at c m ss instruction.Revw s p k ks w vs e h =
     let at : AtRules c m ss k ks w vs s =
     record { live = h.live; mem_is = h.mem_is; size = h.size; below = h.below; weights = e; few = h.few } in
     let n : length (list_words c.memory_map.slots (k ∷ ks)) ≡ length (marked 0xFE 0xFF (k ∷ ks)) =
@@ -181,13 +181,13 @@ rules_at c m ss form.Revw s p k ks w vs e h =
     (revw_run c m ss k ks w vs s p at h.pc_is h.code h.light h.rules (omega (arith, h.rules_few)) h.weights
     h.weights_few)
 
-abbrev RulesRun : Ctx → List ℕ → List ℕ → Form → State → ℕ → List Conjunction → List ℕ → Type 0
+abbrev RulesRun : Ctx → List ℕ → List ℕ → RuleInstruction → State → ℕ → List Conjunction → List ℕ → Type 0
 RulesRun c m ss f s p cs ws =
     RulesHere c m ss f s p cs ws
-    → Reaches c (5 + form_bound f) (sum_by entry_count cs - 1) s (p + code_size (rules_code c.memory_map f))
+    → Reaches c (5 + revw_bound f) (sum_by entry_count cs - 1) s (p + code_size (rules_code c.memory_map f))
     (put m c.memory_map.slots (fired ss cs ws))
 
-rules_run : (c : Ctx) (m ss : List ℕ) (f : Form) (s : State) (p : ℕ) (cs : List Conjunction) (ws : List ℕ)
+rules_run : (c : Ctx) (m ss : List ℕ) (f : RuleInstruction) (s : State) (p : ℕ) (cs : List Conjunction) (ws : List ℕ)
     → HasRules cs ws → RulesRun c m ss f s p cs ws
 rules_run c m ss f s p cs ws h =
     subst₂ (λ (a : List Conjunction) (b : List ℕ). RulesRun c m ss f s p a b) (sym h.conjunctions_are)
@@ -196,9 +196,9 @@ rules_run c m ss f s p cs ws h =
 rules_here : (c : Ctx) (b : Block) (w : Width) (bytes bs m : List ℕ) (s : State) (p : ℕ) → Evals c c.memory_map b w
     bytes bs
     → Live c s → s.regs.pc ≡ p
-    → Stands c p (rules_code c.memory_map (form_of b)) → length m ≡ 65536
+    → Stands c p (rules_code c.memory_map (instruction_of b)) → length m ≡ 65536
     → s.mem ≡ put m c.memory_map.slots (slots_before b bytes)
-    → RulesHere c m (slots_before b bytes) (form_of b) s p (conjunctions_of b) (weights_of b)
+    → RulesHere c m (slots_before b bytes) (instruction_of b) s p (conjunctions_of b) (weights_of b)
 rules_here c b w bytes bs m s p h live ep st lm em =
     let lb : length (slots_before b bytes) ≡ length (slots_of b) = length-map (slots_of b) (slot_before b bytes) in
     let few = h.facts.few_slots in
@@ -220,7 +220,7 @@ rules_here c b w bytes bs m s p h live ep st lm em =
 
 -- the rules and the outputs
 abbrev rules_part : MemoryMap → Block → Width → List Instr
-rules_part l b w = rules_code l (form_of b) ++ outputs_part l b w
+rules_part l b w = rules_code l (instruction_of b) ++ outputs_part l b w
 
 rules_on : (c : Ctx) (b : Block) (w : Width) (bytes bs m : List ℕ) (s : State) (p : ℕ) → Evals c c.memory_map b w bytes
     bs
@@ -228,18 +228,18 @@ rules_on : (c : Ctx) (b : Block) (w : Width) (bytes bs m : List ℕ) (s : State)
     → Stands c p (rules_part c.memory_map b w) → length m ≡ 65536 → s.mem ≡ put m c.memory_map.slots
     (slots_before b bytes)
     → HasBytes m c.memory_map.outputs (all_bytes w bs)
-    → Reaches c (5 + form_bound (form_of b) + sum_by (output_most w) b.outputs)
+    → Reaches c (5 + revw_bound (instruction_of b) + sum_by (output_most w) b.outputs)
     (element_count b - 1 + output_parts b.outputs) s (p + code_size (rules_part c.memory_map b w))
     (evaluated c.memory_map b w bytes bs m)
 rules_on c b w bytes bs m s p h live ep st lm em hb =
-    let code = rules_code c.memory_map (form_of b) in
+    let code = rules_code c.memory_map (instruction_of b) in
     let rest = outputs_part c.memory_map b w in
     let r =
-    rules_run c m (slots_before b bytes) (form_of b) s p (conjunctions_of b) (weights_of b) (has_rules b h.facts)
+    rules_run c m (slots_before b bytes) (instruction_of b) s p (conjunctions_of b) (weights_of b) (has_rules b h.facts)
     (rules_here c b w bytes bs m s p h live ep (stands_front c p code rest st) lm em) in
     let q = outputs_on c b w bytes bs m r.t (p + code_size code) h r.live r.pc_is
     (stands_back c p code rest st) lm r.mem_is hb in
-    behind c code rest (5 + form_bound (form_of b)) (element_count b - 1) (sum_by (output_most w) b.outputs)
+    behind c code rest (5 + revw_bound (instruction_of b)) (element_count b - 1) (sum_by (output_most w) b.outputs)
     (output_parts b.outputs) s p r.t (evaluated c.memory_map b w bytes bs m) r.goes r.sp_is q
 
 -- the complements and the cleared slots
@@ -285,7 +285,7 @@ slots_on : (c : Ctx) (b : Block) (w : Width) (bytes bs m : List ℕ) (s : State)
     (grades bytes b.inputs)
     → HasBytes m c.memory_map.outputs (all_bytes w bs)
     → Reaches c (3 * complement_count b + output_term_count
-    b + (5 + form_bound (form_of b) + sum_by (output_most w) b.outputs))
+    b + (5 + revw_bound (instruction_of b) + sum_by (output_most w) b.outputs))
     (0 + (element_count b - 1 + output_parts b.outputs)) s (p + code_size (slots_part c.memory_map b w))
     (evaluated c.memory_map b w bytes bs m)
 slots_on c b w bytes bs m s p h live ep st lm em hb =
@@ -295,7 +295,7 @@ slots_on c b w bytes bs m s p h live ep st lm em hb =
     let q = rules_on c b w bytes bs m r.t (p + code_size code) h r.live r.pc_is
     (stands_back c p code rest st) lm r.mem_is hb in
     behind c code rest (3 * complement_count b + output_term_count b) 0
-    (5 + form_bound (form_of b) + sum_by (output_most w) b.outputs) (element_count b - 1 + output_parts b.outputs) s
+    (5 + revw_bound (instruction_of b) + sum_by (output_most w) b.outputs) (element_count b - 1 + output_parts b.outputs) s
     p r.t (evaluated c.memory_map b w bytes bs m) r.goes r.sp_is q
 
 -- the grades, and what follows
@@ -310,7 +310,7 @@ inputs_on : (c : Ctx) (b : Block) (w : Width) (bytes bs : List ℕ) (s : State) 
     → HasBytes s.mem c.memory_map.outputs (all_bytes w bs)
     → Reaches c (length b.inputs + input_term_count
     b + (3 * complement_count b + output_term_count
-    b + (5 + form_bound (form_of b) + sum_by (output_most w) b.outputs)))
+    b + (5 + revw_bound (instruction_of b) + sum_by (output_most w) b.outputs)))
     (0 + (0 + (element_count b - 1 + output_parts b.outputs))) s (p + code_size (inputs_part c.memory_map b w))
     (evaluated c.memory_map b w bytes bs s.mem)
 inputs_on c b w bytes bs s p h live ep ex ey st hi hb =
@@ -331,7 +331,7 @@ inputs_on c b w bytes bs s p h live ep ex ey st hi hb =
 abbrev pub eval_most : Width → Block → ℕ
 eval_most w b =
     7 + length b.inputs + input_term_count b + 3 * complement_count b + output_term_count b + sum_by
-    (output_most w) b.outputs + form_bound (form_of b)
+    (output_most w) b.outputs + revw_bound (instruction_of b)
 
 abbrev pub eval_parts : Block → ℕ
 eval_parts b = element_count b - 1 + output_parts b.outputs
@@ -346,8 +346,8 @@ eval_run c b w bytes bs s h live ep hi hb =
     let st = h.rom.code in
     let s1 = after_plain c.flags (LdxImmediate c.memory_map.tables) s in
     let s2 = after_plain c.flags (LdyImmediate c.memory_map.slots) s1 in
-    let n1 = ldx c s c.memory_map.eval c.memory_map.tables live ep st.0 st.0.fits in
-    let n2 = ldy c s1 (c.memory_map.eval + 3) c.memory_map.slots n1.live n1.pc_is st.1.0 st.1.0.fits in
+    let n1 = straight c s c.memory_map.eval _ live ep st.0 refl tt tt in
+    let n2 = straight c s1 (c.memory_map.eval + 3) _ n1.live n1.pc_is st.1.0 refl tt tt in
     let q = inputs_on c b w bytes bs s2 (c.memory_map.eval + 3 + 3) h n2.live n2.pc_is refl refl st.1.1 hi hb in
     let g = goes_on c 1 0 1 0 s s1 s2 (goes_one c s s1 (c.memory_map.eval + 3) n1)
     (goes_one c s1 s2 (c.memory_map.eval + 3 + 3) n2) in

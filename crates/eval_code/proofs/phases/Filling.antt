@@ -8,7 +8,7 @@ use Rattle.std.proofs.lemmas.List.{get_or_append_left}
 use Rattle.eval_code.proofs.{steps.Memory.at_put_in, steps.Memory.put_end, Sizes.code_size}
 use Rattle.eval_code.proofs.steps.Stepping.{Ctx, Live, Stands, goes_one, goes_on, Reaches, reaches_none}
 use Rattle.eval_code.proofs.steps.Stepping.{reaches_after, reaches_at}
-use Rattle.eval_code.proofs.steps.Instructions.{ldaa, staa, clr, coma}
+use Rattle.eval_code.proofs.steps.Instructions.{straight}
 
 -- a slot that can be filled from the grades: a complement's term has its grade there
 abbrev pub CanFill : Block → List ℕ → List Input → List ℕ → Slot → Type 0
@@ -55,7 +55,7 @@ slots_run c b bytes inputs gs m base [] done s p at l ep st can ea em lm eb le =
 slots_run c b bytes inputs gs m base (Term i t ∷ ss) done s p at l ep st can ea em lm eb le = absurd can.0
 slots_run c b bytes inputs gs m base (Out o t ∷ ss) done s p at l ep st can ea em lm eb le =
     let s1 = after_plain c.flags (ClrExtended at) s in
-    let n1 = clr c s p at l ep st.0 (inr (inl (omega arith, omega arith))) in
+    let n1 = straight c s p _ l ep st.0 refl tt (inr (inl (omega arith, omega arith)), tt) in
     let r = slots_run c b bytes inputs gs m base ss (done ++ 0 ∷ []) s1 (p + 3) (at + 1) n1.live n1.pc_is st.1 can.1
     (next_place base at gs done 0 ea) (set_next m s.mem base at gs done 0 em ea) lm eb (omega arith) in
     reaches_at c _ _ _ _ s _ _ _ _ (omega arith) (omega arith) (omega arith)
@@ -70,9 +70,9 @@ slots_run c b bytes inputs gs m base (Complement i t ∷ ss) done s p at l ep st
     let s1 = after_plain c.flags (LdaaExtended (base + j)) s in
     let s2 = after_plain c.flags Coma s1 in
     let s3 = after_plain c.flags (StaaExtended at) s2 in
-    let n1 = ldaa c s p (base + j) l ep st.0 (inr (inl (omega arith, omega arith))) in
-    let n2 = coma c s1 (p + 3) n1.live n1.pc_is st.1.0 in
-    let n3 = staa c s2 (p + 3 + 1) at n2.live n2.pc_is st.1.1.0 (inr (inl (omega arith, omega arith))) in
+    let n1 = straight c s p _ l ep st.0 refl (inr (inl (omega arith, omega arith)), tt) tt in
+    let n2 = straight c s1 (p + 3) _ n1.live n1.pc_is st.1.0 refl tt tt in
+    let n3 = straight c s2 (p + 3 + 1) _ n2.live n2.pc_is st.1.1.0 refl tt (inr (inl (omega arith, omega arith)), tt) in
     let ev : get_or s.mem (base + j) 0 ≡ literal_grade b bytes i t = ap (λ k. get_or k (base + j) 0) em
     ∙ at_put_in m base (gs ++ done) j (omega arith) (omega arith) ∙ get_or_append_left gs done 0 j lj ∙ can.0.1 in
     let ew : s3.mem ≡ set s.mem at w = ap (λ k. set s.mem at (255 - k)) ev in

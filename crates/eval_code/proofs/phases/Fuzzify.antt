@@ -8,7 +8,7 @@ use Rattle.eval_code.proofs.Sizes.{code_size, code_size-append}
 use Rattle.eval_code.proofs.steps.Memory.{HasBytes, bytes_front, bytes_back, bytes_put_out, put_append}
 use Rattle.eval_code.proofs.steps.Stepping.{Ctx, Live, Stands, Next, Goes, goes_none, goes_one, goes_on, goes_most}
 use Rattle.eval_code.proofs.steps.Stepping.{stands_front, stands_back, stands_at}
-use Rattle.eval_code.proofs.steps.Instructions.{ldaa, mem, mem_grade}
+use Rattle.eval_code.proofs.steps.Instructions.{straight, mem, mem_grade}
 
 abbrev pub row_bytes : Input → List Trapezoid → List ℕ
 row_bytes i ts = flat_map (λ row. row) (map (row_of i) ts)
@@ -134,7 +134,7 @@ fuzzify_run c (i ∷ is) (v ∷ vs) at s p x y l ep st ex ey el hv hb lo hi a0 a
     let n = length i.terms in
     let et = sum_by-cons term_count i is in
     let s1 = after_plain c.flags (LdaaExtended at) s in
-    let n1 = ldaa c s p at l ep st.0 (inl (omega arith, omega arith)) in
+    let n1 = straight c s p _ l ep st.0 refl (inl (omega arith, omega arith), tt) tt in
     let ea : s1.regs.a ≡ v = hv.0 in
     let hb' : HasBytes c.image x (row_bytes i i.terms ++ input_rows is) =
     subst (HasBytes c.image x) (rows_cons i is) hb in

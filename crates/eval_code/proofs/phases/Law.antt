@@ -9,6 +9,7 @@ use Rattle.eval_code.proofs.Words.{slots_of, Some, State, StaysFit, steps_by, su
 use Rattle.eval_code.proofs.Words.{Width, Word, ℕ}
 use Rattle.byte_scaling.specs.{declared.width.Width.TheVariants.Byte}
 use Rattle.eval_code.specs.{Bounds.step_bound, Evaluation.IsAtEval, Evaluation.IsEvaluated, Evaluation.EvalAnswers}
+use Rattle.cpu12_isa.specs.{Fits.EncodedIsShort, Plain.StraightGoesOn}
 use Rattle.cpu12_parts.specs.{Executions.all_steps}
 use Rattle.eval_code.proofs.{masses.Answering.answers_are, phases.Operands.fit_answer, phases.Operands.answer_size}
 use Rattle.eval_code.proofs.steps.Memory.{has_put, at_put_out, length-put, bytes_front, bytes_back}
@@ -123,7 +124,7 @@ gone masses_law c b w bytes before s h live r =
     (has_put m1 l.outputs (all_bytes w qs) (omega arith)) in
     record {
       ds = r.goes.ds;
-      execution = r.goes.execution;
+      run = r.goes.execution;
       between = between_of c r.t r.live;
       pc = r.pc_is ∙ ap (λ n. l.eval + n) (sym (length-code_bytes (eval_code l b w)));
       answers = λ o from to.
@@ -178,6 +179,8 @@ pub record EvalLaws : Type 0 where
   pub layout_law : LayoutLaw
   pub nearest_is_byte : NearestIsByte
   pub stays_fit : StaysFit
+  pub goes_straight : StraightGoesOn
+  pub short : EncodedIsShort
   pub decodes : DecodesWhereItStands
   pub rules_give_masses : RulesGiveMasses
 
@@ -185,6 +188,8 @@ pub eval_answers : EvalLaws → EvalAnswers
 eval_answers laws l b w flags bytes before s a v lim fits i k =
     let c : Ctx = record {
       stays_fit = laws.stays_fit;
+      goes_straight = laws.goes_straight;
+      short = laws.short;
       memory_map = l;
       apart = a;
       image = s.mem;

@@ -1,6 +1,6 @@
 -- The operands of EVAL's code fit.
 use Rattle.eval_code.proofs.Words.{[], ◌*◌, ◌+◌, ◌<◌, ◌^◌, ◌∷◌, ◌≡◌, ◌≤◌, All, ap, arith, Block, Complement, Dec}
-use Rattle.eval_code.proofs.Words.{eval_code, Form, form_of, fuzzify_code, Input, input_slots, input_terms, IsApart}
+use Rattle.eval_code.proofs.Words.{eval_code, RuleInstruction, instruction_of, fuzzify_code, Input, input_slots, input_terms, IsApart}
 use Rattle.eval_code.proofs.Words.{IsValid, IsValidOutput, IsWithin, length, length-append, length-map, List, map}
 use Rattle.eval_code.proofs.Words.{Mem, MemoryMap, nearest_byte, NearestIsByte, None, Option, option_map, Out, Output}
 use Rattle.eval_code.proofs.Words.{output_code, outputs_code, places, quotient_code, replicate, rules_code}
@@ -16,7 +16,7 @@ use Rattle.eval_code.proofs.{phases.Fuzzify.length-grades, phases.Filling.AllCan
 use Rattle.eval_code.proofs.phases.SlotValues.{further_slots, slots_are, further_fill, length-slots}
 use Rattle.eval_code.proofs.phases.SlotValues.{length-input_terms}
 use Rattle.eval_code.proofs.phases.Evaluating.{slots_code_is, outputs_few}
-use Rattle.rule_layout.specs.declared.flat.Form.TheVariants as form
+use Rattle.rule_layout.specs.declared.flat.RuleInstruction.TheVariants as instruction
 use Rattle.eval_code.proofs.phases.Outputs.{places_few}
 
 -- the operands of the code fit
@@ -42,10 +42,10 @@ fit_slots b bytes inputs gs base at (Out o t ∷ ss) h lo hi =
 fit_slots b bytes inputs gs base at (Complement i t ∷ ss) h lo hi = let k = h.0.0 in
     (omega arith, (tt, (omega arith, fit_slots b bytes inputs gs base (at + 1) ss h.1 lo (omega arith))))
 
-fit_rules : (l : MemoryMap) (f : Form) → IsApart l → FitCode (rules_code l f)
-fit_rules l form.Rev a = let s = a.slots in let r = a.rules_end in
+fit_rules : (l : MemoryMap) (f : RuleInstruction) → IsApart l → FitCode (rules_code l f)
+fit_rules l instruction.Rev a = let s = a.slots in let r = a.rules_end in
     (omega arith, (omega arith, (omega arith, (omega arith, (tt, tt)))))
-fit_rules l form.Revw a = let w = a.weights_end in let r = a.rules_end in
+fit_rules l instruction.Revw a = let w = a.weights_end in let r = a.rules_end in
     (omega arith, (omega arith, (omega arith, (omega arith, (omega arith, (tt, tt))))))
 
 fit_quotient : NearestIsByte → (w : Width) (at : ℕ) (o : Output) (d : Option Dec) → at + places w ≤ 2 ^ 16
@@ -143,7 +143,7 @@ fit_answer near l b w a v facts =
         omega arith,
         fit_append (fuzzify_code l.inputs b.inputs) _ (fit_fuzzify l.inputs b.inputs (omega (arith, v.few_inputs)))
             (fit_append (slots_code l.slots b.inputs l.slots (slots_of b)) _ fill
-            (fit_append (rules_code l (form_of b)) _ (fit_rules l (form_of b) a) outs)),
+            (fit_append (rules_code l (instruction_of b)) _ (fit_rules l (instruction_of b) a) outs)),
       ),
     )
 
@@ -153,6 +153,6 @@ pub answer_size : (l : MemoryMap) (b : Block) (w : Width) → IsValid b → Bloc
 answer_size l b w v facts =
     omega (
       arith,
-      code_size-eval l w b.inputs b.outputs (slots_of b) (form_of b) v.few_inputs
+      code_size-eval l w b.inputs b.outputs (slots_of b) (instruction_of b) v.few_inputs
           (sum_by-term_count b.inputs v.few_inputs v.inputs) v.few_outputs facts.few_slots,
     )

@@ -11,7 +11,7 @@ use Rattle.eval_code.proofs.phases.Quotients.{quotient_of, quotient_most, output
 use Rattle.eval_code.proofs.steps.Memory.{HasBytes, bytes_front, bytes_back, bytes_put_out, put_append}
 use Rattle.eval_code.proofs.steps.Stepping.{Ctx, Live, Stands, goes_one, goes_on, stands_front, stands_back, Reaches}
 use Rattle.eval_code.proofs.steps.Stepping.{reaches_none, reaches_after, reaches_at}
-use Rattle.eval_code.proofs.steps.Instructions.{ldab_byte, ldx, ldy}
+use Rattle.eval_code.proofs.steps.Instructions.{straight}
 use Rattle.eval_code.proofs.{Sizes.code_size, Sizes.code_size-append, phases.Averaging.wav_run, phases.Words.word_run}
 
 -- the bytes of four answers at most
@@ -60,9 +60,9 @@ output_run c w o sx sy at vs before s p l ep st valid hs hv ev hb lo hi slo low 
     let s1 = after_plain c.flags (LdxImmediate sx) s in
     let s2 = after_plain c.flags (LdyImmediate sy) s1 in
     let s3 = after_plain c.flags (LdabImmediate (length o.singletons)) s2 in
-    let n1 = ldx c s p sx l ep st.0 st.0.fits in
-    let n2 = ldy c s1 (p + 3) sy n1.live n1.pc_is st.1.0 st.1.0.fits in
-    let n3 = ldab_byte c s2 (p + 3 + 3) (length o.singletons) n2.live n2.pc_is st.1.1.0 st.1.1.0.fits in
+    let n1 = straight c s p _ l ep st.0 refl tt tt in
+    let n2 = straight c s1 (p + 3) _ n1.live n1.pc_is st.1.0 refl tt tt in
+    let n3 = straight c s2 (p + 3 + 3) _ n2.live n2.pc_is st.1.1.0 refl tt tt in
     let v = wav_run c s3 (p + 3 + 3 + 2) sx sy us vs n3.live n3.pc_is st.1.1.1.0 refl refl (sym lu) (omega arith)
     (omega (arith, valid.some_term)) (omega (arith, valid.few_terms)) hs hv lo (omega arith) (omega arith)
     (omega arith) in

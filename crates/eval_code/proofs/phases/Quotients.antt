@@ -9,8 +9,7 @@ use Rattle.byte_scaling.specs.{declared.width.Width.TheVariants.Byte}
 use Rattle.eval_code.proofs.Sizes.{code_size}
 use Rattle.eval_code.proofs.steps.Stepping.{Ctx, Live, Stands, Goes, goes_one, goes_on, stands_at, Reaches}
 use Rattle.eval_code.proofs.steps.Stepping.{reaches_at}
-use Rattle.eval_code.proofs.steps.Instructions.{ldab_byte, stab, cpx, cpx_zero, beq_on, beq_off, bra_on, tfr, ediv}
-use Rattle.eval_code.proofs.steps.Instructions.{ediv_y, ediv_sp}
+use Rattle.eval_code.proofs.steps.Instructions.{straight, cpx_zero, beq_on, beq_off, bra_on, ediv_y, ediv_sp}
 
 -- the quotient of the sums, rounded down; where there is no mass the default, or with NC the answer before
 abbrev pub quotient_of : Width → ℕ → ℕ → Option ℕ → ℕ → ℕ
@@ -47,8 +46,8 @@ divided_run c at p n w s rest l ep st ex en le =
     let eq : n / s.regs.x ≡ n / suc w = ap (λ k. n / k) ex in
     let s1 = after_plain c.flags Ediv s in
     let s2 = after_plain c.flags TransferYD s1 in
-    let n1 = ediv c s p n l ep st.0 en nz (omega arith) in
-    let n2 = tfr c s1 (p + 1) n1.live n1.pc_is st.1.0 in
+    let n1 = straight c s p _ l ep st.0 refl tt tt in
+    let n2 = straight c s1 (p + 1) _ n1.live n1.pc_is st.1.0 refl tt tt in
     let ey : s1.regs.y ≡ n / suc w = ediv_y c s n en nz (omega arith) ∙ eq in
     let eb : s2.regs.b ≡ n / suc w = ap (λ k. k % 2 ^ 8) ey ∙ omega arith in
     let em : s2.mem ≡ s.mem = refl in (
@@ -59,7 +58,7 @@ divided_run c at p n w s rest l ep st ex en le =
         n2.pc_is,
         eb,
         em,
-        ediv_sp c s n en nz (omega arith),
+        ediv_sp c s,
       ),
     )
 
@@ -75,13 +74,13 @@ quotient_run c at p n zero (Some d) s l ep st ex en le lt =
     let s3 = after_plain c.flags (LdabImmediate d) s2 in
     let s4 = after_plain c.flags (StabExtended at) s3 in
     let x0 : (s.regs.x == 0) ≡ true = grind (arith, nat_tests) in
-    let n1 = cpx c s p l ep st.0 in
+    let n1 = straight c s p _ l ep st.0 refl tt tt in
     let z : has s1.regs.ccr 2 ≡ true = cpx_zero c s l.fits.x ∙ x0 in
     let n2 = beq_off c s1 (p + 3) 5 n1.live n1.pc_is st.1.0 (omega arith) (omega (arith, st.1.1.1.1.1.0.high)) z in
     let h3 = stands_at c (p + 3 + 2 + 1 + 2 + 2) (p + 3 + 2 + 5) (LdabImmediate d ∷ StabExtended at ∷ [])
     (omega arith) st.1.1.1.1.1 in
-    let n3 = ldab_byte c s2 (p + 3 + 2 + 5) d n2.live n2.pc_is h3.0 h3.0.fits in
-    let n4 = stab c s3 (p + 3 + 2 + 5 + 2) at n3.live n3.pc_is h3.1.0 lt in
+    let n3 = straight c s2 (p + 3 + 2 + 5) _ n2.live n2.pc_is h3.0 refl tt tt in
+    let n4 = straight c s3 (p + 3 + 2 + 5 + 2) _ n3.live n3.pc_is h3.1.0 refl tt (lt, tt) in
     let g = goes_on c 1 0 3 0 s s1 s4 (goes_one c s s1 (p + 3) n1)
     (goes_on c 1 0 2 0 s1 s2 s4 (goes_one c s1 s2 (p + 3 + 2 + 5) n2)
     (goes_on c 1 0 1 0 s2 s3 s4 (goes_one c s2 s3 (p + 3 + 2 + 5 + 2) n3)
@@ -93,7 +92,7 @@ quotient_run c at p n zero None s l ep st ex en le lt =
     let s1 = after_plain c.flags (CpxImmediate 0) s in
     let s2 = after_plain c.flags (Beq 6) s1 in
     let x0 : (s.regs.x == 0) ≡ true = grind (arith, nat_tests) in
-    let n1 = cpx c s p l ep st.0 in
+    let n1 = straight c s p _ l ep st.0 refl tt tt in
     let z : has s1.regs.ccr 2 ≡ true = cpx_zero c s l.fits.x ∙ x0 in
     let n2 = beq_off c s1 (p + 3) 6 n1.live n1.pc_is st.1.0 (omega arith) (omega (arith, st.1.1.1.1.0.high)) z in
     let g = goes_on c 1 0 1 0 s s1 s2 (goes_one c s s1 (p + 3) n1) (goes_one c s1 s2 (p + 3 + 2 + 6) n2) in
@@ -123,11 +122,11 @@ quotient_run c at p n (suc w) d s l ep st ex en le lt = by_default d st
     by_default None st =
         let s1 = after_plain c.flags (CpxImmediate 0) s in
         let s2 = after_plain c.flags (Beq 6) s1 in
-        let n1 = cpx c s p l ep st.0 in
+        let n1 = straight c s p _ l ep st.0 refl tt tt in
         let n2 = beq_on c s1 (p + 3) 6 n1.live n1.pc_is st.1.0 (omega arith) z in
         let q = divided_run c at (p + 3 + 2) n w s2 (StabExtended at ∷ []) n2.live n2.pc_is st.1.1 ex en le in
         let s5 = after_plain c.flags (StabExtended at) q.0 in
-        let n5 = stab c q.0 (p + 3 + 2 + 1 + 2) at q.1.1 q.1.2 st.1.1.1.1.0 lt in
+        let n5 = straight c q.0 (p + 3 + 2 + 1 + 2) _ q.1.1 q.1.2 st.1.1.1.1.0 refl tt (lt, tt) in
         let g = goes_on c 1 0 4 0 s s1 s5 (goes_one c s s1 (p + 3) n1)
         (goes_on c 1 0 3 0 s1 s2 s5 (goes_one c s1 s2 (p + 3 + 2) n2)
         (goes_on c 2 0 1 0 s2 q.0 s5 q.1.0 (goes_one c q.0 s5 (p + 3 + 2 + 1 + 2 + 3) n5))) in
@@ -137,7 +136,7 @@ quotient_run c at p n (suc w) d s l ep st ex en le lt = by_default d st
     by_default (Some d) st =
         let s1 = after_plain c.flags (CpxImmediate 0) s in
         let s2 = after_plain c.flags (Beq 5) s1 in
-        let n1 = cpx c s p l ep st.0 in
+        let n1 = straight c s p _ l ep st.0 refl tt tt in
         let n2 = beq_on c s1 (p + 3) 5 n1.live n1.pc_is st.1.0 (omega arith) z in
         let q = divided_run c at (p + 3 + 2) n w s2 (Bra 2 ∷ LdabImmediate d ∷ StabExtended at ∷ []) n2.live n2.pc_is
         st.1.1 ex en le in
@@ -145,7 +144,7 @@ quotient_run c at p n (suc w) d s l ep st ex en le lt = by_default d st
         let n4 = bra_on c q.0 (p + 3 + 2 + 1 + 2) 2 q.1.1 q.1.2 st.1.1.1.1.0 (omega arith)
         (omega (arith, st.1.1.1.1.1.1.0.high)) in
         let s5 = after_plain c.flags (StabExtended at) s4 in
-        let n5 = stab c s4 (p + 3 + 2 + 1 + 2 + 2 + 2) at n4.live n4.pc_is st.1.1.1.1.1.1.0 lt in
+        let n5 = straight c s4 (p + 3 + 2 + 1 + 2 + 2 + 2) _ n4.live n4.pc_is st.1.1.1.1.1.1.0 refl tt (lt, tt) in
         let g = goes_on c 1 0 5 0 s s1 s5 (goes_one c s s1 (p + 3) n1)
         (goes_on c 1 0 4 0 s1 s2 s5 (goes_one c s1 s2 (p + 3 + 2) n2)
         (goes_on c 2 0 2 0 s2 q.0 s5 q.1.0

@@ -1,21 +1,21 @@
 -- The conjunctions of a valid block and their weights, by the law on its layout.
 use Rattle.eval_code.proofs.Words.{[], ◌<◌, ◌∷◌, ◌≡◌, ◌≤◌, All, arith, Block, Conjunction, conjunctions_of, flat_of}
-use Rattle.eval_code.proofs.Words.{form_of, get_or, IsBelow, IsValid, LayoutLaw, length, List, number_in, refl, Slot}
+use Rattle.eval_code.proofs.Words.{instruction_of, get_or, IsBelow, IsValid, LayoutLaw, length, List, number_in, refl, Slot}
 use Rattle.eval_code.proofs.Words.{slots_of, suc, weights_of, ℕ}
-use Rattle.rule_layout.specs.{declared.flat.Form.TheVariants.Rev}
+use Rattle.rule_layout.specs.{declared.flat.RuleInstruction.TheVariants.Rev}
 use Rattle.eval_code.proofs.phases.RuleMemory.{Below, AllBelow, below_all}
 use Rattle.eval_code.proofs.phases.Ruling.{AreFull}
 
 -- what is known of a valid block's layout
 pub record BlockFacts (b : Block) : Type 0 where
   pub few_slots : length (slots_of b) ≤ 300
-  pub few_for_rev : form_of b ≡ Rev → length (slots_of b) ≤ 254
+  pub few_for_rev : instruction_of b ≡ Rev → length (slots_of b) ≤ 254
   pub apart : (k : ℕ) (s : Slot) → k < length (slots_of b) → number_in (slots_of b) (get_or (slots_of b) k s) ≡ k
   pub in_range : All (IsBelow (length (slots_of b))) (conjunctions_of b)
   pub some_conjunction : 1 ≤ length (conjunctions_of b)
   pub weighed : length (weights_of b) ≡ length (conjunctions_of b)
   pub weight_bytes : All (λ w. w ≤ 255) (weights_of b)
-  pub unscaled : form_of b ≡ Rev → All (λ w. w ≡ 255) (weights_of b)
+  pub unscaled : instruction_of b ≡ Rev → All (λ w. w ≡ 255) (weights_of b)
 
 pub block_facts : LayoutLaw → (b : Block) → IsValid b → BlockFacts b
 unfolding flat_of
@@ -76,5 +76,5 @@ are_full : (ws : List ℕ) → All (λ w. w ≡ 255) ws → AreFull ws
 are_full [] h = tt
 are_full (w ∷ ws) h = (h 0 w (omega arith), are_full ws (λ k d lt. h (suc k) d (omega arith)))
 
-pub rev_is_plain : (b : Block) → BlockFacts b → form_of b ≡ Rev → (length (slots_of b) ≤ 254) × AreFull (weights_of b)
+pub rev_is_plain : (b : Block) → BlockFacts b → instruction_of b ≡ Rev → (length (slots_of b) ≤ 254) × AreFull (weights_of b)
 rev_is_plain b facts e = (facts.few_for_rev e, are_full (weights_of b) (facts.unscaled e))

@@ -1,17 +1,17 @@
 -- What REV and REVW leave in the slots.
-use Rattle.eval_code.proofs.Words.{[], ◌*◌, ◌++◌, ◌+◌, ◌<◌, ◌^◌, ◌∙◌, ◌∷◌, ◌≡◌, ◌≤◌, All, ap, AreBytes, arith, Bool}
-use Rattle.eval_code.proofs.Words.{Conjunction, element_bytes, elements_of, entry_count, false, fired, from, get_or}
-use Rattle.eval_code.proofs.Words.{least_of, length, length-map, length-set, List, map, marked, max, min, named, plus}
-use Rattle.eval_code.proofs.Words.{put, raised_to, refl, rules_target, set, subst, suc, sum_by, sum_by-cons, sym}
-use Rattle.eval_code.proofs.Words.{true, weighted, zero, ℕ}
-use Rattle.cpu12_parts.specs.Rules.{Rule, Form, further_elements, behind, AreNames, AreRules, weight_bytes, NotIn}
+use Rattle.eval_code.proofs.Words.{[], ◌*◌, ◌++◌, ◌+◌, ◌<◌, ◌^◌, ◌∙◌, ◌∷◌, ◌≡◌, ◌≤◌, AgreeFrom, All, ap, AreBytes}
+use Rattle.eval_code.proofs.Words.{arith, Bool, Conjunction, element_bytes, elements_of, entry_count, false, fired}
+use Rattle.eval_code.proofs.Words.{from, get_or, least_of, length, length-map, length-set, List, map, marked, max}
+use Rattle.eval_code.proofs.Words.{min, named, plus, put, raised_to, refl, rules_target, set, stack_end, subst, suc}
+use Rattle.eval_code.proofs.Words.{sum_by, sum_by-cons, sym, true, weighted, zero, ℕ}
+use Rattle.cpu12_parts.specs.Rules.{Rule, RuleOperands, further_elements, behind, AreNames, AreRules, weight_bytes, NotIn}
 use Rattle.cpu12_parts.specs.Rules.{AreApart}
 use Rattle.cpu12_parts.specs.Rules.{behind_weights, least, strength, raised, concluded, all_concluded, last_strength}
-use Rattle.eval_code.proofs.steps.Memory.{at_put_in, set_put_in, SameHigh, high_set, bytes_after_set}
+use Rattle.eval_code.proofs.steps.Memory.{at_put_in, set_put_in, high_set, bytes_after_set}
 use Rattle.eval_code.proofs.Lists.{length-marked}
 
--- a form names the slots from a base on
-pub record NamesSlots (f : Form) (base n : ℕ) (name : ℕ → ℕ) : Type 0 where
+-- operands name the slots from a base on
+pub record NamesSlots (f : RuleOperands) (base n : ℕ) (name : ℕ → ℕ) : Type 0 where
   pub place : (k : ℕ) → k < n → f.place (name k) ≡ base + k
   pub small : (k : ℕ) → k < n → name k < f.separator
   pub low : base + n ≤ 0x1800
@@ -62,12 +62,12 @@ apart_by [] xs a h = tt
 apart_by (k ∷ ks) xs a h = (not_in k 0x2000 xs (let q = a.0 in omega arith) h, apart_by ks xs a.1 h)
 
 -- the names of slots
-names_are : (f : Form) (base n : ℕ) (name : ℕ → ℕ) → NamesSlots f base n name → (ks : List ℕ) → Below n ks
+names_are : (f : RuleOperands) (base n : ℕ) (name : ℕ → ℕ) → NamesSlots f base n name → (ks : List ℕ) → Below n ks
     → AreNames f (map name ks)
 names_are f base n name h [] b = tt
 names_are f base n name h (k ∷ ks) b = (h.small k b.0, names_are f base n name h ks b.1)
 
-pub rules_are : (f : Form) (base n : ℕ) (name : ℕ → ℕ) → NamesSlots f base n name
+pub rules_are : (f : RuleOperands) (base n : ℕ) (name : ℕ → ℕ) → NamesSlots f base n name
     → (cs : List Conjunction) (ws : List ℕ) → AllBelow n cs → AreRules f (rules_by name cs ws)
 rules_are f base n name h [] ws b = tt
 rules_are f base n name h (c ∷ cs) [] b = tt
@@ -77,13 +77,13 @@ rules_are f base n name h (c ∷ cs) (w ∷ ws) b = (
   rules_are f base n name h cs ws b.2,
 )
 
-named_low : (f : Form) (base n : ℕ) (name : ℕ → ℕ) → NamesSlots f base n name → (ks : List ℕ) → Below n ks
+named_low : (f : RuleOperands) (base n : ℕ) (name : ℕ → ℕ) → NamesSlots f base n name → (ks : List ℕ) → Below n ks
     → Below 0x1800 (named f (map name ks))
 named_low f base n name h [] b = tt
 named_low f base n name h (k ∷ ks) b =
     ((let e = h.place k b.0 in let l = h.low in let q = b.0 in omega arith), named_low f base n name h ks b.1)
 
-pub rules_target_low : (f : Form) (base n : ℕ) (name : ℕ → ℕ) → NamesSlots f base n name
+pub rules_target_low : (f : RuleOperands) (base n : ℕ) (name : ℕ → ℕ) → NamesSlots f base n name
     → (cs : List Conjunction) (ws : List ℕ) → AllBelow n cs → Below 0x1800 (rules_target f (rules_by name cs ws))
 rules_target_low f base n name h [] ws b = tt
 rules_target_low f base n name h (c ∷ cs) [] b = tt
@@ -92,7 +92,7 @@ rules_target_low f base n name h (c ∷ cs) (w ∷ ws) b =
     (rules_target_low f base n name h cs ws b.2)
 
 -- how many bytes elements take
-abbrev pub span : Form → List ℕ → ℕ
+abbrev pub span : RuleOperands → List ℕ → ℕ
 span f [] = 0
 span f (e ∷ es) = f.size + span f es
 
@@ -101,7 +101,7 @@ from_high x zero lo hi = tt
 from_high x (suc n) lo hi = let e : plus x 1 ≡ x + 1 = omega arith in
     (lo, subst (λ k. From 0x2000 (from k n)) (sym e) (from_high (x + 1) n (omega arith) (omega arith)))
 
-pub element_bytes_high : (f : Form) (x : ℕ) (es : List ℕ) → 0x2000 ≤ x → x + span f es < 65536
+pub element_bytes_high : (f : RuleOperands) (x : ℕ) (es : List ℕ) → 0x2000 ≤ x → x + span f es < 65536
     → From 0x2000 (element_bytes f x es)
 element_bytes_high f x [] lo hi = tt
 element_bytes_high f x (e ∷ es) lo hi =
@@ -121,7 +121,7 @@ weight_bytes_high true y (p ∷ ps) lo hi = let e : plus y 1 ≡ y + 1 = omega a
 weight_bytes_high false y [] lo hi = tt
 weight_bytes_high false y (p ∷ ps) lo hi = tt
 
-pub behind_fits : (f : Form) (x : ℕ) (es : List ℕ) → x < 2 ^ 16 → behind f x es < 2 ^ 16
+pub behind_fits : (f : RuleOperands) (x : ℕ) (es : List ℕ) → x < 2 ^ 16 → behind f x es < 2 ^ 16
 behind_fits f x [] h = h
 behind_fits f x (e ∷ es) h = behind_fits f (plus x f.size) es (omega arith)
 
@@ -132,7 +132,7 @@ behind_weights_fits false y [] h = h
 behind_weights_fits false y (p ∷ ps) h = h
 
 -- the elements of the rules are the marked list
-further_are : (f : Form) (name : ℕ → ℕ) (cs : List Conjunction) (ws : List ℕ) (c : Conjunction) → length ws ≡ length cs
+further_are : (f : RuleOperands) (name : ℕ → ℕ) (cs : List Conjunction) (ws : List ℕ) (c : Conjunction) → length ws ≡ length cs
     → map name c.literals ++ f.separator ∷ (map name c.conclusions ++ further_elements f (rules_by name cs ws))
     ≡ marked f.separator f.stop (map (renamed name) (c ∷ cs))
 further_are f name [] ws c e = refl
@@ -141,7 +141,7 @@ further_are f name (d ∷ cs) (w ∷ ws) c e =
     ap (λ l. map name c.literals ++ f.separator ∷ (map name c.conclusions ++ f.separator ∷ l))
     (further_are f name cs ws d (omega arith))
 
-pub elements_are : (f : Form) (name : ℕ → ℕ) (c : Conjunction) (cs : List Conjunction) (w : ℕ) (ws : List ℕ)
+pub elements_are : (f : RuleOperands) (name : ℕ → ℕ) (c : Conjunction) (cs : List Conjunction) (w : ℕ) (ws : List ℕ)
     → length ws ≡ length cs
     → elements_of f (rule_by name c w) (rules_by name cs ws) ≡ marked f.separator f.stop (map (renamed name) (c ∷ cs))
 elements_are f name c cs w ws e = further_are f name cs ws c e
@@ -170,7 +170,7 @@ length-rules_by name (c ∷ cs) [] e = absurd (omega arith)
 length-rules_by name (c ∷ cs) (w ∷ ws) e = let r = length-rules_by name cs ws (omega arith) in omega arith
 
 -- on the memory as on the slots
-least_is : (f : Form) (base : ℕ) (name : ℕ → ℕ) (m ss : List ℕ) → NamesSlots f base (length ss) name → length m ≡ 65536
+least_is : (f : RuleOperands) (base : ℕ) (name : ℕ → ℕ) (m ss : List ℕ) → NamesSlots f base (length ss) name → length m ≡ 65536
     → (t : ℕ) (ks : List ℕ) → Below (length ss) ks → least f (put m base ss) t (map name ks) ≡ least_of ss t ks
 least_is f base name m ss h lm t [] b = refl
 least_is f base name m ss h lm t (k ∷ ks) b =
@@ -185,7 +185,7 @@ length-raised_to t ss [] = refl
 length-raised_to t ss (k ∷ ks) = length-raised_to t (set ss k (max (get_or ss k 0) t)) ks
     ∙ length-set ss k (max (get_or ss k 0) t)
 
-raised_is : (f : Form) (base n : ℕ) (name : ℕ → ℕ) (m : List ℕ) → NamesSlots f base n name → length m ≡ 65536
+raised_is : (f : RuleOperands) (base n : ℕ) (name : ℕ → ℕ) (m : List ℕ) → NamesSlots f base n name → length m ≡ 65536
     → (t : ℕ) (ss ks : List ℕ) → length ss ≡ n → Below n ks
     → raised f t (put m base ss) (map name ks) ≡ put m base (raised_to t ss ks)
 raised_is f base n name m h lm t ss [] e b = refl
@@ -200,7 +200,7 @@ raised_is f base n name m h lm t ss (k ∷ ks) e b =
     ∙ ap (λ x. raised f t x (map name ks)) (set_put_in m base ss k v (omega arith))
     ∙ raised_is f base n name m h lm t (set ss k v) ks (length-set ss k v ∙ e) b.1
 
-concluded_is : (f : Form) (base n : ℕ) (name : ℕ → ℕ) (m : List ℕ) → NamesSlots f base n name → length m ≡ 65536
+concluded_is : (f : RuleOperands) (base n : ℕ) (name : ℕ → ℕ) (m : List ℕ) → NamesSlots f base n name → length m ≡ 65536
     → (ss : List ℕ) (c : Conjunction) (w : ℕ) → length ss ≡ n → Below n c.literals → Below n c.conclusions
     → concluded f (put m base ss) (rule_by name c w) ≡ put m base
     (raised_to (weighted (least_of ss 255 c.literals) w) ss c.conclusions)
@@ -211,7 +211,7 @@ concluded_is f base n name m h lm ss c w e bl bc =
     (least_is f base name m ss h' lm 255 c.literals bl')
     ∙ raised_is f base n name m h lm (weighted (least_of ss 255 c.literals) w) ss c.conclusions e bc
 
-pub all_is : (f : Form) (base n : ℕ) (name : ℕ → ℕ) (m : List ℕ) → NamesSlots f base n name → length m ≡ 65536
+pub all_is : (f : RuleOperands) (base n : ℕ) (name : ℕ → ℕ) (m : List ℕ) → NamesSlots f base n name → length m ≡ 65536
     → (ss : List ℕ) (c : Conjunction) (cs : List Conjunction) (w : ℕ) (ws : List ℕ) → length ss ≡ n
     → AllBelow n (c ∷ cs) → length ws ≡ length cs
     → all_concluded f (put m base ss) (rule_by name c w) (rules_by name cs ws) ≡ put m base (fired ss (c ∷ cs) (w ∷ ws))
@@ -231,7 +231,7 @@ length-fired ss (c ∷ cs) (w ∷ ws) = let t = weighted (least_of ss 255 c.lite
     length-fired (raised_to t ss c.conclusions) cs ws ∙ length-raised_to t ss c.conclusions
 
 -- bytes stay bytes, and what is high stays
-least_le : (f : Form) (mem : List ℕ) (t : ℕ) (es : List ℕ) → least f mem t es ≤ t
+least_le : (f : RuleOperands) (mem : List ℕ) (t : ℕ) (es : List ℕ) → least f mem t es ≤ t
 least_le f mem t [] = omega arith
 least_le f mem t (e ∷ es) = let r = least_le f mem (min t (get_or mem (f.place e) 0)) es in omega arith
 
@@ -241,7 +241,7 @@ weighted_le a w h lt = let p : a * (w + 1) ≤ 255 * (w + 1) = times a (w + 1) h
     times : (a k : ℕ) → a ≤ 255 → a * k ≤ 255 * k
     times a k h = grind arith
 
-strength_lt : (f : Form) (mem : List ℕ) (p : Rule) → p.weight < 256 → strength f mem p < 256
+strength_lt : (f : RuleOperands) (mem : List ℕ) (p : Rule) → p.weight < 256 → strength f mem p < 256
 strength_lt f mem p h = weighted_le (least f mem 255 p.antecedents) p.weight (least_le f mem 255 p.antecedents) h
 
 abbrev pub LightRules : List Rule → Type 0
@@ -253,7 +253,7 @@ light_by name [] ws h = tt
 light_by name (c ∷ cs) [] h = tt
 light_by name (c ∷ cs) (w ∷ ws) h = (h.0, light_by name cs ws h.1)
 
-pub last_strength_lt : (f : Form) (mem : List ℕ) (p : Rule) (ps : List Rule) → LightRules (p ∷ ps)
+pub last_strength_lt : (f : RuleOperands) (mem : List ℕ) (p : Rule) (ps : List Rule) → LightRules (p ∷ ps)
     → last_strength f mem p ps < 256
 last_strength_lt f mem p [] h = strength_lt f mem p h.0
 last_strength_lt f mem p (q ∷ qs) h = last_strength_lt f (concluded f mem p) q qs h.1
@@ -261,9 +261,9 @@ last_strength_lt f mem p (q ∷ qs) h = last_strength_lt f (concluded f mem p) q
 record Kept (m mem : List ℕ) : Type 0 where
   size : length mem ≡ 65536
   bytes : AreBytes mem
-  same : SameHigh m mem
+  same : AgreeFrom stack_end m mem
 
-raised_keeps : (f : Form) (m mem : List ℕ) (t : ℕ) (es : List ℕ) → t < 256 → Below 0x1800 (named f es) → Kept m mem
+raised_keeps : (f : RuleOperands) (m mem : List ℕ) (t : ℕ) (es : List ℕ) → t < 256 → Below 0x1800 (named f es) → Kept m mem
     → Kept m (raised f t mem es)
 raised_keeps f m mem t [] lt b k = k
 raised_keeps f m mem t (e ∷ es) lt b k =
@@ -285,7 +285,7 @@ pub below_back : (n : ℕ) (xs ys : List ℕ) → Below n (xs ++ ys) → Below n
 below_back n [] ys h = h
 below_back n (x ∷ xs) ys h = below_back n xs ys h.1
 
-all_kept : (f : Form) (m mem : List ℕ) (p : Rule) (ps : List Rule) → LightRules (p ∷ ps)
+all_kept : (f : RuleOperands) (m mem : List ℕ) (p : Rule) (ps : List Rule) → LightRules (p ∷ ps)
     → Below 0x1800 (rules_target f (p ∷ ps)) → Kept m mem → Kept m (all_concluded f mem p ps)
 all_kept f m mem p [] h b k =
     raised_keeps f m mem (strength f mem p) p.conclusions (strength_lt f mem p h.0)
@@ -296,9 +296,9 @@ all_kept f m mem p (q ∷ qs) h b k =
     (below_front 0x1800 (named f p.conclusions) (rules_target f (q ∷ qs)) b) k)
 
 -- a memory of bytes that has an image's from $2000 on still has them after the rules
-pub all_keep : (f : Form) (m mem : List ℕ) (p : Rule) (ps : List Rule) → LightRules (p ∷ ps)
-    → Below 0x1800 (rules_target f (p ∷ ps)) → length mem ≡ 65536 → AreBytes mem → SameHigh m mem
+pub all_keep : (f : RuleOperands) (m mem : List ℕ) (p : Rule) (ps : List Rule) → LightRules (p ∷ ps)
+    → Below 0x1800 (rules_target f (p ∷ ps)) → length mem ≡ 65536 → AreBytes mem → AgreeFrom stack_end m mem
     → (length (all_concluded f mem p ps) ≡ 65536) × AreBytes (all_concluded f mem p ps)
-    × SameHigh m (all_concluded f mem p ps)
+    × AgreeFrom stack_end m (all_concluded f mem p ps)
 all_keep f m mem p ps h b size bytes same =
     let k = all_kept f m mem p ps h b (record { size = size; bytes = bytes; same = same }) in (k.size, k.bytes, k.same)

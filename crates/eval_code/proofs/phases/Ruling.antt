@@ -6,7 +6,7 @@ use Rattle.eval_code.proofs.Words.{get_or, has, inl, inr, Instr, interrupt_masks
 use Rattle.eval_code.proofs.Words.{LdyImmediate, length, List, list_bytes, list_words, map, marked, named, Ok, opened}
 use Rattle.eval_code.proofs.Words.{Orcc, plus, put, Reads, refl, rules_code, rules_target, State, subst, suc, sum_by}
 use Rattle.eval_code.proofs.Words.{sum_by-cons, sym, true, Writes, ℕ}
-use Rattle.cpu12_parts.specs.Rules.{rev_form, revw_form, Listed, AreWeights, Rule, Form, weight_bytes, rules_named}
+use Rattle.cpu12_parts.specs.Rules.{rev_operands, revw_operands, Listed, AreWeights, Rule, RuleOperands, weight_bytes, rules_named}
 use Rattle.cpu12_parts.specs.Rules.{AreReady, rules_whole}
 use Rattle.cpu12_parts.specs.{Touching.IsRulesOver}
 use Rattle.cpu12_isa.specs.declared.instr.Instr.TheVariants.{Rev, Revw}
@@ -21,8 +21,8 @@ use Rattle.eval_code.proofs.steps.Flags.{carry_or}
 use Rattle.eval_code.proofs.{steps.Decoding.decode_same, phases.Averaging.each_append, phases.Averaging.each_from}
 use Rattle.eval_code.proofs.steps.Stepping.{Ctx, Live, Stands, Goes, goes_one, goes_on, goes_part, Reaches}
 use Rattle.eval_code.proofs.steps.Stepping.{reaches_at, between_of, code_in}
-use Rattle.eval_code.proofs.steps.Instructions.{ldaa_byte, ldx, ldy, andcc_v, orcc_c}
-use Rattle.rule_layout.specs.declared.flat.Form.TheVariants as form
+use Rattle.eval_code.proofs.steps.Instructions.{straight}
+use Rattle.rule_layout.specs.declared.flat.RuleInstruction.TheVariants as instruction
 
 -- REV's names are the slots' numbers, REVW's their addresses
 abbrev pub number : ℕ → ℕ
@@ -31,10 +31,10 @@ number k = k
 abbrev pub address : ℕ → ℕ → ℕ
 address base k = base + k
 
-pub rev_names : (base n : ℕ) → n ≤ 254 → base + n ≤ 0x1800 → NamesSlots (rev_form base) base n number
+pub rev_names : (base n : ℕ) → n ≤ 254 → base + n ≤ 0x1800 → NamesSlots (rev_operands base) base n number
 rev_names base n le low = record { place = λ k lt. omega arith; small = λ k lt. omega arith; low = low }
 
-pub revw_names : (base n : ℕ) → base + n ≤ 0x1800 → NamesSlots revw_form base n (address base)
+pub revw_names : (base n : ℕ) → base + n ≤ 0x1800 → NamesSlots revw_operands base n (address base)
 revw_names base n low = record { place = λ k lt. refl; small = λ k lt. omega arith; low = low }
 
 map_number : (xs : List ℕ) → map number xs ≡ xs
@@ -51,26 +51,26 @@ renamed_number (c ∷ cs) = ap₂ (λ (d : Conjunction) (ds : List Conjunction).
 
 -- the lists as they stand
 pub rev_listed : (y : ℕ) (m : List ℕ) (x : ℕ) (es : List ℕ) → HasBytes m x es → x + length es < 65536
-    → Listed (rev_form y) m x es
+    → Listed (rev_operands y) m x es
 rev_listed y m x [] h le = tt
 rev_listed y m x (e ∷ es) h le = let p : plus x 1 ≡ x + 1 = omega arith in
-    (h.0, subst (λ k. Listed (rev_form y) m k es) (sym p) (rev_listed y m (x + 1) es h.1 (omega arith)))
+    (h.0, subst (λ k. Listed (rev_operands y) m k es) (sym p) (rev_listed y m (x + 1) es h.1 (omega arith)))
 
 pub revw_listed : (m : List ℕ) (x : ℕ) (es : List ℕ) → HasBytes m x (flat_map bytes_of_word es)
-    → x + 2 * length es < 65536 → Listed revw_form m x es
+    → x + 2 * length es < 65536 → Listed revw_operands m x es
 revw_listed m x [] h le = tt
 revw_listed m x (e ∷ es) h le =
     let p : plus x 1 ≡ x + 1 = omega arith in
     let q : plus x 2 ≡ x + 1 + 1 = omega arith in
     let w : get_or m x 0 * 2 ^ 8 + get_or m (plus x 1) 0 ≡ e =
     ap₂ (λ a b. a * 2 ^ 8 + b) h.0 (ap (λ k. get_or m k 0) p ∙ h.1.0) ∙ omega arith in
-    (w, subst (λ k. Listed revw_form m k es) (sym q) (revw_listed m (x + 1 + 1) es h.1.1 (omega arith)))
+    (w, subst (λ k. Listed revw_operands m k es) (sym q) (revw_listed m (x + 1 + 1) es h.1.1 (omega arith)))
 
-pub rev_span : (y : ℕ) (es : List ℕ) → span (rev_form y) es ≡ length es
+pub rev_span : (y : ℕ) (es : List ℕ) → span (rev_operands y) es ≡ length es
 rev_span y [] = refl
 rev_span y (e ∷ es) = omega (arith, rev_span y es)
 
-pub revw_span : (es : List ℕ) → span revw_form es ≡ 2 * length es
+pub revw_span : (es : List ℕ) → span revw_operands es ≡ 2 * length es
 revw_span [] = refl
 revw_span (e ∷ es) = omega (arith, revw_span es)
 
@@ -104,7 +104,7 @@ pub entries_some : (c : Conjunction) (cs : List Conjunction) → 2 ≤ sum_by en
 entries_some c cs = omega (arith, sum_by-cons entry_count c cs)
 
 -- addresses of one kind
-each_below : (P : ℕ → Type 0) (f : Form) (base n : ℕ) (name : ℕ → ℕ) → NamesSlots f base n name
+each_below : (P : ℕ → Type 0) (f : RuleOperands) (base n : ℕ) (name : ℕ → ℕ) → NamesSlots f base n name
     → ((k : ℕ) → base ≤ k → k < base + n → P k) → (ks : List ℕ)
     → Below n ks → Each P (named f (map name ks))
 each_below P f base n name h e [] b = tt
@@ -113,7 +113,7 @@ each_below P f base n name h e (k ∷ ks) b = (
   each_below P f base n name h e ks b.1,
 )
 
-named_each : (P : ℕ → Type 0) (f : Form) (base n : ℕ) (name : ℕ → ℕ) → NamesSlots f base n name
+named_each : (P : ℕ → Type 0) (f : RuleOperands) (base n : ℕ) (name : ℕ → ℕ) → NamesSlots f base n name
     → ((k : ℕ) → base ≤ k → k < base + n → P k)
     → (cs : List Conjunction) (ws : List ℕ) → AllBelow n cs → Each P (rules_named f (rules_by name cs ws))
 named_each P f base n name h e [] ws b = tt
@@ -123,7 +123,7 @@ named_each P f base n name h e (c ∷ cs) (w ∷ ws) b =
     (each_append P (named f (map name c.conclusions)) _ (each_below P f base n name h e c.conclusions b.1)
     (named_each P f base n name h e cs ws b.2))
 
-target_each : (P : ℕ → Type 0) (f : Form) (base n : ℕ) (name : ℕ → ℕ) → NamesSlots f base n name
+target_each : (P : ℕ → Type 0) (f : RuleOperands) (base n : ℕ) (name : ℕ → ℕ) → NamesSlots f base n name
     → ((k : ℕ) → base ≤ k → k < base + n → P k)
     → (cs : List Conjunction) (ws : List ℕ) → AllBelow n cs → Each P (rules_target f (rules_by name cs ws))
 target_each P f base n name h e [] ws b = tt
@@ -132,7 +132,7 @@ target_each P f base n name h e (c ∷ cs) (w ∷ ws) b =
     each_append P (named f (map name c.conclusions)) _ (each_below P f base n name h e c.conclusions b.1)
     (target_each P f base n name h e cs ws b.2)
 
-elements_each : (P : ℕ → Type 0) (f : Form) (x : ℕ) (es : List ℕ) → x + span f es < 65536
+elements_each : (P : ℕ → Type 0) (f : RuleOperands) (x : ℕ) (es : List ℕ) → x + span f es < 65536
     → ((k : ℕ) → x ≤ k → k < x + span f es → P k)
     → Each P (element_bytes f x es)
 elements_each P f x [] hi h = tt
@@ -155,13 +155,13 @@ weights_each P false y [] hi h = tt
 weights_each P false y (p ∷ ps) hi h = tt
 
 -- the whole instruction, where it is ready, keeps what each state keeps
-record Ruled (c : Ctx) (i : Instr) (f : Form) (d : ℕ) (p : Rule) (ps : List Rule) (s : State) : Type 0 where
+record Ruled (c : Ctx) (i : Instr) (f : RuleOperands) (d : ℕ) (p : Rule) (ps : List Rule) (s : State) : Type 0 where
   over : IsRulesOver (Reads c.memory_map) (Writes c.memory_map) i f c.flags d p ps s
       (rules_whole f c.flags s.regs s.temps s.mem p ps)
   live : Live c (rules_whole f c.flags s.regs s.temps s.mem p ps)
   masks : interrupt_masks (rules_whole f c.flags s.regs s.temps s.mem p ps).regs.ccr ≡ interrupt_masks s.regs.ccr
 
-rules_next : (c : Ctx) (s : State) (i : Instr) (f : Form) (d : ℕ) (p : Rule) (ps : List Rule) → Live c s
+rules_next : (c : Ctx) (s : State) (i : Instr) (f : RuleOperands) (d : ℕ) (p : Rule) (ps : List Rule) → Live c s
     → decode_at s.mem s.regs.pc ≡ Ok i
     → AreReady f s.regs s.mem p ps → length (elements_of f p ps) ≡ suc d
     → LightRules (p ∷ ps) → Below 0x1800 (rules_target f (p ∷ ps)) → Each (Writes c.memory_map)
@@ -221,7 +221,7 @@ rev_step : (c : Ctx) (m ss : List ℕ) (k : Conjunction) (ks : List Conjunction)
     → has s.regs.ccr 1 ≡ false
     → AreFull (w ∷ ws) → length ss ≤ 254 → HasBytes c.image c.memory_map.rules (list_bytes (k ∷ ks))
     → length (list_bytes (k ∷ ks)) ≤ 9984
-    → Ruled c Rev (rev_form s.regs.y) (sum_by entry_count (k ∷ ks) - 1) (rule_by number k w) (rules_by number ks ws) s
+    → Ruled c Rev (rev_operands s.regs.y) (sum_by entry_count (k ∷ ks) - 1) (rule_by number k w) (rules_by number ks ws) s
 rev_step c m ss k ks w ws s h de ex ey ea ev full few hl le =
     let low = c.apart.slots in
     let list_low = c.apart.rules in
@@ -234,7 +234,7 @@ rev_step c m ss k ks w ws s h de ex ey ea ev full few hl le =
     slot (Reads c.memory_map) (λ k a b. inr (inl (a, b))) in
     let write : (k : ℕ) → s.regs.y ≤ k → k < s.regs.y + length ss → Writes c.memory_map k =
     slot (Writes c.memory_map) (λ k a b. inr (inl (a, b))) in
-    let f = rev_form s.regs.y in
+    let f = rev_operands s.regs.y in
     let n = length ss in
     let names : NamesSlots f s.regs.y n number = rev_names s.regs.y n few (omega arith) in
     let some = entries_some k ks in
@@ -284,7 +284,7 @@ revw_step : (c : Ctx) (m ss : List ℕ) (k : Conjunction) (ks : List Conjunction
     (flat_map bytes_of_word (list_words c.memory_map.slots (k ∷ ks)))
     → 2 * length (list_words c.memory_map.slots (k ∷ ks)) ≤ 9984 → HasBytes c.image c.memory_map.weights (w ∷ ws)
     → length (w ∷ ws) ≤ 512
-    → Ruled c Revw revw_form (sum_by entry_count (k ∷ ks) - 1) (rule_by (address c.memory_map.slots) k w)
+    → Ruled c Revw revw_operands (sum_by entry_count (k ∷ ks) - 1) (rule_by (address c.memory_map.slots) k w)
     (rules_by (address c.memory_map.slots) ks ws) s
 revw_step c m ss k ks w ws s h de ex ey ea ev ec light hl le hw whi =
     let low = c.apart.slots in
@@ -297,7 +297,7 @@ revw_step c m ss k ks w ws s h de ex ey ea ev ec light hl le hw whi =
     λ k a b. inr (inl (omega arith, omega arith)) in
     let write : (k : ℕ) → c.memory_map.slots ≤ k → k < c.memory_map.slots + length ss → Writes c.memory_map k =
     λ k a b. inr (inl (omega arith, omega arith)) in
-    let f = revw_form in
+    let f = revw_operands in
     let n = length ss in
     let name = address c.memory_map.slots in
     let names : NamesSlots f c.memory_map.slots n name = revw_names c.memory_map.slots n (omega arith) in
@@ -351,20 +351,20 @@ revw_step c m ss k ks w ws s h de ex ey ea ev ec light hl le hw whi =
 -- the rules by REV
 pub rev_run : (c : Ctx) (m ss : List ℕ) (k : Conjunction) (ks : List Conjunction) (w : ℕ) (ws : List ℕ) (s : State)
     (p : ℕ) → AtRules c m ss k ks w ws s
-    → s.regs.pc ≡ p → Stands c p (rules_code c.memory_map form.Rev)
+    → s.regs.pc ≡ p → Stands c p (rules_code c.memory_map instruction.Rev)
     → AreFull (w ∷ ws) → length ss ≤ 254 → HasBytes c.image c.memory_map.rules (list_bytes (k ∷ ks))
     → length (list_bytes (k ∷ ks)) ≤ 9984
-    → Reaches c 5 (sum_by entry_count (k ∷ ks) - 1) s (p + code_size (rules_code c.memory_map form.Rev))
+    → Reaches c 5 (sum_by entry_count (k ∷ ks) - 1) s (p + code_size (rules_code c.memory_map instruction.Rev))
     (put m c.memory_map.slots (fired ss (k ∷ ks) (w ∷ ws)))
 rev_run c m ss k ks w ws s p h ep st full few hl le =
     let s1 = after_plain c.flags (LdxImmediate c.memory_map.rules) s in
     let s2 = after_plain c.flags (LdyImmediate c.memory_map.slots) s1 in
     let s3 = after_plain c.flags (LdaaImmediate 0xFF) s2 in
     let s4 = after_plain c.flags (Andcc 0xFD) s3 in
-    let n1 = ldx c s p c.memory_map.rules h.live ep st.0 st.0.fits in
-    let n2 = ldy c s1 (p + 3) c.memory_map.slots n1.live n1.pc_is st.1.0 st.1.0.fits in
-    let n3 = ldaa_byte c s2 (p + 3 + 3) 0xFF n2.live n2.pc_is st.1.1.0 st.1.1.0.fits in
-    let n4 = andcc_v c s3 (p + 3 + 3 + 2) n3.live n3.pc_is st.1.1.1.0 in
+    let n1 = straight c s p _ h.live ep st.0 refl tt tt in
+    let n2 = straight c s1 (p + 3) _ n1.live n1.pc_is st.1.0 refl tt tt in
+    let n3 = straight c s2 (p + 3 + 3) _ n2.live n2.pc_is st.1.1.0 refl tt tt in
+    let n4 = straight c s3 (p + 3 + 3 + 2) _ n3.live n3.pc_is st.1.1.1.0 refl tt tt in
     let h4 : AtRules c m ss k ks w ws s4 =
     record {
       live = n4.live;
@@ -381,7 +381,7 @@ rev_run c m ss k ks w ws s p h ep st full few hl le =
     let de : decode_at s4.mem s4.regs.pc ≡ Ok Rev =
     ap (decode_at s4.mem) n4.pc_is ∙ decode_same c.image s4.mem (p + 3 + 3 + 2 + 2) lo hi n4.live.same ∙ here.decoded in
     let r = rev_step c m ss k ks w ws s4 h4 de refl refl refl (overflow_off s3.regs.ccr.0) full few hl le in
-    let t : State = rules_whole (rev_form s4.regs.y) c.flags s4.regs s4.temps s4.mem (rule_by number k w)
+    let t : State = rules_whole (rev_operands s4.regs.y) c.flags s4.regs s4.temps s4.mem (rule_by number k w)
     (rules_by number ks ws) in
     let g5 : Goes c 1 (sum_by entry_count (k ∷ ks) - 1) s4 t =
     goes_part c (sum_by entry_count (k ∷ ks) - 1) s4 t
@@ -402,9 +402,9 @@ rev_run c m ss k ks w ws s p h ep st full few hl le =
     let g = goes_on c 4 0 1 (sum_by entry_count (k ∷ ks) - 1) s s4 t g4 g5 in
     let em : t.mem ≡ put m c.memory_map.slots (fired ss (k ∷ ks) (w ∷ ws)) =
     ap
-    (λ (x : List ℕ). (rules_whole (rev_form c.memory_map.slots) c.flags s4.regs s4.temps x (rule_by number k w)
+    (λ (x : List ℕ). (rules_whole (rev_operands c.memory_map.slots) c.flags s4.regs s4.temps x (rule_by number k w)
     (rules_by number ks ws)).mem) h.mem_is
-    ∙ all_is (rev_form c.memory_map.slots) c.memory_map.slots (length ss) number m
+    ∙ all_is (rev_operands c.memory_map.slots) c.memory_map.slots (length ss) number m
     (rev_names c.memory_map.slots (length ss) few (omega (arith, c.apart.slots, h.few))) h.size ss k ks w ws refl
     h.below h.weights in
     reaches_at c 5 (0 + (sum_by entry_count (k ∷ ks) - 1)) 5 (sum_by entry_count (k ∷ ks) - 1) s _ _ _ _ (omega arith)
@@ -414,12 +414,12 @@ rev_run c m ss k ks w ws s p h ep st full few hl le =
 -- and by REVW
 pub revw_run : (c : Ctx) (m ss : List ℕ) (k : Conjunction) (ks : List Conjunction) (w : ℕ) (ws : List ℕ) (s : State)
     (p : ℕ) → AtRules c m ss k ks w ws s
-    → s.regs.pc ≡ p → Stands c p (rules_code c.memory_map form.Revw)
+    → s.regs.pc ≡ p → Stands c p (rules_code c.memory_map instruction.Revw)
     → Below 256 (w ∷ ws) → HasBytes c.image c.memory_map.rules
     (flat_map bytes_of_word (list_words c.memory_map.slots (k ∷ ks)))
     → 2 * length (list_words c.memory_map.slots (k ∷ ks)) ≤ 9984 → HasBytes c.image c.memory_map.weights (w ∷ ws)
     → length (w ∷ ws) ≤ 512
-    → Reaches c 6 (sum_by entry_count (k ∷ ks) - 1) s (p + code_size (rules_code c.memory_map form.Revw))
+    → Reaches c 6 (sum_by entry_count (k ∷ ks) - 1) s (p + code_size (rules_code c.memory_map instruction.Revw))
     (put m c.memory_map.slots (fired ss (k ∷ ks) (w ∷ ws)))
 revw_run c m ss k ks w ws s p h ep st light hl le hw whi =
     let j = sum_by entry_count (k ∷ ks) - 1 in
@@ -429,11 +429,11 @@ revw_run c m ss k ks w ws s p h ep st light hl le hw whi =
     let s3 = after_plain c.flags (LdaaImmediate 0xFF) s2 in
     let s4 = after_plain c.flags (Andcc 0xFD) s3 in
     let s5 = after_plain c.flags (Orcc 0x01) s4 in
-    let n1 = ldx c s p c.memory_map.rules h.live ep st.0 st.0.fits in
-    let n2 = ldy c s1 (p + 3) c.memory_map.weights n1.live n1.pc_is st.1.0 st.1.0.fits in
-    let n3 = ldaa_byte c s2 (p + 3 + 3) 0xFF n2.live n2.pc_is st.1.1.0 st.1.1.0.fits in
-    let n4 = andcc_v c s3 (p + 3 + 3 + 2) n3.live n3.pc_is st.1.1.1.0 in
-    let n5 = orcc_c c s4 (p + 3 + 3 + 2 + 2) n4.live n4.pc_is st.1.1.1.1.0 in
+    let n1 = straight c s p _ h.live ep st.0 refl tt tt in
+    let n2 = straight c s1 (p + 3) _ n1.live n1.pc_is st.1.0 refl tt tt in
+    let n3 = straight c s2 (p + 3 + 3) _ n2.live n2.pc_is st.1.1.0 refl tt tt in
+    let n4 = straight c s3 (p + 3 + 3 + 2) _ n3.live n3.pc_is st.1.1.1.0 refl tt tt in
+    let n5 = straight c s4 (p + 3 + 3 + 2 + 2) _ n4.live n4.pc_is st.1.1.1.1.0 refl tt tt in
     let h5 : AtRules c m ss k ks w ws s5 =
     record {
       live = n5.live;
@@ -453,7 +453,7 @@ revw_run c m ss k ks w ws s p h ep st light hl le hw whi =
     let r =
     revw_step c m ss k ks w ws s5 h5 de refl refl refl (overflow_or s4.regs.ccr.0 ∙ overflow_off s3.regs.ccr.0)
     (carry_or s4.regs.ccr.0) light hl le hw whi in
-    let t : State = rules_whole revw_form c.flags s5.regs s5.temps s5.mem (rule_by name k w) (rules_by name ks ws) in
+    let t : State = rules_whole revw_operands c.flags s5.regs s5.temps s5.mem (rule_by name k w) (rules_by name ks ws) in
     let g6 : Goes c 1 j s5 t =
     goes_part c j s5 t (record {
       between = between_of c s5 n5.live;
@@ -473,9 +473,9 @@ revw_run c m ss k ks w ws s p h ep st light hl le hw whi =
     (goes_one c s4 s5 (p + 3 + 3 + 2 + 2 + 2) n5)))) in
     let g = goes_on c 5 0 1 j s s5 t g5 g6 in
     let em : t.mem ≡ put m c.memory_map.slots (fired ss (k ∷ ks) (w ∷ ws)) =
-    ap (λ (x : List ℕ). (rules_whole revw_form c.flags s5.regs s5.temps x (rule_by name k w) (rules_by name ks ws)).mem)
+    ap (λ (x : List ℕ). (rules_whole revw_operands c.flags s5.regs s5.temps x (rule_by name k w) (rules_by name ks ws)).mem)
     h.mem_is
-    ∙ all_is revw_form c.memory_map.slots (length ss) name m
+    ∙ all_is revw_operands c.memory_map.slots (length ss) name m
     (revw_names c.memory_map.slots (length ss) (omega (arith, c.apart.slots, h.few))) h.size ss k ks w ws refl h.below
     h.weights in
     reaches_at c 6 (0 + j) 6 j s _ _ _ _ (omega arith) (omega arith) refl refl

@@ -1,7 +1,7 @@
 -- The quotient's code, for answers of a byte and of a word.
 use Rattle.eval_code.proofs.Words.{[], ◌%◌, ◌*◌, ◌+◌, ◌/◌, ◌<◌, ◌==◌, ◌^◌, ◌∙◌, ◌∷◌, ◌≡◌, ◌≢◌, ◌≤◌, after_plain, ap}
-use Rattle.eval_code.proofs.Words.{ap₂, arith, Beq, Bool, Bra, bytes_of, Ccr, ClrExtended, CpxImmediate}
-use Rattle.eval_code.proofs.Words.{div-lt_iff_lt-mul, Ediv, false, get_or, has, Instr, interrupt_masks, LdabImmediate}
+use Rattle.eval_code.proofs.Words.{ap₂, arith, Beq, Bra, bytes_of, ClrExtended, CpxImmediate}
+use Rattle.eval_code.proofs.Words.{div-lt_iff_lt-mul, Ediv, false, get_or, has, Instr, LdabImmediate}
 use Rattle.eval_code.proofs.Words.{List, nat_lt, nat_tests, None, Option, plus, put, quotient_code, refl, Regs, set}
 use Rattle.eval_code.proofs.Words.{set-get_or, Some, StaaExtended, StabExtended, State, suc, sym, TransferYD, true}
 use Rattle.eval_code.proofs.Words.{Word, Writes, zero, ℕ}
@@ -9,11 +9,11 @@ use Rattle.cpu12_isa.specs.{declared.instr.Instr.TheVariants.TransferXD, Registe
 use Rattle.std.proofs.lemmas.Nat.{div-add-mod'}
 use Rattle.std.proofs.Math.Nat.{div-div-eq-div-mul, mul-div-mul_right, mul-add-div_right, mod-lt}
 use Rattle.cpu12_isa.specs.declared.instr.Instr.TheVariants.{Fdiv}
-use Rattle.eval_code.proofs.{steps.Flags.masked_put, steps.Memory.HasBytes, Sizes.code_size}
+use Rattle.eval_code.proofs.{steps.Memory.HasBytes, Sizes.code_size}
 use Rattle.eval_code.proofs.phases.Quotients.{quotient_of, quotient_most, quotient_small}
-use Rattle.eval_code.proofs.steps.Instructions.{divided_is, ldab_byte, staa, stab, clr, cpx, cpx_zero, beq_on}
-use Rattle.eval_code.proofs.steps.Instructions.{beq_off, bra_on, tfr, ediv, ediv_y, ediv_sp}
-use Rattle.eval_code.proofs.steps.Stepping.{Ctx, Here, Live, Stands, Next, next, Goes, goes_one, goes_on, stands_at}
+use Rattle.eval_code.proofs.steps.Instructions.{divided_is, straight, cpx_zero, beq_on, beq_off, bra_on}
+use Rattle.eval_code.proofs.steps.Instructions.{ediv_y, ediv_sp}
+use Rattle.eval_code.proofs.steps.Stepping.{Ctx, Live, Stands, Goes, goes_one, goes_on, stands_at}
 use Rattle.eval_code.proofs.steps.Stepping.{Reaches, reaches_at}
 use Rattle.cpu12_isa.specs.Flags as flag
 
@@ -29,23 +29,6 @@ fraction_is : (r : Regs) (d : ℕ) → r.a * 2 ^ 8 + r.b ≡ d → d < r.x
       ccr = flag.put (flag.put (flag.put r.ccr 2 (d * 2 ^ 16 / r.x == 0)) 1 false) 0 false;
     }
 fraction_is r d e lt = let a : nat_lt d r.x ≡ true = grind (arith, nat_tests) in rw (e, a)
-
-masked_three : (c : Ccr) (z : Bool)
-    → interrupt_masks (flag.put (flag.put (flag.put c 2 z) 1 false) 0 false) ≡ interrupt_masks c
-masked_three c z = masked_put (flag.put (flag.put c 2 z) 1 false) 0 false (omega arith)
-    ∙ masked_put (flag.put c 2 z) 1 false (omega arith) ∙ masked_put c 2 z (omega arith)
-
-fdiv : (c : Ctx) (s : State) (p d : ℕ) → Live c s → s.regs.pc ≡ p → Here c p Fdiv → s.regs.a * 2 ^ 8 + s.regs.b ≡ d
-    → d < s.regs.x → Next c s (after_plain c.flags Fdiv s) (p + 2)
-fdiv c s p d l ep h e lt =
-    let q = fraction_is s.regs d e lt in
-    next c s p (p + 2) Fdiv l ep h refl tt tt tt (ap (λ (r : Regs). r.sp) q)
-    (ap (λ (r : Regs). interrupt_masks r.ccr) q ∙ masked_three s.regs.ccr _)
-    (ap (λ (r : Regs). r.pc) q ∙ omega (arith, h.high))
-
-transfer : (c : Ctx) (s : State) (p : ℕ) → Live c s → s.regs.pc ≡ p → Here c p TransferXD
-    → Next c s (after_plain c.flags TransferXD s) (p + 2)
-transfer c s p l ep h = next c s p (p + 2) TransferXD l ep h refl tt tt tt refl refl (omega (arith, h.high))
 
 -- EDIV and FDIV: the quotient in Y, its fraction in X
 record Divided (c : Ctx) (s : State) (pc n w : ℕ) : Type 0 where
@@ -69,14 +52,14 @@ divided c p n w s rest l ep st ex en le =
     let e = divided_is c.flags s.regs n en nz (omega arith) in
     let s1 = after_plain c.flags Ediv s in
     let s2 = after_plain c.flags Fdiv s1 in
-    let n1 = ediv c s p n l ep st.0 en nz (omega arith) in
+    let n1 = straight c s p _ l ep st.0 refl tt tt in
     let x1 : s1.regs.x ≡ suc w = ap (λ (r : Regs). r.x) e ∙ ex in
     let a1 : s1.regs.a ≡ n % s.regs.x / 2 ^ 8 = ap (λ (r : Regs). r.a) e in
     let b1 : s1.regs.b ≡ n % s.regs.x % 2 ^ 8 = ap (λ (r : Regs). r.b) e in
     let d1 : s1.regs.a * 2 ^ 8 + s1.regs.b ≡ n % suc w = omega arith in
     let lt : n % suc w < suc w = mod-lt n (omega arith) in
     let f = fraction_is s1.regs (n % suc w) d1 (omega arith) in
-    let n2 = fdiv c s1 (p + 1) (n % suc w) n1.live n1.pc_is st.1.0 d1 (omega arith) in
+    let n2 = straight c s1 (p + 1) _ n1.live n1.pc_is st.1.0 refl tt tt in
     record {
       t = s2;
       goes = goes_on c 1 0 1 0 s s1 s2 (goes_one c s s1 (p + 1) n1) (goes_one c s1 s2 (p + 1 + 2) n2);
@@ -85,7 +68,7 @@ divided c p n w s rest l ep st ex en le =
       y_is = ap (λ (r : Regs). r.y) f ∙ ediv_y c s n en nz (omega arith) ∙ eq;
       x_is = ap (λ (r : Regs). r.x) f ∙ ap (λ k. n % suc w * 2 ^ 16 / k) x1;
       mem_is = refl;
-      sp_is = ap (λ (r : Regs). r.sp) f ∙ ediv_sp c s n en nz (omega arith);
+      sp_is = ap (λ (r : Regs). r.sp) f ∙ ediv_sp c s;
     }
 
 -- both stored
@@ -106,10 +89,10 @@ stored c at p high low s rest l ep st ey lt ex wa wb =
     let s2 = after_plain c.flags (StabExtended at) s1 in
     let s3 = after_plain c.flags TransferXD s2 in
     let s4 = after_plain c.flags (StaaExtended (at + 1)) s3 in
-    let n1 = tfr c s p l ep st.0 in
-    let n2 = stab c s1 (p + 2) at n1.live n1.pc_is st.1.0 wa in
-    let n3 = transfer c s2 (p + 2 + 3) n2.live n2.pc_is st.1.1.0 in
-    let n4 = staa c s3 (p + 2 + 3 + 2) (at + 1) n3.live n3.pc_is st.1.1.1.0 wb in
+    let n1 = straight c s p _ l ep st.0 refl tt tt in
+    let n2 = straight c s1 (p + 2) _ n1.live n1.pc_is st.1.0 refl tt (wa, tt) in
+    let n3 = straight c s2 (p + 2 + 3) _ n2.live n2.pc_is st.1.1.0 refl tt tt in
+    let n4 = straight c s3 (p + 2 + 3 + 2) _ n3.live n3.pc_is st.1.1.1.0 refl tt (wb, tt) in
     let eb : s1.regs.b ≡ high = ap (λ k. k % 2 ^ 8) ey ∙ omega arith in
     record {
       t = s4;
@@ -164,16 +147,16 @@ word_run c at p n zero (Some d) before s l ep st ex en le hb wa wb =
     let s4 = after_plain c.flags (StabExtended at) s3 in
     let s5 = after_plain c.flags (ClrExtended (at + 1)) s4 in
     let x0 : (s.regs.x == 0) ≡ true = grind (arith, nat_tests) in
-    let n1 = cpx c s p l ep st.0 in
+    let n1 = straight c s p _ l ep st.0 refl tt tt in
     let z : has s1.regs.ccr 2 ≡ true = cpx_zero c s l.fits.x ∙ x0 in
     let tail = st.1.1.1.1.1.1.1.1.1 in
     let n2 = beq_off c s1 (p + 3) 15 n1.live n1.pc_is st.1.0 (omega arith) (omega (arith, tail.0.high)) z in
     let h3 = stands_at c (p + 3 + 2 + 1 + 2 + 2 + 3 + 2 + 3 + 2) (p + 3 + 2 + 15)
     (LdabImmediate d ∷ StabExtended at ∷ ClrExtended (at + 1) ∷ []) (omega arith) tail in
     let small = h3.0.fits in
-    let n3 = ldab_byte c s2 (p + 3 + 2 + 15) d n2.live n2.pc_is h3.0 h3.0.fits in
-    let n4 = stab c s3 (p + 3 + 2 + 15 + 2) at n3.live n3.pc_is h3.1.0 wa in
-    let n5 = clr c s4 (p + 3 + 2 + 15 + 2 + 3) (at + 1) n4.live n4.pc_is h3.1.1.0 wb in
+    let n3 = straight c s2 (p + 3 + 2 + 15) _ n2.live n2.pc_is h3.0 refl tt tt in
+    let n4 = straight c s3 (p + 3 + 2 + 15 + 2) _ n3.live n3.pc_is h3.1.0 refl tt (wa, tt) in
+    let n5 = straight c s4 (p + 3 + 2 + 15 + 2 + 3) _ n4.live n4.pc_is h3.1.1.0 refl tt (wb, tt) in
     let g = goes_on c 1 0 4 0 s s1 s5 (goes_one c s s1 (p + 3) n1)
     (goes_on c 1 0 3 0 s1 s2 s5 (goes_one c s1 s2 (p + 3 + 2 + 15) n2)
     (goes_on c 1 0 2 0 s2 s3 s5 (goes_one c s2 s3 (p + 3 + 2 + 15 + 2) n3)
@@ -188,7 +171,7 @@ word_run c at p n zero None before s l ep st ex en le hb wa wb =
     let s1 = after_plain c.flags (CpxImmediate 0) s in
     let s2 = after_plain c.flags (Beq 13) s1 in
     let x0 : (s.regs.x == 0) ≡ true = grind (arith, nat_tests) in
-    let n1 = cpx c s p l ep st.0 in
+    let n1 = straight c s p _ l ep st.0 refl tt tt in
     let z : has s1.regs.ccr 2 ≡ true = cpx_zero c s l.fits.x ∙ x0 in
     let n2 = beq_off c s1 (p + 3) 13 n1.live n1.pc_is st.1.0 (omega arith) (omega (arith, st.1.1.1.1.1.1.1.0.high)) z in
     let g = goes_on c 1 0 1 0 s s1 s2 (goes_one c s s1 (p + 3) n1) (goes_one c s1 s2 (p + 3 + 2 + 13) n2) in
@@ -224,7 +207,7 @@ word_run c at p n (suc w) d before s l ep st ex en le hb wa wb = by_default d st
     by_default None st =
         let s1 = after_plain c.flags (CpxImmediate 0) s in
         let s2 = after_plain c.flags (Beq 13) s1 in
-        let n1 = cpx c s p l ep st.0 in
+        let n1 = straight c s p _ l ep st.0 refl tt tt in
         let n2 = beq_on c s1 (p + 3) 13 n1.live n1.pc_is st.1.0 (omega arith) z in
         let q = divided c (p + 3 + 2) n w s2 (TransferYD ∷ StabExtended at ∷ TransferXD ∷ StaaExtended (at + 1) ∷ [])
         n2.live n2.pc_is st.1.1 ex en le in
@@ -239,7 +222,7 @@ word_run c at p n (suc w) d before s l ep st ex en le hb wa wb = by_default d st
         let s1 = after_plain c.flags (CpxImmediate 0) s in
         let s2 = after_plain c.flags (Beq 15) s1 in
         let rest : List Instr = Bra 8 ∷ LdabImmediate d ∷ StabExtended at ∷ ClrExtended (at + 1) ∷ [] in
-        let n1 = cpx c s p l ep st.0 in
+        let n1 = straight c s p _ l ep st.0 refl tt tt in
         let n2 = beq_on c s1 (p + 3) 15 n1.live n1.pc_is st.1.0 (omega arith) z in
         let q = divided c (p + 3 + 2) n w s2 (TransferYD ∷ StabExtended at ∷ TransferXD ∷ StaaExtended (at + 1) ∷ rest)
         n2.live n2.pc_is st.1.1 ex en le in

@@ -2,7 +2,7 @@
 use Rattle.eval_code.proofs.Words.{[], ◌*◌, ◌++◌, ◌+◌, ◌-◌, ◌/◌, ◌<◌, ◌==◌, ◌^◌, ◌∷◌, ◌≡◌, ◌≤◌, All, All-nil, arith}
 use Rattle.eval_code.proofs.Words.{at_address, Block, block_code, block_items, Bool, Byte, bytes_of_word, code_bytes}
 use Rattle.eval_code.proofs.Words.{Conjunction, conjunctions_of, Dec, div-lt_iff_lt-mul, encode_of, EncodedAreBytes}
-use Rattle.eval_code.proofs.Words.{eval_code, false, flat_map, Form, form_of, given_from, if◌then◌else◌, Input, Instr}
+use Rattle.eval_code.proofs.Words.{eval_code, false, flat_map, RuleInstruction, instruction_of, given_from, if◌then◌else◌, Input, Instr}
 use Rattle.eval_code.proofs.Words.{IsApart, IsBelow, IsValid, IsValidOutput, IsWithin, Item, item_bytes, length, List}
 use Rattle.eval_code.proofs.Words.{list_bytes, list_words, map, map-append, marked, MemoryMap, nat_tests}
 use Rattle.eval_code.proofs.Words.{nearest_byte, NearestIsByte, None, Op, Option, Output, place_after, placed, refl}
@@ -17,7 +17,7 @@ use Rattle.eval_code.proofs.{Joins.block_then, Joins.block_items-then, steps.Dec
 use Rattle.eval_code.proofs.phases.RuleMemory.{Below, below_all, below_append}
 use Rattle.eval_code.proofs.phases.RuleFacts.{BlockFacts, weights_below, rev_is_plain}
 use Rattle.eval_code.proofs.phases.Operands.{fit_answer}
-use Rattle.rule_layout.specs.declared.flat.Form.TheVariants as form
+use Rattle.rule_layout.specs.declared.flat.RuleInstruction.TheVariants as instruction
 
 -- items that give bytes
 abbrev pub ItemsFit : List Item → Type 0
@@ -105,9 +105,9 @@ singletons_fit near (o ∷ os) v = let w = v 0 o (omega arith) in
     (own_fit near o o.singletons w w.singletons) (singletons_fit near os (λ k d lt. v (suc k) d (omega arith)))
 
 -- weights and the rule list
-weights_fit : (f : Form) (ws : List ℕ) → Below 256 ws → Below 256 (weight_bytes_by f ws)
-weights_fit form.Rev ws h = tt
-weights_fit form.Revw ws h = h
+weights_fit : (f : RuleInstruction) (ws : List ℕ) → Below 256 ws → Below 256 (weight_bytes_by f ws)
+weights_fit instruction.Rev ws h = tt
+weights_fit instruction.Revw ws h = h
 
 words_fit : (ws : List ℕ) → Below 65536 ws → Below 256 (flat_map bytes_of_word ws)
 words_fit [] h = tt
@@ -146,11 +146,11 @@ list_bytes_fit n (c ∷ cs) le h =
     (below_more n 256 c.conclusions (omega arith) (below_all n c.conclusions k.conclusions))
     (list_bytes_fit n cs le (λ j d lt. h (suc j) d (omega arith)))
 
-rules_fit : (base n : ℕ) (f : Form) (cs : List Conjunction) → (f ≡ form.Rev → n ≤ 254) → base + n ≤ 65534
+rules_fit : (base n : ℕ) (f : RuleInstruction) (cs : List Conjunction) → (f ≡ instruction.Rev → n ≤ 254) → base + n ≤ 65534
     → All (IsBelow n) cs
     → Below 256 (rule_bytes_by base f cs)
-rules_fit base n form.Rev cs small le h = list_bytes_fit n cs (let q = small refl in q) h
-rules_fit base n form.Revw cs small le h = words_fit (list_words base cs) (list_words_fit base n cs le h)
+rules_fit base n instruction.Rev cs small le h = list_bytes_fit n cs (let q = small refl in q) h
+rules_fit base n instruction.Revw cs small le h = words_fit (list_words base cs) (list_words_fit base n cs le h)
 
 joined : (xs ys : List Instr) → ItemsFit (map Op xs) → ItemsFit (map Op ys) → ItemsFit (map Op (xs ++ ys))
 joined xs ys a b = subst ItemsFit (sym (map-append (λ i. Op i) xs ys)) (fit_append (map Op xs) (map Op ys) a b)
@@ -164,13 +164,13 @@ pub block_fits_between : EncodedAreBytes → NearestIsByte
 block_fits_between encoded near l b w before behind rest v facts a front back others =
     let few = facts.few_slots in
     let top = a.slots in
-    let small : form_of b ≡ form.Rev → length (slots_of b) ≤ 254 = λ e. (rev_is_plain b facts e).0 in
+    let small : instruction_of b ≡ instruction.Rev → length (slots_of b) ≤ 254 = λ e. (rev_is_plain b facts e).0 in
     let eval : ItemsFit (map Op (eval_code l b w)) =
     fit_code encoded (eval_code l b w) (fit_answer near l b w a v facts) in
     let code : ItemsFit (map Op (block_code l b w before behind)) =
     joined before (eval_code l b w ++ behind) front (joined (eval_code l b w) behind eval back) in
     let rules : Below 256 (rule_bytes l.slots b) =
-    rules_fit l.slots (length (slots_of b)) (form_of b) (conjunctions_of b) small (omega arith) facts.in_range in
+    rules_fit l.slots (length (slots_of b)) (instruction_of b) (conjunctions_of b) small (omega arith) facts.in_range in
     let all : ItemsFit (block_then l b w before behind rest) = (
       tt,
       fit_append (map Op (block_code l b w before behind)) _ code (
@@ -181,7 +181,7 @@ block_fits_between encoded near l b w before behind rest v facts a front back ot
               (fit_bytes (singleton_bytes b) (singletons_fit near b.outputs v.outputs)) (
                 tt,
                 fit_append (map Byte (weight_bytes b)) _
-                    (fit_bytes (weight_bytes b) (weights_fit (form_of b) (weights_of b) (weights_below b facts))) (
+                    (fit_bytes (weight_bytes b) (weights_fit (instruction_of b) (weights_of b) (weights_below b facts))) (
                       tt,
                       fit_append (map Byte (rule_bytes l.slots b)) rest
                           (fit_bytes (rule_bytes l.slots b) rules) others,

@@ -1,9 +1,10 @@
 -- The instructions of the code, from their bytes.
-use Rattle.eval_code.proofs.Words.{[], ◌++◌, ◌+◌, ◌<◌, ◌∙◌, ◌∷◌, ◌≡◌, ◌≤◌, ap, arith, decode_at, DecodesWhereItStands}
-use Rattle.eval_code.proofs.Words.{encode_of, get_or, Instr, length, List, plus, refl, six_from, ℕ}
+use Rattle.eval_code.proofs.Words.{[], ◌++◌, ◌+◌, ◌<◌, ◌∙◌, ◌∷◌, ◌≡◌, ◌≤◌, AgreeFrom, ap, arith, decode_at}
+use Rattle.eval_code.proofs.Words.{DecodesWhereItStands, encode_of, get_or, Instr, length, List, plus, refl, six_from}
+use Rattle.eval_code.proofs.Words.{stack_end, ℕ}
 use Rattle.cpu12_isa.specs.{Fits.EncodedIsShort, Memory.bytes_at, Code.decode_of, Code.Begins, Code.DecodesEncoded}
 pub use Rattle.eval_code.specs.Code.{code_bytes, FitCode}
-use Rattle.eval_code.proofs.steps.Memory.{HasBytes, SameHigh}
+use Rattle.eval_code.proofs.steps.Memory.{HasBytes}
 
 -- these addresses go up by 1
 abbrev GoUpFrom : ℕ → List ℕ → Type 0
@@ -36,7 +37,8 @@ six : (m : List ℕ) (p : ℕ) (a b d e f g : ℕ) → get_or m p 0 ≡ a → ge
     → bytes_at m (six_from p) ≡ a ∷ b ∷ d ∷ e ∷ f ∷ g ∷ []
 six m p a b d e f g h1 h2 h3 h4 h5 h6 = cc
 
-pub decode_same : (m n : List ℕ) (p : ℕ) → 0x2000 ≤ p → p + 6 < 65536 → SameHigh m n → decode_at n p ≡ decode_at m p
+pub decode_same : (m n : List ℕ) (p : ℕ) → 0x2000 ≤ p → p + 6 < 65536 → AgreeFrom stack_end m n
+    → decode_at n p ≡ decode_at m p
 decode_same m n p lo hi h =
     let at : (k : ℕ) → k ≤ 5 → get_or n (plus p k) 0 ≡ get_or m (plus p k) 0 = λ k l. h (plus p k) (omega arith) in
     ap decode_of (six n p _ _ _ _ _ _ (h p lo) (at 1 (omega arith)) (at 2 (omega arith)) (at 3 (omega arith))

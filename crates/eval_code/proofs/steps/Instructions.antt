@@ -1,14 +1,14 @@
 -- What each instruction of the generated code does, without a wrap.
 use Rattle.eval_code.proofs.Words.{[], ◌%◌, ◌*◌, ◌+◌, ◌-◌, ◌/◌, ◌<◌, ◌==◌, ◌^◌, ◌||◌, ◌∙◌, ◌∷◌, ◌≡◌, ◌≢◌, ◌≤◌}
-use Rattle.eval_code.proofs.Words.{after_plain, Andcc, ap, ap₂, arith, Beq, Bra, ClrExtended, Coma, CpxImmediate}
-use Rattle.eval_code.proofs.Words.{Ediv, false, get_or, grade_of, has, if◌then◌else◌, inl, inr, interrupt_masks}
-use Rattle.eval_code.proofs.Words.{LdaaExtended, LdaaImmediate, LdabImmediate, LdxImmediate, LdyImmediate, Mem, min}
-use Rattle.eval_code.proofs.Words.{nat_lt, nat_tests, Orcc, plus, Reads, refl, Regs, StaaExtended, StabExtended}
-use Rattle.eval_code.proofs.Words.{State, TransferYD, true, Writes, ℕ}
+use Rattle.eval_code.proofs.Words.{after_plain, ap, ap₂, arith, Beq, Bool, Bra, CpxImmediate, Each, Ediv, encode_of}
+use Rattle.eval_code.proofs.Words.{false, get_or, grade_of, has, if◌then◌else◌, inl, inr, Instr, length, Mem, min}
+use Rattle.eval_code.proofs.Words.{nat_lt, nat_tests, plus, Reads, refl, Regs, State, true, Writes, ℕ}
 use Rattle.std.proofs.{Common.nat_le}
-use Rattle.cpu12_isa.specs.{Flags.put, Flags.tested_word, Registers.grade, Registers.divided}
+use Rattle.cpu12_isa.specs.{Act.read_by, Flags.put, Flags.tested_word, Meaning.act_of, Meaning.effect}
+use Rattle.cpu12_isa.specs.{Plain.is_straight, Registers.grade, Registers.divided}
+use Rattle.cpu12_parts.specs.{Laws.addresses}
 use Rattle.point_slope.specs.{Tables.grade_under}
-use Rattle.eval_code.proofs.steps.Flags.{masked_tested, masked_four, zero_four, masked_open, masked_and, masked_or}
+use Rattle.eval_code.proofs.steps.Flags.{zero_four}
 use Rattle.eval_code.proofs.steps.Stepping.{Ctx, Here, Live, Next, next}
 
 -- Y:D by X, where the quotient is a word
@@ -26,81 +26,15 @@ divided_is flags r n en nz small =
     let b : nat_le 65536 (n / r.x) ≡ false = grind (arith, nat_tests) in
     rw (en, a, b)
 
-pub ldaa : (c : Ctx) (s : State) (p at : ℕ) → Live c s → s.regs.pc ≡ p → Here c p (LdaaExtended at)
-    → Reads c.memory_map at
-    → Next c s (after_plain c.flags (LdaaExtended at) s) (p + 3)
-ldaa c s p at l ep h lt =
-    next c s p (p + 3) (LdaaExtended at) l ep h refl (omega arith) (lt, tt) tt refl (masked_tested s.regs.ccr _ _)
-    (omega (arith, h.high))
-
-pub ldaa_byte : (c : Ctx) (s : State) (p v : ℕ) → Live c s → s.regs.pc ≡ p → Here c p (LdaaImmediate v) → v < 2 ^ 8
-    → Next c s (after_plain c.flags (LdaaImmediate v) s) (p + 2)
-ldaa_byte c s p v l ep h lt =
-    next c s p (p + 2) (LdaaImmediate v) l ep h refl lt tt tt refl (masked_tested s.regs.ccr _ _)
-    (omega (arith, h.high))
-
-pub ldab_byte : (c : Ctx) (s : State) (p v : ℕ) → Live c s → s.regs.pc ≡ p → Here c p (LdabImmediate v) → v < 2 ^ 8
-    → Next c s (after_plain c.flags (LdabImmediate v) s) (p + 2)
-ldab_byte c s p v l ep h lt =
-    next c s p (p + 2) (LdabImmediate v) l ep h refl lt tt tt refl (masked_tested s.regs.ccr _ _)
-    (omega (arith, h.high))
-
-pub ldx : (c : Ctx) (s : State) (p v : ℕ) → Live c s → s.regs.pc ≡ p → Here c p (LdxImmediate v) → v < 2 ^ 16
-    → Next c s (after_plain c.flags (LdxImmediate v) s) (p + 3)
-ldx c s p v l ep h lt =
-    next c s p (p + 3) (LdxImmediate v) l ep h refl lt tt tt refl (masked_tested s.regs.ccr _ _) (omega (arith, h.high))
-
-pub ldy : (c : Ctx) (s : State) (p v : ℕ) → Live c s → s.regs.pc ≡ p → Here c p (LdyImmediate v) → v < 2 ^ 16
-    → Next c s (after_plain c.flags (LdyImmediate v) s) (p + 3)
-ldy c s p v l ep h lt =
-    next c s p (p + 3) (LdyImmediate v) l ep h refl lt tt tt refl (masked_tested s.regs.ccr _ _) (omega (arith, h.high))
-
-pub staa : (c : Ctx) (s : State) (p at : ℕ) → Live c s → s.regs.pc ≡ p → Here c p (StaaExtended at)
-    → Writes c.memory_map at
-    → Next c s (after_plain c.flags (StaaExtended at) s) (p + 3)
-staa c s p at l ep h lt =
-    next c s p (p + 3) (StaaExtended at) l ep h refl (omega arith) tt (lt, tt) refl (masked_tested s.regs.ccr _ _)
-    (omega (arith, h.high))
-
-pub stab : (c : Ctx) (s : State) (p at : ℕ) → Live c s → s.regs.pc ≡ p → Here c p (StabExtended at)
-    → Writes c.memory_map at
-    → Next c s (after_plain c.flags (StabExtended at) s) (p + 3)
-stab c s p at l ep h lt =
-    next c s p (p + 3) (StabExtended at) l ep h refl (omega arith) tt (lt, tt) refl (masked_tested s.regs.ccr _ _)
-    (omega (arith, h.high))
-
-pub clr : (c : Ctx) (s : State) (p at : ℕ) → Live c s → s.regs.pc ≡ p → Here c p (ClrExtended at)
-    → Writes c.memory_map at
-    → Next c s (after_plain c.flags (ClrExtended at) s) (p + 3)
-clr c s p at l ep h lt =
-    next c s p (p + 3) (ClrExtended at) l ep h refl (omega arith) tt (lt, tt) refl
-    (masked_four s.regs.ccr false true false false) (omega (arith, h.high))
-
-pub coma : (c : Ctx) (s : State) (p : ℕ) → Live c s → s.regs.pc ≡ p → Here c p Coma
-    → Next c s (after_plain c.flags Coma s) (p + 1)
-coma c s p l ep h = next c s p (p + 1) Coma l ep h refl tt tt tt refl (masked_four s.regs.ccr _ _ false true)
-    (omega (arith, h.high))
-
-pub andcc_v : (c : Ctx) (s : State) (p : ℕ) → Live c s → s.regs.pc ≡ p → Here c p (Andcc 0xFD)
-    → Next c s (after_plain c.flags (Andcc 0xFD) s) (p + 2)
-andcc_v c s p l ep h =
-    next c s p (p + 2) (Andcc 0xFD) l ep h refl (omega arith) tt tt refl (masked_and s.regs.ccr.0 253 refl refl)
-    (omega (arith, h.high))
-
-pub orcc_c : (c : Ctx) (s : State) (p : ℕ) → Live c s → s.regs.pc ≡ p → Here c p (Orcc 0x01)
-    → Next c s (after_plain c.flags (Orcc 0x01) s) (p + 2)
-orcc_c c s p l ep h =
-    next c s p (p + 2) (Orcc 0x01) l ep h refl (omega arith) tt tt refl (masked_or s.regs.ccr.0 1 refl refl)
-    (omega (arith, h.high))
-
-pub tfr : (c : Ctx) (s : State) (p : ℕ) → Live c s → s.regs.pc ≡ p → Here c p TransferYD
-    → Next c s (after_plain c.flags TransferYD s) (p + 2)
-tfr c s p l ep h = next c s p (p + 2) TransferYD l ep h refl tt tt tt refl refl (omega (arith, h.high))
-
-pub cpx : (c : Ctx) (s : State) (p : ℕ) → Live c s → s.regs.pc ≡ p → Here c p (CpxImmediate 0)
-    → Next c s (after_plain c.flags (CpxImmediate 0) s) (p + 3)
-cpx c s p l ep h = next c s p (p + 3) (CpxImmediate 0) l ep h refl (omega arith) tt tt refl
-    (masked_four s.regs.ccr _ _ _ _) (omega (arith, h.high))
+-- an instruction that goes straight on, with what it reads and writes
+pub straight : (c : Ctx) (s : State) (p : ℕ) (i : Instr) → Live c s → s.regs.pc ≡ p → Here c p i → is_straight i ≡ true
+    → Each (Reads c.memory_map) (read_by (act_of c.flags i s.regs) s.mem)
+    → Each (Writes c.memory_map) (addresses (effect c.flags i s.regs s.mem).writes)
+    → Next c s (after_plain c.flags i s) (p + length (encode_of i))
+straight c s p i l ep h st reads writes =
+    let k = c.goes_straight c.flags i s.regs s.mem st in
+    next c s p (p + length (encode_of i)) i l ep h k.plain h.fits reads writes k.sp
+    (ap₂ (λ (a b : Bool). (a, b)) k.mask k.x) (omega (arith, k.pc, ep, h.high, c.short i))
 
 -- Z after CPX #0 says whether X is 0
 pub cpx_zero : (c : Ctx) (s : State) → s.regs.x < 2 ^ 16
@@ -130,15 +64,6 @@ bra_on c s p to l ep h lt hi =
     next c s p (p + 2 + to) (Bra to) l ep h refl (omega arith) tt tt refl refl
     (ap (λ d. plus (plus s.regs.pc 2) (if d then to else to + 65280)) a ∙ omega (arith, h.high))
 
-pub ediv : (c : Ctx) (s : State) (p n : ℕ) → Live c s → s.regs.pc ≡ p → Here c p Ediv
-    → s.regs.y * 2 ^ 16 + (s.regs.a * 2 ^ 8 + s.regs.b) ≡ n → s.regs.x ≢ 0 → n / s.regs.x < 65536
-    → Next c s (after_plain c.flags Ediv s) (p + 1)
-ediv c s p n l ep h en nz small =
-    let e = divided_is c.flags s.regs n en nz small in
-    next c s p (p + 1) Ediv l ep h refl tt tt tt (ap (λ (r : Regs). r.sp) e)
-    (ap (λ (r : Regs). interrupt_masks r.ccr) e ∙ masked_four s.regs.ccr _ _ false false)
-    (ap (λ (r : Regs). r.pc) e ∙ omega (arith, h.high))
-
 pub ediv_y : (c : Ctx) (s : State) (n : ℕ) → s.regs.y * 2 ^ 16 + (s.regs.a * 2 ^ 8 + s.regs.b) ≡ n → s.regs.x ≢ 0
     → n / s.regs.x < 65536 → (after_plain c.flags Ediv s).regs.y ≡ n / s.regs.x
 ediv_y c s n en nz small = ap (λ (r : Regs). r.y) (divided_is c.flags s.regs n en nz small)
@@ -160,11 +85,10 @@ mem c s p x l ep h ex lo hi own =
     let end = c.apart.tables_end in
     let at : (k : ℕ) → k ≤ 3 → Reads c.memory_map (plus s.regs.x k) = λ k le. inr
     (inr (inl (omega arith, omega arith))) in
-    next c s p (p + 1) Mem l ep h refl tt (
+    straight c s p Mem l ep h refl (
       inr (inr (inl (omega arith, omega arith))),
       (at 1 (omega arith), (at 2 (omega arith), (at 3 (omega arith), tt))),
-    ) (own, tt) refl
-    (masked_open s.regs.ccr c.flags) (omega (arith, h.high))
+    ) (own, tt)
 
 pub mem_grade : (c : Ctx) (s : State) (x a0 a1 a2 a3 : ℕ) → s.regs.x ≡ x → x + 4 < 65536 → get_or s.mem x 0 ≡ a0
     → get_or s.mem (x + 1) 0 ≡ a1 → get_or s.mem (x + 1 + 1) 0 ≡ a2 → get_or s.mem (x + 1 + 1 + 1) 0 ≡ a3
@@ -178,6 +102,5 @@ mem_grade c s x a0 a1 a2 a3 ex hi h0 h1 h2 h3 =
     (get_or s.mem (plus s.regs.x 3) 0) s.regs.a ≡ grade a0 a1 a2 a3 s.regs.a = cc in
     same ∙ grade_same a0 a1 a2 a3 s.regs.a
 
-pub ediv_sp : (c : Ctx) (s : State) (n : ℕ) → s.regs.y * 2 ^ 16 + (s.regs.a * 2 ^ 8 + s.regs.b) ≡ n → s.regs.x ≢ 0
-    → n / s.regs.x < 65536 → (after_plain c.flags Ediv s).regs.sp ≡ s.regs.sp
-ediv_sp c s n en nz small = ap (λ (r : Regs). r.sp) (divided_is c.flags s.regs n en nz small)
+pub ediv_sp : (c : Ctx) (s : State) → (after_plain c.flags Ediv s).regs.sp ≡ s.regs.sp
+ediv_sp c s = let k = c.goes_straight c.flags Ediv s.regs s.mem refl in k.sp

@@ -1,11 +1,10 @@
 -- Bytes put into memory, and memories that keep what stands high.
-use Rattle.eval_code.proofs.Words.{[], ◌++◌, ◌+◌, ◌<◌, ◌^◌, ◌∙◌, ◌∷◌, ◌≡◌, ◌≤◌, ◌⊎◌, All, ap, AreBytes, arith}
-use Rattle.eval_code.proofs.Words.{cases_eq, get_or, get_or-set_other, get_or-set_same, inl, inr, length, length-set}
-use Rattle.eval_code.proofs.Words.{List, put, refl, set, subst, suc, sym, zero, ℕ, ⊎_elim}
-use Rattle.cpu12_isa.specs.{Fits.FitsWrites}
+use Rattle.eval_code.proofs.Words.{[], ◌++◌, ◌+◌, ◌<◌, ◌^◌, ◌∙◌, ◌∷◌, ◌≡◌, ◌≤◌, ◌⊎◌, AgreeFrom, All, ap, AreBytes}
+use Rattle.eval_code.proofs.Words.{arith, cases_eq, get_or, get_or-set_other, get_or-set_same, inl, inr, length}
+use Rattle.eval_code.proofs.Words.{length-set, List, put, refl, set, stack_end, subst, suc, sym, zero, ℕ, ⊎_elim}
+use Rattle.cpu12_isa.specs.{Act.write_all, Agreement.AgreeBetween, Fits.FitsWrites}
 use Rattle.std.proofs.lemmas.List.{set_comm, set-set}
 pub use Rattle.eval_code.specs.Evaluation.{HasBytes}
-use Rattle.cpu12_isa.specs.Act.{write_all}
 
 pub length-put : (m : List ℕ) (p : ℕ) (bs : List ℕ) → length (put m p bs) ≡ length m
 length-put m p [] = refl
@@ -80,7 +79,7 @@ has_put m p (b ∷ bs) h =
 
 -- memories that agree at a place have the same bytes there
 pub same_bytes : (m n : List ℕ) (p : ℕ) (bs : List ℕ)
-    → ((k : ℕ) → p ≤ k → k < p + length bs → get_or n k 0 ≡ get_or m k 0) → HasBytes m p bs → HasBytes n p bs
+    → AgreeBetween p (p + length bs) m n → HasBytes m p bs → HasBytes n p bs
 same_bytes m n p [] e h = tt
 same_bytes m n p (b ∷ bs) e h =
     (e p (omega arith) (omega arith) ∙ h.0, same_bytes m n (p + 1) bs (λ k lo hi. e k (omega arith) (omega arith)) h.1)
@@ -112,14 +111,11 @@ bytes_after_put m p (b ∷ bs) h a le =
     (λ k d lt. let q : get_or (b ∷ bs) (suc k) d < 2 ^ 8 = a (suc k) d (omega arith) in omega arith)
     (omega (arith, length-set m p b))
 
--- n has the bytes of m from $2000 on
-abbrev pub SameHigh : List ℕ → List ℕ → Type 0
-SameHigh m n = (at : ℕ) → 0x2000 ≤ at → get_or n at 0 ≡ get_or m at 0
-
-pub high_set : (m n : List ℕ) (p b : ℕ) → p < 0x2000 → SameHigh m n → SameHigh m (set n p b)
+pub high_set : (m n : List ℕ) (p b : ℕ) → p < 0x2000 → AgreeFrom stack_end m n → AgreeFrom stack_end m (set n p b)
 high_set m n p b lt h at le = get_or-set_other n p at b 0 (omega arith) ∙ h at le
 
-pub high_put : (m n : List ℕ) (p : ℕ) (bs : List ℕ) → p + length bs ≤ 0x2000 → SameHigh m n → SameHigh m (put n p bs)
+pub high_put : (m n : List ℕ) (p : ℕ) (bs : List ℕ) → p + length bs ≤ 0x2000 → AgreeFrom stack_end m n
+    → AgreeFrom stack_end m (put n p bs)
 high_put m n p bs lt h at le = at_put_out n p bs at (inr (omega arith)) ∙ h at le
 
 -- bytes as they are read one after another
@@ -139,7 +135,8 @@ abbrev pub WriteBelow : ℕ → List (ℕ × ℕ) → Type 0
 WriteBelow n [] = Unit {0}
 WriteBelow n (w ∷ ws) = (w.0 < n) × WriteBelow n ws
 
-pub high_writes : (m n : List ℕ) (ws : List (ℕ × ℕ)) → WriteBelow 0x2000 ws → SameHigh m n → SameHigh m (write_all ws n)
+pub high_writes : (m n : List ℕ) (ws : List (ℕ × ℕ)) → WriteBelow 0x2000 ws → AgreeFrom stack_end m n
+    → AgreeFrom stack_end m (write_all ws n)
 high_writes m n [] h e = e
 high_writes m n (w ∷ ws) h e =
     high_writes m (set n w.0 w.1) ws h.1

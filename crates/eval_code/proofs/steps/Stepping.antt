@@ -1,19 +1,22 @@
 -- One instruction of EVAL, and where it leads.
-use Rattle.eval_code.proofs.Words.{[], ◌++◌, ◌+◌, ◌<◌, ◌^◌, ◌∙◌, ◌∷◌, ◌≡◌, ◌≤◌, after_plain, ap, AreBytes, arith}
-use Rattle.eval_code.proofs.Words.{Bool, decode_at, Each, encode_of, FitsRegs, inl, inr, Instr, interrupt_masks}
-use Rattle.eval_code.proofs.Words.{IsApart, length, List, MemoryMap, Ok, plus, Reads, refl, six_from, State, StaysFit}
-use Rattle.eval_code.proofs.Words.{subst, true, Writes, ℕ}
+use Rattle.eval_code.proofs.Words.{[], ◌++◌, ◌+◌, ◌<◌, ◌^◌, ◌∙◌, ◌∷◌, ◌≡◌, ◌≤◌, after_plain, AgreeFrom, ap, AreBytes}
+use Rattle.eval_code.proofs.Words.{arith, Bool, decode_at, Each, encode_of, FitsRegs, inl, inr, Instr}
+use Rattle.eval_code.proofs.Words.{interrupt_masks, IsApart, length, List, MemoryMap, Ok, Reads, refl, six_from}
+use Rattle.eval_code.proofs.Words.{stack_end, State, StaysFit, subst, true, Writes, ℕ}
 use Rattle.cpu12_isa.specs.{Act.read_by, Code.FitsOperands, Meaning.act_of, Meaning.effect, Meaning.is_plain}
+use Rattle.cpu12_isa.specs.{Fits.EncodedIsShort, Plain.StraightGoesOn}
 use Rattle.cpu12_parts.specs.{Laws.addresses, Laws.IsOff, Touching.IsIn, Touching.IsBetween}
-use Rattle.eval_code.specs.{Evaluation.code_region, Evaluation.IsEvalStep}
+use Rattle.eval_code.specs.{Evaluation.eval_frame, Frames.IsStepIn}
 use Rattle.cpu12_isa.proofs.Algebra.{length_writes}
-use Rattle.eval_code.proofs.steps.Memory.{SameHigh, WriteBelow, high_writes, bytes_writes}
-use Rattle.eval_code.proofs.{Sizes.code_size, steps.Decoding.decode_same}
+use Rattle.eval_code.proofs.steps.Memory.{WriteBelow, high_writes, bytes_writes}
+use Rattle.eval_code.proofs.{Sizes.code_size, steps.Addresses.six_each, steps.Decoding.decode_same}
 use Rattle.cpu12_parts.proofs.Algebra.{Bounded, bounded_none, bounded_one, bounded_on, bounded_more}
 
 -- what a run is under: the memory map, memory where EVAL begins and the open flags, and SP, I and X as they stay
 pub record Ctx : Type 0 where
   pub stays_fit : StaysFit
+  pub goes_straight : StraightGoesOn
+  pub short : EncodedIsShort
   pub memory_map : MemoryMap
   pub apart : IsApart memory_map
   pub image : List ℕ
@@ -57,22 +60,16 @@ pub record Live (c : Ctx) (s : State) : Type 0 where
   pub fits : FitsRegs s.regs
   pub stack : s.regs.sp ≡ c.sp
   pub masks : interrupt_masks s.regs.ccr ≡ c.masks
-  pub same : SameHigh c.image s.mem
+  pub same : AgreeFrom stack_end c.image s.mem
 
 pub between_of : (c : Ctx) (s : State) → Live c s → IsBetween s
 between_of c s l = record { off = l.off; size = l.size; bytes = l.bytes; fits = l.fits }
 
 -- an address of the code, and those that a fetch looks at
 pub code_in : (c : Ctx) (pc : ℕ) → c.memory_map.eval ≤ pc → pc + 6 ≤ c.memory_map.eval + 2432 → pc + 6 < 65536
-    → Each (IsIn (code_region c.memory_map)) (six_from pc)
+    → Each (IsIn ((eval_frame c.memory_map).code)) (six_from pc)
 code_in c pc a b h =
-    let at : (k : ℕ) → k ≤ 5 → IsIn (code_region c.memory_map) (plus pc k) = λ k le. (omega arith, omega arith) in (
-      (omega arith, omega arith),
-      (
-        at 1 (omega arith),
-        (at 2 (omega arith), (at 3 (omega arith), (at 4 (omega arith), (at 5 (omega arith), tt)))),
-      ),
-    )
+    six_each (IsIn (eval_frame c.memory_map).code) pc h (λ at lo hi. (omega arith, omega arith))
 
 -- what EVAL writes is RAM
 pub written_low : (l : MemoryMap) (at : ℕ) → IsApart l → Writes l at → at < 0x1800
@@ -86,7 +83,7 @@ writes_low l (w ∷ ws) a h = ((let q = written_low l w.0 a h.0 in omega arith),
 
 -- one instruction on
 pub record Next (c : Ctx) (s t : State) (q : ℕ) : Type 0 where
-  pub step : IsEvalStep c.memory_map c.flags 0 s t
+  pub step : IsStepIn (eval_frame c.memory_map) c.flags 0 s t
   pub live : Live c t
   pub pc_is : t.regs.pc ≡ q
 
@@ -129,19 +126,19 @@ next c s p q i l ep h pl fo reads writes esp masks pc =
 
 -- executions of at most n instructions, with at most k parts beyond their first
 abbrev pub Goes : Ctx → ℕ → ℕ → State → State → Type 0
-Goes c = Bounded (IsEvalStep c.memory_map c.flags)
+Goes c = Bounded (IsStepIn (eval_frame c.memory_map) c.flags)
 
 pub goes_none : (c : Ctx) (s : State) → Goes c 0 0 s s
-goes_none c = bounded_none (IsEvalStep c.memory_map c.flags)
+goes_none c = bounded_none (IsStepIn (eval_frame c.memory_map) c.flags)
 
-pub goes_part : (c : Ctx) (d : ℕ) (s t : State) → IsEvalStep c.memory_map c.flags d s t → Goes c 1 d s t
-goes_part c = bounded_one (IsEvalStep c.memory_map c.flags)
+pub goes_part : (c : Ctx) (d : ℕ) (s t : State) → IsStepIn (eval_frame c.memory_map) c.flags d s t → Goes c 1 d s t
+goes_part c = bounded_one (IsStepIn (eval_frame c.memory_map) c.flags)
 
 pub goes_on : (c : Ctx) (n k m j : ℕ) (s t u : State) → Goes c n k s t → Goes c m j t u → Goes c (n + m) (k + j) s u
-goes_on c = bounded_on (IsEvalStep c.memory_map c.flags)
+goes_on c = bounded_on (IsStepIn (eval_frame c.memory_map) c.flags)
 
 pub goes_most : (c : Ctx) (n k m j : ℕ) (s t : State) → n ≤ m → k ≤ j → Goes c n k s t → Goes c m j s t
-goes_most c = bounded_more (IsEvalStep c.memory_map c.flags)
+goes_most c = bounded_more (IsStepIn (eval_frame c.memory_map) c.flags)
 
 pub goes_one : (c : Ctx) (s t : State) (q : ℕ) → Next c s t q → Goes c 1 0 s t
 goes_one c s t q h = goes_part c 0 s t h.step

@@ -10,20 +10,12 @@ use Rattle.cpu12_isa.specs.{declared.instr.Ccr.Ccr, declared.instr.Instr.TheVari
 use Rattle.cpu12_isa.specs.{declared.instr.Instr.TheVariants.CpxImmediate}
 use Rattle.cpu12_isa.specs.{declared.instr.Instr.TheVariants.AddbPostIncrementX, Flags.put, Memory.plus}
 use Rattle.alone_code.specs.{Settings.Here, Settings.Next}
-use Rattle.eval_code.specs.Masks.{interrupt_masks}
 pub use Rattle.watched_code.specs.WatchedCode.{AreSegments}
-use Rattle.eval_code.proofs.Algebra.{masked_or, masked_and, masked_tested, masked_four, zero_four}
+use Rattle.cpu12_isa.proofs.Algebra.{masked_tested, masked_four, masked_five}
+use Rattle.eval_code.proofs.Algebra.{zero_four}
 use Rattle.alone_code.proofs.Algebra.{high_shown}
 
--- H leaves I and X, and with the other flags Z
-masked_half : (c : Ccr) (b : Bool) → interrupt_masks (put c 5 b) ≡ interrupt_masks c
-masked_half c true = masked_or c.0 32 refl refl
-masked_half c false = masked_and c.0 223 refl refl
-
-masked_five : (c : Ccr) (h n z v k : Bool)
-    → interrupt_masks (put (put (put (put (put c 5 h) 3 n) 2 z) 1 v) 0 k) ≡ interrupt_masks c
-masked_five c h n z v k = masked_four (put c 5 h) n z v k ∙ masked_half c h
-
+-- Z where H is put too
 zero_five : (c : Ccr) (h n z v k : Bool) → has (put (put (put (put (put c 5 h) 3 n) 2 z) 1 v) 0 k) 2 ≡ z
 zero_five c h n z v k = zero_four (put c 5 h) n z v k
 
@@ -65,11 +57,11 @@ pub addb_zero : (c : Setting) (s : State) (v : ℕ)
     → has (after_plain c.flags (AddbImmediate v) s).regs.ccr 2 ≡ ((s.regs.b + v) % 2 ^ 8 == 0)
 addb_zero c s v = zero_five s.regs.ccr _ _ ((s.regs.b + v) % 2 ^ 8 == 0) _ _
 
--- no byte that stands high is open
 -- one step of the code around EVAL
 abbrev pub Step : Setting → ℕ → State → State → Type 0
 Step c = IsInterruptibleStep c.open_to c.memory_map c.image c.flags
 
+-- no byte that stands high is open
 abbrev pub IsShutAbove : Setting → Type 0
 IsShutAbove c = (at : ℕ) → 0x2000 ≤ at → c.open_to at ≡ false
 

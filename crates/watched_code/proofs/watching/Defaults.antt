@@ -43,10 +43,6 @@ pub record Stored (c : Setting) (n : ℕ) (s : State) (mem : List ℕ) (rest : L
   pub mem_is : t.mem ≡ mem
   pub behind : Stands c at rest
 
-goes_most : (c : Setting) (n m : ℕ) (s t : State) → n ≤ m → Bounded (Step c) n 0 s t → Bounded (Step c) m 0 s t
-goes_most c n m s t le =
-    bounded_more (Step c) n 0 m 0 s t le (omega arith)
-
 -- a byte is stored
 pub stored : InstructionGoesOn → (c : Setting) (s : State) (p to byte : ℕ) (rest : List Instr) → Live c s
     → s.regs.pc ≡ p → Stands c p (LdabImmediate byte ∷ StabExtended to ∷ rest) → to < 0x1800
@@ -74,7 +70,7 @@ default_run go c s p to None rest l ep h low shown =
     record {
       t = s;
       goes =
-          goes_most c 0 2 s s (omega arith) (bounded_none (Step c) s);
+          bounded_more (Step c) 0 0 2 0 s s (omega arith) (omega arith) (bounded_none (Step c) s);
       live = l;
       at = p;
       pc_is = ep;

@@ -113,7 +113,7 @@ fits_check l os gs h =
           (omega arith, (omega arith, (omega arith, tt))),
     )
 
-fits_frame : (l : MemoryMap) → l.ready < 65536 → l.eval < 65536 → FitCode (frame_code l)
+fits_frame : (l : MemoryMap) → l.sample_flag < 65536 → l.eval < 65536 → FitCode (frame_code l)
 fits_frame l ready eval = (
   omega arith,
   (
@@ -122,7 +122,7 @@ fits_frame l ready eval = (
   ),
 )
 
-pub fits_front : (l : MemoryMap) (os : List Output) (gs : List Segment) → l.ready < 65536 → check_at l os < 65536
+pub fits_front : (l : MemoryMap) (os : List Output) (gs : List Segment) → l.sample_flag < 65536 → check_at l os < 65536
     → FitDefaults os → l.outputs + length os < 65536 → AreSegments gs
     → FitCode (watched_front_over l os gs)
 fits_front l os gs ready at fit room h =
@@ -143,7 +143,7 @@ fit_defaults near (o ∷ os) v = let w = v 0 o (omega arith) in
 -- what the code before EVAL asks of a memory map
 pub record IsWatchedMap (l : MemoryMap) (os : List Output) (gs : List Segment) : Type 0 where
   pub started : IsStarted l
-  pub ready : l.ready < l.inputs
+  pub ready : l.sample_flag < l.inputs
   pub samples : l.samples ≡ l.inputs
   pub apart : IsApart l
   pub eval : l.eval ≡ l.code + code_length (watched_front_over l os gs)
@@ -220,7 +220,7 @@ front_bytes m l os gs h =
 pub start_bytes : (m : List ℕ) (l : MemoryMap) (os : List Output) (gs : List Segment)
     → HasBytes m l.code (code_bytes (watched_front_over l os gs)) → HasBytes m l.code (code_bytes (start_code l))
 start_bytes m l os gs h =
-    let rest = LdaaExtended l.ready ∷ Beq 0xFB ∷ JsrExtended (check_at l os) ∷ ClrExtended l.ready ∷ Bra 0xF3
+    let rest = LdaaExtended l.sample_flag ∷ Beq 0xFB ∷ JsrExtended (check_at l os) ∷ ClrExtended l.sample_flag ∷ Bra 0xF3
     ∷ Rti ∷ [] in
     bytes_front m l.code (code_bytes (start_code l)) (code_bytes rest) (front_bytes m l os gs h).frame
 
@@ -266,7 +266,7 @@ check_found stand c os gs h shown above are bytes =
     }
 
 pub has_front : InstructionsStand → FrameCallsAndLeaves → (c : Setting) (os : List Output) (gs : List Segment)
-    → IsWatchedMap c.memory_map os gs → c.open_to c.memory_map.ready ≡ false → c.open_to fault_at ≡ false
+    → IsWatchedMap c.memory_map os gs → c.open_to c.memory_map.sample_flag ≡ false → c.open_to fault_at ≡ false
     → IsShutAbove c
     → FitDefaults os → AreSegments gs
     → HasBytes c.image c.memory_map.code (code_bytes (watched_front_over c.memory_map os gs)) → HasFront c os gs

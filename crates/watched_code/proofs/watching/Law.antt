@@ -1,13 +1,13 @@
 -- The firmware of a block with watched tables answers every list of samples, with a byte of its tables changed in each.
-use Rattle.watched_code.proofs.Words.{[], ◌%◌, ◌*◌, ◌+◌, ◌-◌, ◌<◌, ◌==◌, ◌^◌, ◌∙◌, ◌∷◌, ◌≡◌, ◌≢◌, ◌≤◌, All, answer}
-use Rattle.watched_code.proofs.Words.{ap, AreInputBytes, AreWatchAnswered, arith, Block, Bool, Byte, bytes_set_out}
-use Rattle.watched_code.proofs.Words.{cases_eq, Change, check_byte, code_bytes, code_length, default_of, Execution}
-use Rattle.watched_code.proofs.Words.{false, fault_at, get_or, get_or-set_other, get_or-set_same, HasBytes}
-use Rattle.watched_code.proofs.Words.{HasRoutine, Home, if◌then◌else◌, inl, inr, instruction_bound, is_free, IsApart}
-use Rattle.watched_code.proofs.Words.{IsInterruptibleStep, IsValid, IsWithinLimits, length, length-set, List, Live}
-use Rattle.watched_code.proofs.Words.{nat_tests, None, not, Option, output_at, refl, SameHigh, Segment, segment_bytes}
-use Rattle.watched_code.proofs.Words.{set, Setting, Some, State, subst, suc, sym, true, Watched, watched_front_over}
-use Rattle.watched_code.proofs.Words.{ℕ}
+use Rattle.watched_code.proofs.Words.{[], ◌%◌, ◌*◌, ◌+◌, ◌-◌, ◌<◌, ◌==◌, ◌^◌, ◌∙◌, ◌∷◌, ◌≡◌, ◌≢◌, ◌≤◌, AgreeFrom, All}
+use Rattle.watched_code.proofs.Words.{answer, ap, AreInputBytes, AreWatchAnswered, arith, Block, Bool, Byte}
+use Rattle.watched_code.proofs.Words.{bytes_set_out, cases_eq, Change, check_byte, code_bytes, code_length}
+use Rattle.watched_code.proofs.Words.{default_of, Execution, false, fault_at, get_or, get_or-set_other}
+use Rattle.watched_code.proofs.Words.{get_or-set_same, HasBytes, HasRoutine, Home, if◌then◌else◌, inl, inr}
+use Rattle.watched_code.proofs.Words.{instruction_bound, is_free, IsApart, IsInterruptibleStep, IsValid}
+use Rattle.watched_code.proofs.Words.{IsWithinLimits, length, length-set, List, Live, nat_tests, None, not, Option}
+use Rattle.watched_code.proofs.Words.{output_at, refl, Segment, segment_bytes, set, Setting, Some, stack_end, State}
+use Rattle.watched_code.proofs.Words.{subst, suc, sym, true, Watched, watched_front_over, ℕ}
 use Rattle.watched_code.specs.Watched.{changed, is_upset, watched_answer, watched_fault, upset_given, restored}
 use Rattle.watched_code.specs.Watched.{IsWatchAnswered}
 use Rattle.eval_code.proofs.Algebra.{bytes_after_set, bytes_put_out, has_put, length-put}
@@ -46,7 +46,7 @@ pub record Grounds (c : Setting) (b : Block) (gs : List Segment) (most : ℕ) : 
   pub slots_from : fault_at < c.memory_map.slots
   pub free : c.open_to ≡ is_free
   pub above : IsShutAbove c
-  pub ready_shown : c.open_to c.memory_map.ready ≡ false
+  pub ready_shown : c.open_to c.memory_map.sample_flag ≡ false
   pub fault_shown : c.open_to fault_at ≡ false
   pub defaults : FitDefaults b.outputs
   pub are : AreSegments gs
@@ -85,14 +85,16 @@ watches c b gs most change h x = record {
 
 -- ---- a byte of memory and image changed, and put back
 
-high_changed : (m n : List ℕ) (a v : ℕ) → a < length m → a < length n → SameHigh m n → SameHigh (set m a v) (set n a v)
+high_changed : (m n : List ℕ) (a v : ℕ) → a < length m → a < length n → AgreeFrom stack_end m n
+    → AgreeFrom stack_end (set m a v) (set n a v)
 high_changed m n a v lm ln h at le = elim (cases_eq at a) [
   | inl e ↦ ap (λ (k : ℕ). get_or (set n a v) k 0) e ∙ get_or-set_same n a v 0 ln
       ∙ sym (ap (λ (k : ℕ). get_or (set m a v) k 0) e ∙ get_or-set_same m a v 0 lm)
   | inr ne ↦ get_or-set_other n a at v 0 ne ∙ h at le ∙ sym (get_or-set_other m a at v 0 ne)
 ]
 
-high_restored : (m n : List ℕ) (a v : ℕ) → a < length n → SameHigh (set m a v) n → SameHigh m (set n a (get_or m a 0))
+high_restored : (m n : List ℕ) (a v : ℕ) → a < length n → AgreeFrom stack_end (set m a v) n
+    → AgreeFrom stack_end m (set n a (get_or m a 0))
 high_restored m n a v ln h at le = elim (cases_eq at a) [
   | inl e ↦ ap (λ (k : ℕ). get_or (set n a (get_or m a 0)) k 0) e ∙ get_or-set_same n a (get_or m a 0) 0 ln
       ∙ ap (λ (k : ℕ). get_or m k 0) (sym e)
@@ -128,7 +130,7 @@ live_changed c gs (Some x) s size t l =
 
 -- the machine waits again, with the image's byte
 home_restored : (c : Setting) (b : Block) (gs : List Segment) (change : Option Change) (answers : ℕ → ℕ) (s : State)
-    → IsApart c.memory_map → length b.outputs ≤ 4 → c.memory_map.ready < 0x1800 → AreBytes c.image
+    → IsApart c.memory_map → length b.outputs ≤ 4 → c.memory_map.sample_flag < 0x1800 → AreBytes c.image
     → MayChange c gs change → Home (under c (changed change c.image)) b Byte answers s
     → Home c b Byte answers (restored c.image change s)
 home_restored c b gs None answers s a few low bytes x h = record {
@@ -169,7 +171,7 @@ home_restored c b gs (Some x) answers s a few low bytes t h =
       outs = λ o lo hi. bytes_set_out s.mem x.0 v (c.memory_map.outputs + 1 * (o - 1)) (answers o ∷ [])
           (inl (omega arith))
           (h.outs o lo hi);
-      ready_is = get_or-set_other s.mem x.0 c.memory_map.ready v 0 (λ e. omega arith) ∙ h.ready_is;
+      ready_is = get_or-set_other s.mem x.0 c.memory_map.sample_flag v 0 (λ e. omega arith) ∙ h.ready_is;
     }
 
 -- ---- a sample
@@ -195,21 +197,21 @@ is_given c b gs most before x s h i t home =
     let at = h.memory_map.samples in
     let sized = home.live.size in
     let lm : length m ≡ 65536 = length-put s.mem l.samples x.bytes ∙ home.live.size in
-    let one : HasBytes (given l x.bytes s).mem l.ready (1 ∷ []) = (get_or-set_same m l.ready 1 0 (omega arith), tt) in
+    let one : HasBytes (given l x.bytes s).mem l.sample_flag (1 ∷ []) = (get_or-set_same m l.sample_flag 1 0 (omega arith), tt) in
     let bytes : HasBytes (given l x.bytes s).mem l.inputs x.bytes =
-    bytes_set_out m l.ready 1 l.inputs x.bytes (inr (omega arith))
+    bytes_set_out m l.sample_flag 1 l.inputs x.bytes (inr (omega arith))
     (subst (λ (p : ℕ). HasBytes m p x.bytes) at (has_put s.mem l.samples x.bytes (omega arith))) in
     record {
       live = live_changed c gs x.change (given l x.bytes s) h.size t
           (h.laws.given c x.bytes s home.live i.fit (omega arith) (omega arith));
       pc_is = home.pc_is;
       sp_is = home.sp_is;
-      ready_is = (kept (given l x.bytes s).mem l.ready (1 ∷ []) x.change c gs t (omega arith) one).0;
+      ready_is = (kept (given l x.bytes s).mem l.sample_flag (1 ∷ []) x.change c gs t (omega arith) one).0;
       inputs = kept (given l x.bytes s).mem l.inputs x.bytes x.change c gs t (omega arith) bytes;
       outputs = λ o lo hi.
           (let p = l.outputs + 1 * (o - 1) in
           kept (given l x.bytes s).mem p (before o ∷ []) x.change c gs t (omega arith)
-          (bytes_set_out m l.ready 1 p (before o ∷ []) (inr (omega arith))
+          (bytes_set_out m l.sample_flag 1 p (before o ∷ []) (inr (omega arith))
           (bytes_put_out s.mem l.samples x.bytes p (before o ∷ []) (inr (omega arith)) (home.outs o lo hi))));
     }
 

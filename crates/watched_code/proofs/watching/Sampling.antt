@@ -9,14 +9,13 @@ use Rattle.watched_code.proofs.Words.{length-set, List, Live, MemoryMap, None, O
 use Rattle.watched_code.proofs.Words.{Segment, segment_bytes, set, Setting, Some, StabExtended, Stands, State}
 use Rattle.watched_code.proofs.Words.{steps_by, subst, sum_by, sum_by-cons, sym, true, ℕ}
 use Rattle.std.proofs.{Common.◌/◌}
-use Rattle.cpu12_parts.specs.{Rules.Rule, Rules.Form, Executions.all_steps}
+use Rattle.cpu12_parts.specs.{Executions.all_steps}
 use Rattle.eval_code.specs.{Bounds.output_bound, Evaluation.HasAnswers}
 use Rattle.alone_code.specs.{Calls.IsInCode, Calls.IsCalled, Calls.Back, Frames.CallsAndLeaves, Frames.Called}
 use Rattle.alone_code.specs.{Frames.Left}
 use Rattle.cpu12_parts.proofs.{Algebra.execution_on, Algebra.steps_append}
 use Rattle.watched_code.proofs.{watching.Segments.Apart, watching.Segments.sum_below, watching.Laws.WatchingLaws}
-use Rattle.alone_code.specs.Interruptible.{IsShownInstruction, IsShownRules}
-use Rattle.alone_code.proofs.Algebra.{pushed_word}
+use Rattle.alone_code.proofs.Algebra.{pushed_word, pushed_bytes}
 use Rattle.watched_code.proofs.watching.Adding.{sum_in, count_in, Step}
 use Rattle.watched_code.proofs.watching.Checking.{HasCheck, Leads, passed, failed}
 use Rattle.watched_code.proofs.watching.Defaults.{Stored, stored, all_defaulted, defaults_run, default_else}
@@ -46,27 +45,6 @@ calling c at = record {
   fits = c.fits;
 }
 
-as_rules : (c : Setting) (at : ℕ) (i : Instr) (f : Form) (d : ℕ) (p : Rule) (ps : List Rule) (s t : State)
-    → IsShownRules c.open_to (calling c at).memory_map i f c.flags d p ps s t
-    → IsShownRules c.open_to c.memory_map i f c.flags d p ps s t
-as_rules c at i f d p ps s t h =
-    record { step = h.step; reads = h.reads; writes = h.writes; below = h.below; itself = h.itself; away = h.away }
-
-as_step : (c : Setting) (at d : ℕ) (s t : State) → Step (calling c at) d s t → Step c d s t
-as_step c at d s t h = record { busy = h.busy; interruptible = h.interruptible; instruction = same h.instruction }
-  where
-    same : IsShownInstruction c.open_to (calling c at).memory_map c.flags d s t
-        → IsShownInstruction c.open_to c.memory_map c.flags d s t
-    same (inl p) = inl p
-    same (inr (inl q)) = inr (inl (q.0, q.1, as_rules c at _ _ d q.0 q.1 s t q.2))
-    same (inr (inr (inl q))) = inr (inr (inl (q.0, q.1, as_rules c at _ _ d q.0 q.1 s t q.2)))
-    same (inr (inr (inr q))) = inr (inr (inr (record { step = q.step; some = q.some; reads = q.reads; away = q.away })))
-
-as_execution : (c : Setting) (at : ℕ) (ds : List ℕ) (s t : State) → Execution (Step (calling c at)) ds s t
-    → Execution (Step c) ds s t
-as_execution c at [] s t e = e
-as_execution c at (d ∷ ds) s t e = (e.0, (as_step c at d s e.0 e.1.0, as_execution c at ds e.0 t e.1.1))
-
 -- the code before EVAL: the frame, which calls the check, BAD and the check
 pub record HasFront (c : Setting) (outputs : List Output) (gs : List Segment) : Type 0 where
   pub at : ℕ
@@ -83,7 +61,7 @@ pub record Watches (c : Setting) (b : Block) (gs : List Segment) (most : ℕ) : 
   pub valid : IsValid b
   pub limits : IsWithinLimits b
   pub laws : WatchingLaws
-  pub ready : c.memory_map.ready < c.memory_map.inputs
+  pub ready : c.memory_map.sample_flag < c.memory_map.inputs
   pub outputs_end : c.memory_map.outputs + 8 ≤ fault_at
   pub slots_from : fault_at < c.memory_map.slots
   pub fault_shown : c.open_to fault_at ≡ false
@@ -321,12 +299,6 @@ pub record WatchSampled (c : Setting) (b : Block) (most : ℕ) (answers : ℕ �
   pub instructions : length ds ≤ most
   pub steps : all_steps ds ≤ steps_by b most
 
-pushed_bytes : (m : List ℕ) (r p : ℕ) (bs : List ℕ) → p + length bs ≤ 0x1FFE → HasBytes m p bs
-    → HasBytes (set (set m 0x1FFE (r / 2 ^ 8)) 0x1FFF (r % 2 ^ 8)) p bs
-pushed_bytes m r p bs le h =
-    bytes_set_out (set m 0x1FFE (r / 2 ^ 8)) 0x1FFF (r % 2 ^ 8) p bs (inl (omega arith))
-    (bytes_set_out m 0x1FFE (r / 2 ^ 8) p bs (inl (omega arith)) h)
-
 at_check : (c : Setting) (b : Block) (gs : List Segment) (most : ℕ) (bytes : List ℕ) (before : ℕ → ℕ) (s : State)
     → (h : Watches c b gs most) → AreInputBytes b bytes → Live c s
     → HasBytes s.mem c.memory_map.inputs bytes → HasAnswers c.memory_map b Byte before s.mem
@@ -357,10 +329,7 @@ returned : (c : Setting) (b : Block) (gs : List Segment) (most : ℕ) (answers :
     → (e : Ended c b most (c.memory_map.wait + 8) answers fault r.t) → Left (calling c h.front.at) e.t
     → WatchSampled c b most answers fault s
 returned c b gs most answers fault s h r e f =
-    let at = h.front.at in
     let ds = e.ds ++ f.ds in
-    let way_in = as_execution c at r.ds s r.t r.execution in
-    let way_out = as_execution c at f.ds e.t f.t f.execution in
     let few = h.valid.few_outputs in
     let a1 = h.ready in
     let a2 = h.apart.inputs in
@@ -370,21 +339,21 @@ returned c b gs most answers fault s h r e f =
     record {
       t = f.t;
       ds = r.ds ++ ds;
-      execution = execution_on (Step c) r.ds ds s r.t f.t way_in
-          (execution_on (Step c) e.ds f.ds r.t e.t f.t e.execution way_out);
+      execution = execution_on (Step c) r.ds ds s r.t f.t r.execution
+          (execution_on (Step c) e.ds f.ds r.t e.t f.t e.execution f.execution);
       home = record {
         live = f.live;
         pc_is = f.pc_is;
         sp_is = f.sp_is ∙ e.sp_is;
         outs = λ o lo hi. subst (λ (m : List ℕ). HasBytes m (c.memory_map.outputs + 1 * (o - 1)) (answers o ∷ []))
             (sym mem)
-            (bytes_set_out e.t.mem c.memory_map.ready 0 (c.memory_map.outputs + 1 * (o - 1)) (answers o ∷ [])
+            (bytes_set_out e.t.mem c.memory_map.sample_flag 0 (c.memory_map.outputs + 1 * (o - 1)) (answers o ∷ [])
             (inr (omega arith)) (e.answers_are o lo hi));
-        ready_is = ap (λ (x : List ℕ). get_or x c.memory_map.ready 0) mem
-            ∙ get_or-set_same e.t.mem c.memory_map.ready 0 0 (omega arith);
+        ready_is = ap (λ (x : List ℕ). get_or x c.memory_map.sample_flag 0) mem
+            ∙ get_or-set_same e.t.mem c.memory_map.sample_flag 0 0 (omega arith);
       };
       fault_is = ap (λ (x : List ℕ). get_or x fault_at 0) mem
-          ∙ get_or-set_other e.t.mem c.memory_map.ready fault_at 0 0 (λ q. omega arith) ∙ e.fault_is;
+          ∙ get_or-set_other e.t.mem c.memory_map.sample_flag fault_at 0 0 (λ q. omega arith) ∙ e.fault_is;
       instructions = omega
           (arith, length-append r.ds ds, length-append e.ds f.ds, r.instructions, e.instructions, f.instructions);
       steps = omega (arith, steps_append r.ds ds, steps_append e.ds f.ds, r.steps, e.steps, f.steps);
@@ -395,7 +364,7 @@ pub record IsGiven (c : Setting) (b : Block) (bytes : List ℕ) (before : ℕ �
   pub live : Live c s
   pub pc_is : s.regs.pc ≡ c.memory_map.wait
   pub sp_is : s.regs.sp ≡ 0x2000
-  pub ready_is : get_or s.mem c.memory_map.ready 0 ≡ 1
+  pub ready_is : get_or s.mem c.memory_map.sample_flag 0 ≡ 1
   pub inputs : HasBytes s.mem c.memory_map.inputs bytes
   pub outputs : HasAnswers c.memory_map b Byte before s.mem
 

@@ -5,19 +5,19 @@ use Rattle.alone_code.proofs.firmware.compile_laid_out.Goals as goal
 
 pub image_of-requires-clause-few : goal.image_of-requires-clause-few
 image_of-requires-clause-few c =
-    let b = c.args.block.now in
+    let laid = c.args.laid_out.now in
     subst (λ (xs : List Item). length xs < 2 ^ 32) (sym (c.as_slice.ensures.value ∙ c.in_ok-items.ensures))
-    (length-main_items c.blocks_are_placed.ensures.short b c.args.width c.requires.valid c.requires.limits)
+    (length-main_items c.blocks_are_placed.ensures.short laid.block.now c.args.width laid.valid laid.limits)
 
 pub image_of-requires-clause-rising : goal.image_of-requires-clause-rising
 image_of-requires-clause-rising c =
-    let b = c.args.block.now in
+    let laid = c.args.laid_out.now in
     subst (λ (xs : List Item). IsRising xs) (sym (c.as_slice.ensures.value ∙ c.in_ok-items.ensures))
-    (main_rises c.blocks_are_placed.ensures.rises b c.args.width c.requires.valid c.requires.limits)
+    (main_rises c.blocks_are_placed.ensures.rises laid.block.now c.args.width laid.valid laid.limits)
 
 pub returns-clause-firmware : goal.returns-clause-firmware
 returns-clause-firmware c =
-    let b = c.args.block.now in
+    let b = c.args.laid_out.now.block.now in
     let e = c.as_slice.ensures.value ∙ c.in_ok-items.ensures in
     record {
       image = subst (λ (xs : List Item). IsImageOf xs c.in_ok-image.image) e c.in_ok-image.ensures;
@@ -30,9 +30,10 @@ returns-clause-firmware c =
 
 pub returns-clause-answers : goal.returns-clause-answers
 returns-clause-answers c =
-    c.firmware_answers.ensures c.args.block.now _ c.requires.valid c.requires.limits (returns-clause-firmware c)
+    let laid = c.args.laid_out.now in
+    c.firmware_answers.ensures laid.block.now _ laid.valid laid.limits (returns-clause-firmware c)
 
 pub returns-clause-uninterrupted : goal.returns-clause-uninterrupted
 returns-clause-uninterrupted c =
-    c.firmware_is_uninterrupted.ensures c.args.block.now _ c.requires.valid c.requires.limits
-    (returns-clause-firmware c)
+    let laid = c.args.laid_out.now in
+    c.firmware_is_uninterrupted.ensures laid.block.now _ laid.valid laid.limits (returns-clause-firmware c)

@@ -1,37 +1,11 @@
-use Rattle.alone_code.proofs.Words.{◌<◌, ◌^◌, ◌∙◌, ◌≡◌, ap, Block, Byte, IsRising, Item, length, List, mailbox_items}
-use Rattle.alone_code.proofs.Words.{mailbox_map, MemoryMap, rules, subst, sym}
-use Rattle.alone_code.proofs.turns.Founding.{length-mailbox_items, mailbox_rises}
 use Rattle.alone_code.proofs.mailbox.compile_post.Goals as goal
 
--- the items at the memory map of the block's inputs
-same_items : (b : Block) (xs items : List Item) (l : MemoryMap) → xs ≡ items → items ≡ mailbox_items l b Byte
-    → l ≡ mailbox_map (length b.inputs)
-    → mailbox_items (mailbox_map (length b.inputs)) b Byte ≡ xs
-same_items b xs items l e f g = sym (e ∙ f ∙ ap (λ (k : MemoryMap). mailbox_items k b Byte) g)
-
-pub image_of-requires-clause-few : goal.image_of-requires-clause-few
-image_of-requires-clause-few c =
-    let b = c.args.block.now in
-    let memory_map : c.mailbox_map-memory_map.result ≡ mailbox_map (length b.inputs) = search rules in
-    subst (λ (xs : List Item). length xs < 2 ^ 32)
-    (same_items b _ _ _ c.as_slice.ensures.value c.in-Ok-mailbox_items.ensures memory_map)
-    (length-mailbox_items c.blocks_are_placed.ensures.short b Byte c.requires c.in-Ok.ensures.limits)
-
-pub image_of-requires-clause-rising : goal.image_of-requires-clause-rising
-image_of-requires-clause-rising c =
-    let b = c.args.block.now in
-    let memory_map : c.mailbox_map-memory_map.result ≡ mailbox_map (length b.inputs) = search rules in
-    subst (λ (xs : List Item). IsRising xs)
-    (same_items b _ _ _ c.as_slice.ensures.value c.in-Ok-mailbox_items.ensures memory_map)
-    (mailbox_rises c.blocks_are_placed.ensures.rises b Byte c.requires c.in-Ok.ensures.limits)
-
 pub returns-clause-firmware : goal.returns-clause-firmware
-returns-clause-firmware c = search rules
+returns-clause-firmware c = rw (← c.in_ok-laid_out.ensures.block) c.in_ok-compile_post_laid_out.ensures.firmware
 
 pub returns-clause-turns : goal.returns-clause-turns
-returns-clause-turns c =
-    c.mailbox_takes_posts.ensures c.args.block.now _ c.requires c.in-Ok.ensures.limits (returns-clause-firmware c)
+returns-clause-turns c = rw (← c.in_ok-laid_out.ensures.block) c.in_ok-compile_post_laid_out.ensures.turns
 
 pub returns-clause-uninterrupted : goal.returns-clause-uninterrupted
 returns-clause-uninterrupted c =
-    c.mailbox_is_uninterrupted.ensures c.args.block.now _ c.requires c.in-Ok.ensures.limits (returns-clause-firmware c)
+    rw (← c.in_ok-laid_out.ensures.block) c.in_ok-compile_post_laid_out.ensures.uninterrupted

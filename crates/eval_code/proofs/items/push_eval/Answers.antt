@@ -19,6 +19,6 @@ returns c =
     ∙ ap (λ n. c.push_rules.new.items.items ++ map Op (outputs_code w l.singletons n l.outputs outputs)) first in
     five_pieces _ _ _ _ _ _
     (LdxImmediate l.tables ∷ LdyImmediate l.slots ∷ []) (fuzzify_code l.inputs inputs)
-    (slots_code l.slots inputs l.slots slots) (rules_code l c.args.form)
+    (slots_code l.slots inputs l.slots slots) (rules_code l c.args.instruction)
     (outputs_code w l.singletons (l.slots + input_slots slots outputs) l.outputs outputs)
     c.in_ok-push_code.ensures c.in_ok-push_fuzzify.ensures c.in_ok-push_slots.ensures c.in_ok-push_rules.ensures answers

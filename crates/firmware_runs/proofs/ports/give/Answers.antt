@@ -14,8 +14,8 @@ returns-clause-state g c =
     let none : l.m.state.mem ≡ write_all (placed b.samples bytes) mem =
     ap (λ (rest : List ℕ). write_all (placed l.at rest) l.m.state.mem)
     (sym (drop_all l.byte-index bytes c.loop-byte-test.false)) ∙ l.invariant.mem in
-    let last : set l.m.state.mem b.ready 1 ≡ write_all (placed b.samples bytes ++ (b.ready, 1) ∷ []) mem =
-    ap (λ (k : List ℕ). set k b.ready 1) none ∙ sym (write_last (placed b.samples bytes) b.ready 1 mem) in
+    let last : set l.m.state.mem b.sample_flag 1 ≡ write_all (placed b.samples bytes ++ (b.sample_flag, 1) ∷ []) mem =
+    ap (λ (k : List ℕ). set k b.sample_flag 1) none ∙ sym (write_last (placed b.samples bytes) b.sample_flag 1 mem) in
     let regs = l.invariant.regs in
     let temps = l.invariant.temps in
     let poked = c.poke-2.ensures.state in

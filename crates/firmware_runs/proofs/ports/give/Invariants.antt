@@ -1,5 +1,6 @@
 use Rattle.std.proofs.Common.{◌≡◌, drop}
 use Rattle.cpu12_isa.specs.{Act.write_all, Memory.placed}
+use Rattle.cpu12_emul.specs.Step.{SameMachine}
 use Rattle.firmware_runs.proofs.ports.give.Given as goal
 
 -- the bytes that are left lead to the same memory as all
@@ -9,6 +10,5 @@ invariant-loop-byte g l = record {
       (placed l.memory_map.samples l.bytes) l.fn.m.state.mem;
   regs : l.m.state.regs ≡ l.fn.m.state.regs;
   temps : l.m.state.temps ≡ l.fn.m.state.temps;
-  flags : l.m.flags ≡ l.fn.m.flags;
-  noted : l.m.noted ≡ l.fn.m.noted;
+  machine : SameMachine l.fn.m l.m;
 }

@@ -1,4 +1,5 @@
-use Rattle.std.proofs.Common.{◌∙◌, ◌-◌, ℕ, ap, sym, arith}
+use Rattle.std.proofs.Common.{◌∙◌, ◌-◌, ap, sym, arith}
+use Rattle.cpu12_emul.specs.Step.{Whole}
 use Rattle.handler_check.specs.Running.{one_step, until_rti}
 use Rattle.handled_runs.proofs.Returns.{back_now, back_later, back_never, back_spent, leads_by, told_by}
 use Rattle.handled_runs.proofs.back.until_rti.Goals as goal
@@ -12,8 +13,8 @@ returns-then-returns g c =
     record {
       state = leads.state;
       end = told_by _ _ _ _ _ c.ended.ensures (omega (arith, l.invariant.few, c.loop-left-test.true)) leads;
-      noted = c.step.ensures.noted ∙ l.invariant.noted;
-      flags = c.step.ensures.flags ∙ l.invariant.flags;
+      machine = c.step.ensures.machine
+          ∙ ap (λ (w : Whole). record w { state = c.step.new.self.state }) l.invariant.machine;
     }
 
 pub loop-left-preserved : goal.loop-left-preserved
@@ -21,15 +22,16 @@ loop-left-preserved g c =
     let l = c.loop-left in
     let later = back_later l.m.flags l.left l.m.state _ _ _ c.loop-left-test.true c.in-Ok.ensures.next
     c.regs.ensures c.peek-returns.ensures c.if-returns.false
-    ∙ ap (λ (f : ℕ). one_step (until_rti f (l.left - 1) c.step.new.self.state)) (sym c.step.ensures.flags) in
+    ∙ ap (λ (w : Whole). one_step (until_rti w.flags (l.left - 1) c.step.new.self.state))
+    (sym c.step.ensures.machine) in
     let leads = leads_by _ _ _ _ later l.invariant.state l.invariant.steps l.invariant.done in
     record {
       state = leads.state;
       steps = omega (arith, leads.counts, l.invariant.few, c.loop-left-test.true);
       done = leads.done;
       few = omega (arith, l.invariant.few);
-      noted = c.step.ensures.noted ∙ l.invariant.noted;
-      flags = c.step.ensures.flags ∙ l.invariant.flags;
+      machine = c.step.ensures.machine
+          ∙ ap (λ (w : Whole). record w { state = c.step.new.self.state }) l.invariant.machine;
     }
 
 pub returns-in-Err-clause-state : goal.returns-in-Err-clause-state

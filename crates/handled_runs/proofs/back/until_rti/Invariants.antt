@@ -1,4 +1,5 @@
 use Rattle.std.proofs.Common.{◌≡◌, ◌≤◌, ◌+◌, ◌-◌}
+use Rattle.cpu12_emul.specs.Step.{SameMachine}
 use Rattle.handler_check.specs.Running.{until_rti, step_limit}
 use Rattle.handled_runs.proofs.back.until_rti.Given as goal
 
@@ -10,8 +11,7 @@ invariant-loop-left g l = record {
       ≡ (until_rti l.fn.m.flags step_limit l.fn.m.state).steps;
   done : (until_rti l.m.flags l.left l.m.state).done ≡ (until_rti l.fn.m.flags step_limit l.fn.m.state).done;
   few : l.left ≤ step_limit;
-  noted : l.m.noted ≡ l.fn.m.noted;
-  flags : l.m.flags ≡ l.fn.m.flags;
+  machine : SameMachine l.fn.m l.m;
 }
 
 abbrev pub decreases-loop-left : goal.decreases-loop-left

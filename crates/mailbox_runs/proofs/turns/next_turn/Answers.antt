@@ -1,4 +1,4 @@
-use Rattle.mailbox_runs.proofs.Words.{◌∙◌, answer_seen, input_bytes, map, sym}
+use Rattle.mailbox_runs.proofs.Words.{◌∙◌, answer_seen, ap, input_bytes, map, sym}
 use Rattle.mailbox_runs.proofs.NextTurns.{Begins, over_here, stuck_here, turn_here}
 use Rattle.mailbox_runs.proofs.{turns.next_turn.Given.Over, turns.next_turn.Goals.After-look-seen}
 use Rattle.mailbox_runs.proofs.turns.next_turn.Goals as goal
@@ -26,7 +26,8 @@ returns-then-not-turn-clause-ends g c e n =
     let turn = c.turn in
     stuck_here (begins_there g (goal.at.returns-then-not-turn-clause-ends g c).After-look-seen) c.args.last n
     (map answer_seen c.args.answers.now.items) look.new.m.flags turn.new.st.counts turn.new.m.state
-    (sym c.is_over.ensures ∙ c.if-is_over.false) look.ensures.flags
+    (sym c.is_over.ensures ∙ c.if-is_over.false)
+    (ap (λ m. m.flags) look.ensures.machine)
     (sym turn.ensures.arrived ∙ c.if-not-turn.true) turn.ensures.counted turn.ensures.left
 
 pub returns-clause-goes : goal.returns-clause-goes
@@ -36,7 +37,8 @@ returns-clause-goes g c e n =
     let end = c.end_turn in
     turn_here (begins_there g (goal.at.returns-clause-goes g c).After-look-seen) c.args.last n
     (map answer_seen c.args.answers.now.items) look.new.m.flags turn.new.st.counts turn.new.m.state
-    (map answer_seen end.new.answers.items) end.result (sym c.is_over.ensures ∙ c.if-is_over.false) look.ensures.flags
+    (map answer_seen end.new.answers.items) end.result (sym c.is_over.ensures ∙ c.if-is_over.false)
+    (ap (λ m. m.flags) look.ensures.machine)
     (sym turn.ensures.arrived ∙ c.if-not-turn.false) turn.ensures.counted turn.ensures.left
     (turn.ensures.next, (let steady = turn.ensures.steady in steady.next)) end.ensures.answers
     end.ensures.waits

@@ -1,4 +1,4 @@
-use Rattle.mailbox_runs.proofs.Words.{◌-◌, ◌∙◌, ◌≡◌, answer_seen, ap₂, arith, drop, input_bytes, map, suc, sym}
+use Rattle.mailbox_runs.proofs.Words.{◌-◌, ◌∙◌, ◌≡◌, answer_seen, ap, ap₂, arith, drop, input_bytes, map, suc, sym}
 use Rattle.mailbox_runs.proofs.Words.{turns_from, with_rest, ℕ}
 use Rattle.mailbox_runs.proofs.NextTurns.{none_left}
 use Rattle.mailbox_runs.proofs.turns.run_turns.Goals as goal
@@ -14,7 +14,7 @@ returns-then-not-next_turn g c =
     ∙ ap₂ (λ (k n : ℕ). with_rest (map answer_seen l.answers.items) l.st.counts
     (turns_from k a.firmware.now samples a.last n l.st.counts.moment l.waits
     (drop l.st.counts.next a.posts.now) l.m.state))
-    l.invariant.flags more
+    (ap (λ m. m.flags) l.invariant.machine) more
     ∙ l.invariant.rest
 
 pub returns : goal.returns

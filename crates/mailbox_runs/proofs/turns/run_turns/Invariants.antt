@@ -1,4 +1,5 @@
 use Rattle.std.proofs.Common.{◌≡◌, ◌≤◌, ◌+◌, min, map, drop, length, vec_len, vec_capacity}
+use Rattle.cpu12_emul.specs.Step.{SameMachine}
 use Rattle.mailbox_runs.specs.{Runs.input_bytes, Runs.answer_seen, Runs.turns_from, Runs.most_turns, Counts.with_rest}
 use Rattle.run_forms.specs.{Rooms.Fits, SampleRests.IsSteady}
 use Rattle.mailbox_runs.proofs.turns.run_turns.Given as goal
@@ -16,7 +17,7 @@ invariant-loop-left g l = record {
   most : l.st.counts.moment ≤ l.last;
   waits : l.waits ≤ length l.samples;
   answers : (vec_len l.answers + min l.waits 1 ≤ l.st.counts.next) × (length l.posts ≤ vec_capacity l.answers);
-  flags : l.m.flags ≡ l.fn.m.flags;
+  machine : SameMachine l.fn.m l.m;
 }
 
 abbrev pub decreases-loop-left : goal.decreases-loop-left

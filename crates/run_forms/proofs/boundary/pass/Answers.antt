@@ -1,4 +1,5 @@
-use Rattle.std.proofs.Common.{◌≡◌, ◌∙◌, ℕ, ap, sym, subst}
+use Rattle.std.proofs.Common.{◌≡◌, ◌∙◌, ap, sym, subst}
+use Rattle.cpu12_emul.specs.Step.{Whole}
 use Rattle.run_forms.specs.SampleRests.{before_takes, after_takes, after_state}
 use Rattle.run_forms.proofs.SampleRests.{over_there, stepped_here, stuck_here}
 use Rattle.run_forms.proofs.boundary.pass.Goals as goal
@@ -26,7 +27,7 @@ returns-clause-goes g c =
     let n = c.come.new in
     let w = c.step_on.ensures.goes c.if-not-step_on.false in
     let came : after_takes flags h qs n.st n.m.state ≡ before_takes flags h qs step.st step.m.state =
-    subst (λ (k : ℕ). after_takes k h qs n.st n.m.state ≡ before_takes k h qs step.st step.m.state)
-    c.step_on.ensures.flags c.come.ensures.rest in
+    subst (λ (w : Whole). after_takes w.flags h qs n.st n.m.state ≡ before_takes w.flags h qs step.st step.m.state)
+    c.step_on.ensures.machine c.come.ensures.rest in
     λ e. stepped_here flags h qs a.st.now step.st s step.m.state w.0 c.if-st.false w.1 w.2
     ∙ ap (after_state s) (sym came)

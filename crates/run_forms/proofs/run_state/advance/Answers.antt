@@ -25,4 +25,4 @@ returns-clause-goes g c =
     let same = c.pass.ensures.same c.if-pass.false in
     λ e. next_here a.m.now.flags past.m.flags (g.F.SampleForm.harness a.form.now) a.plan.now a.p.now n.p past.st
     a.m.now.state past.m.state n.m.state (c.pass.ensures.ends c.if-pass.false) same.0 (ap (λ m. m.state) same.1)
-    c.pass.ensures.flags c.give_next.ensures.rest
+    (ap (λ m. m.flags) c.pass.ensures.machine) c.give_next.ensures.rest

@@ -1,4 +1,4 @@
-use Rattle.std.proofs.Common.{◌∙◌}
+use Rattle.std.proofs.Common.{ap, ◌∙◌}
 use Rattle.run_forms.specs.RunRests.{rest_here}
 use Rattle.run_forms.proofs.AtOnce.{PassesOn, passes_on, stays_here, under_way_on}
 use Rattle.run_forms.proofs.{run_state.drive.Given.Over, run_state.drive.Goals.After-pass_parts}
@@ -18,7 +18,8 @@ further g c =
     passes_on c.args.m.now.flags l.m.flags n.m.flags (g.F.SampleForm.harness c.args.form.now)
     c.args.plan.now l.p n.p q.st
     l.m.state n.m.state q.m.state _ rest.0
-    l.invariant.flags (c.advance.ensures.flags ∙ l.invariant.flags) (c.advance.ensures.goes c.loop-m-test.true) rest.1
+    l.invariant.flags (ap (λ m. m.flags) c.advance.ensures.machine ∙ l.invariant.flags)
+    (c.advance.ensures.goes c.loop-m-test.true) rest.1
 
 pub loop-m-preserved : goal.loop-m-preserved
 loop-m-preserved g c =
@@ -28,7 +29,8 @@ loop-m-preserved g c =
       under_way = under_way_on c.advance.ensures.under_way c.pass_parts.ensures.steady;
       rows = on.rows ∙ l.invariant.rows;
       state = on.state ∙ l.invariant.state;
-      flags = c.pass_parts.ensures.flags ∙ c.advance.ensures.flags ∙ l.invariant.flags;
+      flags = ap (λ m. m.flags) c.pass_parts.ensures.machine ∙ ap (λ m. m.flags) c.advance.ensures.machine
+          ∙ l.invariant.flags;
     }
 
 pub loop-m-smaller : goal.loop-m-smaller

@@ -28,7 +28,8 @@ returns-clause-rest g c =
     c.give.new.m.flags past.new.m.flags
     (record (c.args.p.now) { sample = c.come.new.st; rooms = c.pop_front.new.self; rows = past.new.rows })
     c.replace-sample.result c.args.m.now.state past.new.m.state c.give.new.m.state c.come.new.m.state
-    c.replace-sample.ensures.value c.give.ensures.flags past.ensures.flags past.ensures.rows past.ensures.state
+    c.replace-sample.ensures.value (ap (λ m. m.flags) c.give.ensures.machine) (ap (λ m. m.flags) past.ensures.machine)
+    past.ensures.rows past.ensures.state
     c.give.ensures.state c.come.ensures.rest c.come.ensures.moment
 
 pub returns-clause-under_way : goal.returns-clause-under_way

@@ -1,5 +1,5 @@
-use Rattle.std.proofs.Common.{◌∙◌, ◌-◌, ℕ, ap, sym, arith}
-use Rattle.cpu12_emul.specs.Step.{Next}
+use Rattle.std.proofs.Common.{◌∙◌, ◌-◌, ap, sym, arith}
+use Rattle.cpu12_emul.specs.Step.{Next, Whole}
 use Rattle.run_forms.specs.Rows.{arrival}
 use Rattle.run_forms.proofs.Arrivals.{arrives, arrives_later, arrives_never, arrives_spent}
 use Rattle.run_forms.proofs.runs.arrive.Goals as goal
@@ -23,13 +23,14 @@ loop-left-preserved g c =
     let l = c.loop-left in
     let next : Next = record { state = c.step.new.self.state; kind = c.in-Ok.field-0 } in
     record {
-      same = ap (λ (f : ℕ). arrival f c.args.loop_at (l.left - 1) c.step.new.self.state) c.step.ensures.flags
+      same = ap (λ (w : Whole). arrival w.flags c.args.loop_at (l.left - 1) c.step.new.self.state)
+          c.step.ensures.machine
           ∙ sym (arrives_later l.m.flags c.args.loop_at l.left l.m.state next
           (λ e. c.if-regs-loop_at.false (ap (λ r. r.pc) c.regs.ensures ∙ e)) c.loop-left-test.true
           c.in-Ok.ensures.next)
           ∙ l.invariant.same;
-      flags = c.step.ensures.flags ∙ l.invariant.flags;
-      noted = c.step.ensures.noted ∙ l.invariant.noted;
+      machine = c.step.ensures.machine
+          ∙ ap (λ (w : Whole). record w { state = c.step.new.self.state }) l.invariant.machine;
     }
 
 pub returns-clause-state : goal.returns-clause-state

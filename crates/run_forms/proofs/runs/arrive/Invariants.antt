@@ -1,4 +1,5 @@
 use Rattle.std.proofs.Common.{◌≡◌}
+use Rattle.cpu12_emul.specs.Step.{SameMachine}
 use Rattle.run_forms.specs.Rows.{arrival}
 use Rattle.run_forms.proofs.runs.arrive.Given as goal
 
@@ -6,8 +7,7 @@ use Rattle.run_forms.proofs.runs.arrive.Given as goal
 abbrev pub invariant-loop-left : goal.invariant-loop-left
 invariant-loop-left g l = record {
   same : arrival l.m.flags l.loop_at l.left l.m.state ≡ arrival l.fn.m.flags l.loop_at l.budget l.fn.m.state;
-  flags : l.m.flags ≡ l.fn.m.flags;
-  noted : l.m.noted ≡ l.fn.m.noted;
+  machine : SameMachine l.fn.m l.m;
 }
 
 abbrev pub decreases-loop-left : goal.decreases-loop-left

@@ -25,7 +25,8 @@ returns-clause-first g c =
     let n = c.begin.new in
     let plan = a.plan.now in
     let most : c.before_samples-run_state.result.most ≡ start.most = c.before_samples-run_state.ensures.most in
-    let flags : m.flags ≡ a.flags = c.arrive.ensures.flags ∙ ap (λ (w : Whole). w.flags) c.in_ok-machine.ensures in
+    let flags : m.flags ≡ a.flags =
+    ap (λ (w : Whole). w.flags) c.arrive.ensures.machine ∙ ap (λ (w : Whole). w.flags) c.in_ok-machine.ensures in
     let state : m.state ≡ arrived_at a.flags start.wait start.most start.image.now.bytes =
     c.arrive.ensures.state
     ∙ ap (λ (w : Whole). arrival w.flags start.wait start.most w.state) c.in_ok-machine.ensures in

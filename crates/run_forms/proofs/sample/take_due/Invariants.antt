@@ -1,4 +1,5 @@
 use Rattle.std.proofs.Common.{◌≡◌, ◌≤◌, ◌-◌, length, drop}
+use Rattle.cpu12_emul.specs.Step.{SameMachine}
 use Rattle.run_law.specs.Forms.{takes}
 use Rattle.run_forms.specs.{Forms.plan_form, Rest.with_before}
 use Rattle.run_forms.proofs.sample.take_due.Given as goal
@@ -16,8 +17,7 @@ invariant-loop-m g l = record {
   next : (l.fn.t.next ≤ l.t.next) × (l.t.next ≤ length l.requests);
   room : g.F.SampleForm.fits l.t.notes (length l.requests - l.t.next);
   rest : l.t ≡ record (l.fn.t) { next = l.t.next; notes = l.t.notes };
-  flags : l.m.flags ≡ l.fn.m.flags;
-  noted : l.m.noted ≡ l.fn.m.noted;
+  machine : SameMachine l.fn.m l.m;
 }
 
 abbrev pub decreases-loop-m : goal.decreases-loop-m

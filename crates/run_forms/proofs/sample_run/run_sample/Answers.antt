@@ -1,4 +1,5 @@
-use Rattle.std.proofs.Common.{◌∙◌, ℕ, drop, ap, ap₂, sym}
+use Rattle.std.proofs.Common.{◌∙◌, drop, ap, ap₂, sym}
+use Rattle.cpu12_emul.specs.Step.{Whole}
 use Rattle.run_forms.specs.{Forms.plan_form, Rest.counted_at, SampleRests.after_takes}
 use Rattle.run_forms.proofs.Counting.{counted_few, next_on}
 use Rattle.run_forms.proofs.sample_run.run_sample.Goals as goal
@@ -10,7 +11,7 @@ returns-clause-counted g c =
     let same = c.pass.ensures.same c.loop-m-test.false in
     ap₂ (λ st s. counted_at h.notes st.counts s) same.0 (ap (λ m. m.state) same.1)
     ∙ sym (ap (λ x. x.summary) (c.pass.ensures.ends c.loop-m-test.false))
-    ∙ ap (λ (k : ℕ). (after_takes k h c.args.requests.now l.st l.m.state).summary) l.invariant.flags
+    ∙ ap (λ (w : Whole). (after_takes w.flags h c.args.requests.now l.st l.m.state).summary) l.invariant.machine
     ∙ l.invariant.summary
 
 pub returns-clause-left : goal.returns-clause-left
@@ -20,7 +21,7 @@ returns-clause-left g c =
     let same = c.pass.ensures.same c.loop-m-test.false in
     ap (λ st. drop st.counts.next c.args.requests.now) same.0
     ∙ sym (ap (λ x. x.requests) (c.pass.ensures.ends c.loop-m-test.false))
-    ∙ ap (λ (k : ℕ). (after_takes k h c.args.requests.now l.st l.m.state).requests) l.invariant.flags
+    ∙ ap (λ (w : Whole). (after_takes w.flags h c.args.requests.now l.st l.m.state).requests) l.invariant.machine
     ∙ l.invariant.left
 
 pub returns-clause-next : goal.returns-clause-next

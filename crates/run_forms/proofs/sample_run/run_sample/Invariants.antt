@@ -1,4 +1,5 @@
 use Rattle.std.proofs.Common.{◌≡◌, length}
+use Rattle.cpu12_emul.specs.Step.{SameMachine}
 use Rattle.run_forms.specs.SampleRests.{before_takes, after_takes, IsSteady}
 use Rattle.run_forms.proofs.sample_run.run_sample.Given as goal
 
@@ -10,8 +11,7 @@ invariant-loop-m g l = record {
       ≡ (before_takes l.fn.m.flags (g.F.SampleForm.harness l.form) l.requests l.fn.st l.fn.m.state).summary;
   left : (after_takes l.fn.m.flags (g.F.SampleForm.harness l.form) l.requests l.st l.m.state).requests
       ≡ (before_takes l.fn.m.flags (g.F.SampleForm.harness l.form) l.requests l.fn.st l.fn.m.state).requests;
-  noted : l.m.noted ≡ l.fn.m.noted;
-  flags : l.m.flags ≡ l.fn.m.flags;
+  machine : SameMachine l.fn.m l.m;
 }
 
 abbrev pub decreases-loop-m : goal.decreases-loop-m

@@ -9,6 +9,6 @@ returns c = fast_answers_entered (record {
     decodes = c.decodes_encoded.ensures;
   };
   eval_answers = c.eval_answers.ensures;
+  frames_leave = c.frames_leave.ensures;
   stays_fit = c.stays_fit.ensures;
-  writes_stay = c.writes_stay.ensures;
 })

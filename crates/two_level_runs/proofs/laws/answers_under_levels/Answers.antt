@@ -20,7 +20,6 @@ returns c = answers_under_levels (record {
     serves = c.outer_serves.ensures;
     servable = c.outer_is_servable.ensures;
     enters = c.outer_enters.ensures;
-    alone_has_byte_bounds = c.alone_has_byte_bounds.ensures;
   };
   two_stand_beside = c.two_stand_beside.ensures;
   firmware_runs_beside = c.firmware_runs_beside.ensures;

@@ -2,4 +2,4 @@ use Rattle.two_level_runs.proofs.Servable.{outer_is_servable}
 use Rattle.two_level_runs.proofs.laws.outer_is_servable.Goals as goal
 
 pub returns : goal.returns
-returns c = outer_is_servable c.outer_enters.ensures c.fast_runs_exist.ensures c.alone_has_byte_bounds.ensures
+returns c = outer_is_servable c.outer_enters.ensures c.fast_runs_exist.ensures

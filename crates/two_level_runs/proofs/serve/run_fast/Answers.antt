@@ -12,7 +12,7 @@ returns-clause-state g c =
     (same_run f.outputs n.flags a.m.now.flags c.fast_step_bound.result (fast_most f.step_bound) a.moments.now n.state
     (entered a.bytes.now (suspended wav a.m.now.state))
     (counted_at inner_notes c.run_inside-counts.result c.run_inside-counts.new.m.state)
-    c.run_inside-counts.ensures.counted c.enter-frame.ensures.flags
+    c.run_inside-counts.ensures.counted (ap (λ m. m.flags) c.enter-frame.ensures.machine)
     c.fast_step_bound.ensures c.enter-frame.ensures.state)
 
 pub returns-clause-row : goal.returns-clause-row
@@ -27,5 +27,5 @@ returns-clause-row g c =
     c.answers.result.items
     (same_run f.outputs n.flags a.m.now.flags c.fast_step_bound.result (fast_most f.step_bound) a.moments.now n.state v
     (counted_at inner_notes c.run_inside-counts.result c.run_inside-counts.new.m.state)
-    c.run_inside-counts.ensures.counted c.enter-frame.ensures.flags
+    c.run_inside-counts.ensures.counted (ap (λ m. m.flags) c.enter-frame.ensures.machine)
     c.fast_step_bound.ensures c.enter-frame.ensures.state) c.answers.ensures)

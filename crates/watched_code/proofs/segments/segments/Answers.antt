@@ -4,8 +4,9 @@ use Rattle.watched_code.proofs.segments.segments.Goals as goal
 
 pub returns : goal.returns
 returns c =
-    segments_made c.flat_has_parts.ensures c.args.memory_map.now c.args.block.now c.args.flat.now _ _ _ _ _ _ _ _
-    c.requires.flat
+    let laid = c.args.laid_out.now in
+    segments_made c.flat_has_parts.ensures c.args.memory_map.now laid.block.now laid.flat _ _ _ _ _ _ _ _
+    laid.flat_is
     c.new-segments.ensures.items
     (c.new.ensures ∙ c.in_ok-table_bytes.ensures)
     (c.new-2.ensures ∙ c.in_ok-singleton_bytes.ensures)

@@ -5,12 +5,14 @@ use Rattle.watched_code.proofs.watch.watched_image.Goals as goal
 
 pub image_of-requires-clause-few : goal.image_of-requires-clause-few
 image_of-requires-clause-few c =
+    let laid = c.args.laid_out.now in
     let e = c.as_slice.ensures.value ∙ c.in_ok-items.ensures in
     subst (λ (xs : List Item). length xs < 2 ^ 32) (sym e)
-    (length-watched_items c.blocks_are_placed.ensures.short c.args.block.now c.requires.valid c.requires.limits)
+    (length-watched_items c.blocks_are_placed.ensures.short laid.block.now laid.valid laid.limits)
 
 pub image_of-requires-clause-rising : goal.image_of-requires-clause-rising
 image_of-requires-clause-rising c =
+    let laid = c.args.laid_out.now in
     let e = c.as_slice.ensures.value ∙ c.in_ok-items.ensures in
     subst (λ (xs : List Item). IsRising xs) (sym e)
-    (watched_rise c.blocks_are_placed.ensures.rises c.args.block.now c.requires.valid c.requires.limits)
+    (watched_rise c.blocks_are_placed.ensures.rises laid.block.now laid.valid laid.limits)

@@ -35,7 +35,7 @@ returns-clause-rest g c =
     let same : c.as_slice.result.now ≡ a.plan.now = c.as_slice.ensures in
     let rows : List Request → Rows (List ℕ) Request (Unit {0}) = λ l. firmware_rows f inputs l a.flags in
     ap₂ (λ (k : ℕ) (l : List Request). from_here (rest_here k h l r.run_state r.machine.state))
-    r.ensures.flags (sym same)
+    (ap (λ m. m.flags) r.ensures.machine) (sym same)
     ∙ r.ensures.first
     ∙ ap (λ (l : List Request). shown_run h.shows first (rows l)) same
     ∙ ap (λ (shown : List (RowSeen (List ℕ))). with_rows first (rows a.plan.now) shown)

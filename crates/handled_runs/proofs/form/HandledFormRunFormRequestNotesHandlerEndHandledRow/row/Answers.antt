@@ -6,7 +6,7 @@ use Rattle.alone_runs.specs.Rows as rows
 use Rattle.trace_io.specs.Traces.{input_bytes}
 use Rattle.firmware_runs.specs.Ports.{answers_in}
 use Rattle.handled_runs.specs.{declared.back.HandlerEnd.HandlerEnd, Forms.HandledSeen, Forms.steps_of}
-use Rattle.handled_runs.proofs.SampleBytes.{got}
+use Rattle.alone_runs.proofs.Algebra.{got}
 use Rattle.handled_runs.proofs.form.HandledFormRunFormRequestNotesHandlerEndHandledRow.row.Goals as goal
 
 pub returns : goal.returns

@@ -1,5 +1,5 @@
 use Rattle.two_level_runs.proofs.Words.{◌∙◌, ◌≡◌, input_bytes, sym}
-use Rattle.two_level_runs.proofs.SampleBytes.{got}
+use Rattle.alone_runs.proofs.Algebra.{got}
 use Rattle.two_level_runs.proofs.form.TwoLevelFormRunFormLevelNotesOptionFastRowTwoRow.row.Goals as goal
 
 pub returns : goal.returns
