@@ -24,7 +24,7 @@ use Rattle.fcl_check.proofs.Words.{without_terms, wrong_side, x_of, zero, ℕ, �
 use Rattle.std.proofs.{lemmas.Bool.lt-leb, lemmas.List.length-drop, Common.if◌then◌else◌}
 use Rattle.fcl_syntax.specs.{declared.tree.Rule.Rule, declared.tree.Tree.Tree}
 use Rattle.fcl_check.specs.{Faults.condition_pairs, Faults.most_of, Names.defuzzify_of, Names.fuzzify_of}
-use Rattle.fcl_check.specs.{Names.direction_of, Steps.room_behind, declared.checks.Room.Room}
+use Rattle.fcl_check.specs.{Names.direction_of, Steps.room_behind, declared.check.kinds.Room.Room}
 use Rattle.fcl_syntax.specs.declared.tree.Part.TheVariants as part
 use Rattle.fcl_syntax.specs.declared.tree.Direction.TheVariants as side
 use Rattle.fcl_syntax.specs.declared.tree.DefuzzyLine.TheVariants as defuzzy

@@ -46,7 +46,7 @@ pub use Rattle.std.specs.Prelude.{All, IsSome, if◌then◌else◌, int_lt, is_n
 pub use Rattle.std.specs.Prelude.{sum_by, ℤ, ◌<ℤ◌, ◌≤ℤ◌}
 pub use denote.Enum.Bare.{sameb}
 pub use Rattle.fcl_check.specs.{Corners.AreCornersOf, Spans.ends_in, Steps.extended, Texts.SpelledBlocksAreValid}
-pub use Rattle.fcl_check.specs.{declared.fault.LoadFault.LoadFault, declared.inputs.Corners.Corners}
+pub use Rattle.fcl_check.specs.{declared.fault.LoadFault.LoadFault, declared.build.inputs.Corners.Corners}
 pub use Rattle.fcl_check.specs.{declared.names.Variable.Variable}
 pub use Rattle.fcl_syntax.specs.{contracts.tree.Direction.the_type, declared.tree.Conclusion.Conclusion}
 pub use Rattle.fcl_syntax.specs.{declared.tree.Declaration.Declaration}

@@ -4,7 +4,7 @@ use Rattle.std.specs.Prelude.{◌≡◌, List, option_map}
 use Rattle.std.specs.List.{filter, take_while}
 use Rattle.fcl_syntax.specs.declared.tree.Point.{Point}
 use Rattle.fz_num.specs.declared.dec.Dec.{Dec}
-use Rattle.fcl_check.specs.{declared.inputs.Corners.Corners, Loaded.number_of, Loaded.abscissa_of}
+use Rattle.fcl_check.specs.{declared.build.inputs.Corners.Corners, Loaded.number_of, Loaded.abscissa_of}
 use Rattle.fcl_check.specs.{Places.first, Places.last, Places.drop_while, Sections.has_one, Sections.has_zero}
 
 -- the corners that the points seen so far have

@@ -5,7 +5,6 @@ pub mod Names
 pub mod Sections
 pub mod Faults
 pub mod Loaded
-pub mod Known
 pub mod WellFormed
 pub mod Texts
 pub mod Steps
@@ -14,3 +13,4 @@ pub mod Courses
 pub mod Kept
 pub mod Order
 pub mod OneBlock
+pub mod Sources

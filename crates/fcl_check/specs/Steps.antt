@@ -5,8 +5,8 @@ use Rattle.std.specs.Prelude.{ℕ, suc, Bool, false, List, Option, Some, None, o
 use Rattle.std.specs.List.{list_all}
 use Rattle.fcl_syntax.specs.declared.{tree.Direction.Direction, tree.Operand.Operand, tree.Point.Point}
 use Rattle.fcl_syntax.specs.declared.tree.Direction.TheVariants.{Input, Output}
-use Rattle.fcl_check.specs.declared.{checks.Room.Room, sections.Course.Course}
-use Rattle.fcl_check.specs.declared.sections.Course.TheVariants.{Rising, Top, Falling, Broken}
+use Rattle.fcl_check.specs.declared.{check.kinds.Room.Room, check.sections.Course.Course}
+use Rattle.fcl_check.specs.declared.check.sections.Course.TheVariants.{Rising, Top, Falling, Broken}
 use Rattle.fcl_check.specs.{Faults.Pair, Places.drop_while}
 use Rattle.fcl_check.specs.Sections.{Ends, has_one, has_zero, has_shape, hull_of, reach}
 

@@ -6,22 +6,14 @@
 //! first [`LoadFault`] with its offset.
 #![tactic(auto)]
 
-mod block;
-mod checks;
-mod conditions;
+mod build;
+mod check;
 mod fault;
-mod inputs;
 pub mod laws;
 mod loading;
 mod names;
 mod numbers;
-mod operands;
-mod outputs;
-mod rules;
-mod sections;
-mod source;
-mod variables;
-mod walk;
+mod parts;
 
 pub use fault::LoadFault;
 pub use loading::load;

@@ -1,9 +1,10 @@
 //! Which names a tree declares, and what is given twice.
 
+ghost use Rattle.std.proofs.Props.{props};
 ghost use Rattle.std.specs.Prelude.{◌≡◌, ◌+◌, ◌^◌, ◌<◌, ℕ, List, [], ◌∷◌, ◌++◌, map, cond, Some, None, is_some};
-ghost use Rattle.std.specs.Prelude.{option_map, IfOk, IfSome, OnOk};
+ghost use Rattle.std.specs.Prelude.{option_map, IfOk, OnOk};
 ghost use Rattle.std.specs.BTreeMap.{btree_map_len};
-ghost use Rattle.std.specs.List.{flat_map, find, list_any};
+ghost use Rattle.std.specs.List.{flat_map, list_any};
 ghost use Rattle.std.specs.Option.{option_or};
 ghost use Rattle.fcl_syntax.specs.declared.tree.Direction.{Direction};
 ghost use Rattle.fcl_syntax.specs.declared.tree.Part.TheVariants as part;
@@ -12,11 +13,12 @@ ghost use Rattle.fcl_check.specs.ByLetters.{at_letters, variable_in, count_of, n
 ghost use Rattle.fcl_check.specs.Faults.{Answers, twice, repeated, same_declared, same_kind, same_rule_line};
 ghost use Rattle.fcl_check.specs.Faults.{output_line_at, rule_line_at, repeated_lines, repeated_section};
 ghost use Rattle.fcl_check.specs.declared.fault.LoadFault.TheVariants as load;
-ghost use Rattle.fcl_check.specs.{Known.Knows, Places.at_if, Places.at_each, Places.first};
+ghost use Rattle.fcl_check.specs.Places.{at_if, at_each, first};
 ghost use Rattle.fcl_check.specs.Names.{declared_by, declared_in, is_direction, is_named, letters, number_in};
-ghost use Rattle.fcl_check.specs.Names.{section_name, section_of, singleton_names, term_names, term_number};
+ghost use Rattle.fcl_check.specs.Names.{section_of, singleton_names, term_names, term_number};
 
 use crate::fault::LoadFault;
+use crate::parts::section_name;
 use fcl_syntax::{
     Declaration, Defuzzify, DefuzzyLine, Direction, Fuzzify, FuzzyLine, Name, Part, RuleLine, Tree,
     Variables,
@@ -41,18 +43,23 @@ pub struct Section<'a> {
     pub terms: Terms<'a>,
 }
 
-/// The variables and sections of a tree, by their names in lower case.
+/// A tree with its variables and sections, by their names in lower case.
 #[derive(Drop)]
 pub struct Names<'a> {
+    pub tree: &'a Tree,
     pub declared: Vec<(Direction, Name)>,
     pub variables: BTreeMap<&'a [u8], Variable>,
     pub sections: BTreeMap<&'a [u8], Section<'a>>,
+    ghost declares: { declared.items ≡ declared_in tree.now.block } by { Prim.hlevel props },
+    ghost numbers: { (ls : List ℕ) → at_letters variables ls ≡
+        variable_in tree.now.text.items (declared_in tree.now.block) ls } by { Prim.hlevel props },
+    ghost holds: { HoldsSections tree.now.text.items tree.now.block.parts sections } by { Prim.hlevel props },
 }
 
 impl<'a> Names<'a> {
     /// The names of a tree, or the first thing that is declared or given twice.
     pub fn of(alloc: Global, tree: &'a Tree) -> Result<Names<'a>, LoadFault>
-        ensures names { IfOk result (Knows tree.now) }
+        ensures tree { IfOk result (λ names. names.tree.now ≡ tree.now) }
         ensures fault { Answers result (option_map load.Twice (first (twice tree.now.text.items tree.now.block))) }
     {
         let declared = declared(alloc, tree.block.variables.as_slice())?;
@@ -60,6 +67,7 @@ impl<'a> Names<'a> {
         let sections = sections(alloc, tree)?;
         rule_lines(tree.block.rules.lines.as_slice())?;
         Ok(Names {
+            tree,
             declared,
             variables,
             sections,
@@ -68,32 +76,32 @@ impl<'a> Names<'a> {
 
     /// A declared variable, by its letters.
     pub fn variable(&self, letters: &[u8]) -> Option<Variable>
-        ensures { (tree : Tree) → Knows tree self.now → result ≡
-            variable_in tree.text.items (declared_in tree.block) letters.now }
+        ensures { result ≡
+            variable_in self.now.tree.now.text.items (declared_in self.now.tree.now.block) letters.now }
     {
         self.variables.get(letters).copied()
     }
 
     /// Whether a variable of these letters has a section.
     pub fn has_section(&self, letters: &[u8]) -> bool
-        ensures { (tree : Tree) → Knows tree self.now → result ≡
-            is_some (section_of tree.text.items tree.block letters.now) }
+        ensures { result ≡
+            is_some (section_of self.now.tree.now.text.items self.now.tree.now.block letters.now) }
     {
         self.sections.contains_key(letters)
     }
 
     /// The section of a variable, by its letters.
     pub fn section(&self, letters: &[u8]) -> Option<&'a Part>
-        ensures { (tree : Tree) → Knows tree self.now → option_map (λ p. p.now) result ≡
-            section_of tree.text.items tree.block letters.now }
+        ensures { option_map (λ p. p.now) result ≡
+            section_of self.now.tree.now.text.items self.now.tree.now.block letters.now }
     {
         Some(self.sections.get(letters)?.part)
     }
 
     /// The number of a term in the section of its variable, if that is a section for this direction.
     pub fn term(&self, direction: Direction, variable: &[u8], term: &[u8]) -> Option<usize>
-        ensures { (tree : Tree) → Knows tree self.now → result ≡
-            term_number tree.text.items tree.block direction variable.now term.now }
+        ensures { result ≡ term_number self.now.tree.now.text.items self.now.tree.now.block direction variable.now
+            term.now }
     {
         let section = self.sections.get(variable)?;
         match (direction, section.part) {
@@ -102,16 +110,6 @@ impl<'a> Names<'a> {
             }
             _ => None,
         }
-    }
-}
-
-/// The name of a section's variable.
-pub fn section_name(part: &Part) -> Name
-    ensures { result ≡ section_name part.now }
-{
-    match part {
-        Part::Fuzzify(section) => section.name,
-        Part::Defuzzify(section) => section.name,
     }
 }
 
@@ -124,7 +122,7 @@ fn push_declaration(
         (λ n. (direction, n)) (declaration.now.first ∷ declaration.now.more)) }
 {
     into.push((direction, declaration.first))?;
-    'each: for name in declaration.more.as_slice() {
+    for name in declaration.more.as_slice() {
         into.push((direction, *name))?;
     }
     Ok(())
@@ -136,24 +134,24 @@ fn push_variables(
 ) -> Result<(), AllocError>
     ensures { OnOk result (into.new.items ≡ into.old.items ++ declared_by variables.now) }
 {
-    'each: for declaration in variables.declarations.as_slice() {
+    for declaration in variables.declarations.as_slice() {
         push_declaration(into, variables.direction, declaration)?;
     }
     Ok(())
 }
 
-// The declared names in the text's order.
+/// The declared names in the text's order.
 fn declared(alloc: Global, variables: &[Variables]) -> Result<Vec<(Direction, Name)>, AllocError>
     ensures { IfOk result (λ v. v.items ≡ flat_map declared_by variables.now) }
 {
     let mut names = Vec::new(alloc);
-    'each: for section in variables {
+    for section in variables {
         push_variables(&mut names, section)?;
     }
     Ok(names)
 }
 
-// Adds a value under the letters of a name, which no other may have yet.
+/// Adds a value under the letters of a name, which no other may have yet.
 fn add<'a, V: Drop>(
     values: &mut BTreeMap<&'a [u8], V>,
     tree: &'a Tree,
@@ -172,7 +170,7 @@ fn add<'a, V: Drop>(
     Ok(())
 }
 
-// How many inputs and outputs were counted.
+/// How many inputs and outputs were counted.
 #[derive(Clone, Copy)]
 struct Counts {
     inputs: usize,
@@ -180,7 +178,7 @@ struct Counts {
 }
 
 impl Counts {
-    // Counts one more variable, and says its number.
+    /// Counts one more variable, and says its number.
     fn next(&mut self, direction: Direction) -> usize
         requires inputs { self.old.inputs < 2 ^ 63 }
         requires outputs { self.old.outputs < 2 ^ 63 }
@@ -201,7 +199,7 @@ impl Counts {
     }
 }
 
-// The declared variables by their letters.
+/// The declared variables by their letters.
 fn variables<'a>(
     alloc: Global,
     tree: &'a Tree,
@@ -217,7 +215,7 @@ fn variables<'a>(
         inputs: 0,
         outputs: 0,
     };
-    'each: for (direction, name) in declared {
+    for (direction, name) in declared {
         let variable = Variable {
             direction: *direction,
             number: counts.next(*direction),
@@ -227,7 +225,7 @@ fn variables<'a>(
     Ok(variables)
 }
 
-// Adds a term under the letters of its name, with the next number.
+/// Adds a term under the letters of its name, with the next number.
 fn add_term<'a>(terms: &mut Terms<'a>, tree: &'a Tree, name: Name) -> Result<(), LoadFault>
     ensures fault { Answers result (option_map load.Twice (first (at_if (is_some (at_letters terms.old
         (letters tree.now.text.items name))) name.at))) }
@@ -239,7 +237,7 @@ fn add_term<'a>(terms: &mut Terms<'a>, tree: &'a Tree, name: Name) -> Result<(),
     add(terms, tree, name, number)
 }
 
-// The numbers of the terms of an input's section, whose lines stand once each.
+/// The numbers of the terms of an input's section, whose lines stand once each.
 fn fuzzy_terms<'a>(alloc: Global, tree: &'a Tree, section: &Fuzzify) -> Result<Terms<'a>, LoadFault>
     ensures terms { IfOk result (λ m. (ls : List ℕ) → at_letters m ls ≡
         number_in tree.now.text.items (term_names section.now) ls) }
@@ -248,7 +246,7 @@ fn fuzzy_terms<'a>(alloc: Global, tree: &'a Tree, section: &Fuzzify) -> Result<T
 {
     let mut terms = BTreeMap::new(alloc);
     let mut has_range = false;
-    'each: for line in section.lines.as_slice() {
+    for line in section.lines.as_slice() {
         match line {
             FuzzyLine::Term(term) => add_term(&mut terms, tree, term.name)?,
             FuzzyLine::Range(range) => {
@@ -291,7 +289,7 @@ fn has_kind(lines: &[DefuzzyLine], line: &DefuzzyLine) -> bool
     lines.iter().any(|other| is_same_kind(line, other))
 }
 
-// The numbers of the terms of an output's section, whose lines stand once each.
+/// The numbers of the terms of an output's section, whose lines stand once each.
 fn defuzzy_terms<'a>(
     alloc: Global,
     tree: &'a Tree,
@@ -305,7 +303,7 @@ fn defuzzy_terms<'a>(
     let mut terms = BTreeMap::new(alloc);
     // The other lines, at most one of each kind.
     let mut others: Vec<DefuzzyLine> = Vec::new(alloc);
-    'each: for line in section.lines.as_slice() {
+    for line in section.lines.as_slice() {
         if let DefuzzyLine::Singleton(singleton) = line {
             add_term(&mut terms, tree, singleton.name)?;
         } else {
@@ -330,14 +328,14 @@ fn terms<'a>(alloc: Global, tree: &'a Tree, part: &Part) -> Result<Terms<'a>, Lo
     }
 }
 
-// The sections by the letters of their names.
+/// The sections by the letters of their names.
 fn sections(alloc: Global, tree: &Tree) -> Result<BTreeMap<&[u8], Section<'_>>, LoadFault>
     ensures sections { IfOk result (HoldsSections tree.now.text.items tree.now.block.parts) }
     ensures fault { Answers result (option_map load.Twice (first (at_each
         (repeated_section tree.now.text.items tree.now.block) [] tree.now.block.parts))) }
 {
     let mut sections = BTreeMap::new(alloc);
-    'each: for part in tree.block.parts.as_slice() {
+    for part in tree.block.parts.as_slice() {
         let name = section_name(part);
         if sections.contains_key(tree.letters(name)) {
             return Err(LoadFault::Twice(name.at));
@@ -375,11 +373,11 @@ fn rule_line_at(line: &RuleLine) -> u32
     }
 }
 
-// No line is given twice. Lines are compared with at most four before them, one of each kind.
+/// No line is given twice. Lines are compared with at most four before them, one of each kind.
 fn rule_lines(lines: &[RuleLine]) -> Result<(), LoadFault>
     ensures { Answers result (option_map load.Twice (first (repeated same_rule_line rule_line_at lines.now))) }
 {
-    'each: for (index, line) in lines.iter().enumerate() {
+    for (index, line) in lines.iter().enumerate() {
         if has_rule_line(&lines[..index], line) {
             return Err(LoadFault::Twice(rule_line_at(line)));
         }

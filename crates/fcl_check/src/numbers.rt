@@ -33,6 +33,8 @@ pub fn value(number: SignedNumber) -> Dec
         SignedNumber::Plus(number) | SignedNumber::Bare(number) => magnitude(number),
         SignedNumber::Minus(number) => 0_i64.saturating_sub(magnitude(number)),
     };
+    // No text has a number beyond these ends, but the type of a tree does not say so: what is added to a
+    // number that is cut here cannot overflow.
     Dec(value.max(-GREATEST).min(GREATEST))
 }
 

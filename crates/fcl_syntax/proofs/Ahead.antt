@@ -1,4 +1,4 @@
--- One token and a form, unless the token behind the first is one of some: then the first is refused.
+-- One token and a parser, unless the token behind the first is one of some: then the first is refused.
 use Rattle.std.proofs.Common.{◌≡◌, ℕ, suc, ◌+◌, Bool, true, false, List, [], ◌∷◌, ◌++◌, length, Option, Some, None}
 use Rattle.std.proofs.Common.{Result, Ok, Err, refl, sym, ap, subst, ◌∙◌, arith, inl, inr, ◌⊎◌}
 use Rattle.std.proofs.lemmas.List.{append-nil}
@@ -7,7 +7,7 @@ use Rattle.fcl_syntax.specs.declared.{fault.Fault.Fault, fault.Kind.Kind, fault.
 use Rattle.fcl_syntax.specs.{TokenClasses.class_of, TokenClasses.mem, First.SameHead}
 use Rattle.fcl_syntax.specs.Annotations.{Sym, tokens_of, plain, annotated}
 use Rattle.fcl_syntax.specs.Readers.{◌>>=◌, fault_at, starts, one_at}
-use Rattle.fcl_syntax.proofs.Form.{disjoint, Stops, Starts, first_annotation, answer, Stands, Fails, Form}
+use Rattle.fcl_syntax.proofs.Parser.{disjoint, Stops, Starts, first_annotation, answer, Stands, Fails, Parser}
 use Rattle.fcl_syntax.proofs.AnnotatedTexts.{bind_ok, bind_err, ok_is}
 use Rattle.fcl_syntax.proofs.{Seq.Shows-in, Seq.Viable-in, Dead.unless}
 use Rattle.fcl_syntax.proofs.Small.{Single, one_text, one_stands, one_fails, starts-not, starts-same}
@@ -25,7 +25,7 @@ abbrev pub to_inl : {A B Y : Type 0} → A → Result (B × List Token) Fault
     → Result (((A × B) ⊎ (A × Y)) × List Token) Fault
 to_inl a r = r >>= λ b. Ok (inl (a, b.0), b.1)
 
-module _ {A B Y : Type 0} (c : Single A) (d : Ahead Y) (q : Form B) where
+module _ {A B Y : Type 0} (c : Single A) (d : Ahead Y) (q : Parser B) where
   abbrev pub ahead_text : (A × B) ⊎ (A × Y) → List Sym
   ahead_text (inl t) = plain (c.make t.0) ∷ q.text t.1
   ahead_text (inr t) = annotated refused (c.make t.0) ∷ plain (d.token t.1) ∷ []
@@ -36,7 +36,7 @@ module _ {A B Y : Type 0} (c : Single A) (d : Ahead Y) (q : Form B) where
   abbrev pub ahead_read : List Token → Result (((A × B) ⊎ (A × Y)) × List Token) Fault
   ahead_read ts = one_at c.want ts >>= ahead_rest
 
-module _ {A B Y : Type 0} (c : Single A) (d : Ahead Y) (q : Form B) (apart : disjoint d.among q.first ≡ true) where
+module _ {A B Y : Type 0} (c : Single A) (d : Ahead Y) (q : Parser B) (apart : disjoint d.among q.first ≡ true) where
   pub ahead_begins : (t : (A × B) ⊎ (A × Y)) (rest : List Token)
       → Starts c.among (tokens_of (ahead_text c d q t) ++ rest)
   ahead_begins (inl t) rest = c.classes t.0
@@ -187,7 +187,7 @@ module _ {A B Y : Type 0} (c : Single A) (d : Ahead Y) (q : Form B) (apart : dis
           (fault_at refused (suc (length rest)))) (sym s.parts) (ahead_here a rest w))
       second a rest s false w h = ahead_second ts e a rest s w (q.fails rest e (inner_err (q.read rest) a e h))
 
-  abbrev pub ahead : Form ((A × B) ⊎ (A × Y))
+  abbrev pub ahead : Parser ((A × B) ⊎ (A × Y))
   ahead = record {
     text = ahead_text c d q;
     read = ahead_read c d q;

@@ -8,7 +8,7 @@ use Rattle.fcl_syntax.specs.declared.{fault.Fault.Fault, fault.Kind.Kind}
 use Rattle.fcl_syntax.specs.{TokenClasses.class_of, TokenClasses.mem, Readers.◌>>=◌}
 use Rattle.fcl_syntax.specs.Annotations.{Sym, tokens_of, IsClean}
 use Rattle.fcl_syntax.specs.First.{looks_on, SameNext, SameHead}
-use Rattle.fcl_syntax.proofs.Form.{disjoint, Stops, Starts, annotation_at, first_annotation, or_else}
+use Rattle.fcl_syntax.proofs.Parser.{disjoint, Stops, Starts, annotation_at, first_annotation, or_else}
 
 pub bind_ok : {A B : Type 0} (r : Result A Fault) (f : A → Result B Fault) (y : B) → (r >>= f) ≡ Ok y
     → (x : A) × (r ≡ Ok x) × (f x ≡ Ok y)

@@ -1,4 +1,4 @@
--- Readers in a row, as the parser has them and as a sequence of forms has them.
+-- Readers in a row, as the parser has them and as a sequence of parsers has them.
 use Rattle.std.proofs.Common.{◌≡◌, Bool, true, false, List, Result, Ok, Err, refl}
 use Rattle.fcl_tokens.specs.declared.token.Token.{Token}
 use Rattle.fcl_syntax.specs.declared.fault.Fault.{Fault}

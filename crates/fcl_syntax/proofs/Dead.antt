@@ -1,4 +1,4 @@
--- Annotated choices, and a form seen as another type.
+-- Annotated choices, and a parser seen as another type.
 use Rattle.std.proofs.Common.{◌≡◌, ℕ, ◌+◌, Bool, true, false, List, [], ◌∷◌, ◌++◌, length, Result, Ok, Err, refl, sym}
 use Rattle.std.proofs.Common.{ap, subst, ◌∙◌, arith, inl, inr, ◌⊎◌}
 use Rattle.std.proofs.lemmas.List.{length-append}
@@ -9,14 +9,14 @@ use Rattle.fcl_syntax.specs.TokenClasses.{class_of, mem}
 use Rattle.fcl_syntax.specs.Annotations.{either_text, Sym, tokens_of, IsClean, annotated}
 use Rattle.fcl_syntax.specs.First.{looks_on, SameNext, SameHead, Shown}
 use Rattle.fcl_syntax.specs.Readers.{cond_read, fault_at, starts}
-use Rattle.fcl_syntax.proofs.Form.{disjoint, Stops, Starts, first_annotation, answer, Stands, Shows, Fails, Form}
+use Rattle.fcl_syntax.proofs.Parser.{disjoint, Stops, Starts, first_annotation, answer, Stands, Shows, Fails, Parser}
 use Rattle.fcl_syntax.proofs.AnnotatedTexts.{length-tokens}
 use Rattle.fcl_syntax.proofs.Small.{seen_as, widen, answer-seen, seen_err, seen_stands, seen_fails, to_right}
 use Rattle.fcl_syntax.proofs.Small.{starts-not, starts-same, bool_cases}
 
--- ---- a form seen as another type
+-- ---- a parser seen as another type
 
-module _ {A B : Type 0} (p : Form A) (to : A → B) (from : B → A) (text : B → List Sym)
+module _ {A B : Type 0} (p : Parser A) (to : A → B) (from : B → A) (text : B → List Sym)
     (round : (b : B) → to (from b) ≡ b)
     (same_text : (a : A) → text (to a) ≡ p.text a) where
   abbrev pub via_read : List Token → Result (B × List Token) Fault
@@ -42,7 +42,7 @@ module _ {A B : Type 0} (p : Form A) (to : A → B) (from : B → A) (text : B �
   via_fails ts e h = seen_fails p to text same_text via_read ts e (p.fails ts e (seen_err to (p.read ts) e h))
       (λ b same. refl)
 
-  abbrev pub via : Form B
+  abbrev pub via : Parser B
   via = record {
     text = text;
     read = via_read;
@@ -56,7 +56,7 @@ module _ {A B : Type 0} (p : Form A) (to : A → B) (from : B → A) (text : B �
     fails = via_fails;
   }
 
--- ---- a form, or what is refused at its first token
+-- ---- a parser, or what is refused at its first token
 
 pub record Dead (X : Type 0) : Type 0 where
   pub text : X → List Sym
@@ -82,14 +82,14 @@ next-same : (l : Bool) (a b : List Token) → l ≡ false → SameNext l a b
 next-same false a b e = tt
 next-same true a b e = absurd cc
 
-module _ {X A : Type 0} (d : Dead X) (p : Form A) where
+module _ {X A : Type 0} (d : Dead X) (p : Parser A) where
   abbrev pub dead_text : X ⊎ A → List Sym
   dead_text = either_text d.text p.text
 
   abbrev pub dead_read : List Token → Result ((X ⊎ A) × List Token) Fault
   dead_read ts = unless (starts d.among ts) (fault_at d.kind (length ts)) (to_right (p.read ts))
 
-module _ {X A : Type 0} (d : Dead X) (p : Form A) (apart : disjoint d.among p.first ≡ true) (first : List ℕ)
+module _ {X A : Type 0} (d : Dead X) (p : Parser A) (apart : disjoint d.among p.first ≡ true) (first : List ℕ)
     (first_dead : (x : Token) → mem (class_of x) d.among ≡ true → mem (class_of x) first ≡ true)
     (first_right : (x : Token) → mem (class_of x) p.first ≡ true → mem (class_of x) first ≡ true) where
   pub dead_begins : (t : X ⊎ A) (rest : List Token) → Starts first (tokens_of (dead_text d p t) ++ rest)
@@ -171,7 +171,7 @@ module _ {X A : Type 0} (d : Dead X) (p : Form A) (apart : disjoint d.among p.fi
             (λ (b : Bool). unless b (fault_at d.kind (length ts)) (to_right {A = X} (p.read ts)) ≡ Err e) not_so h)))
       ]
 
-  abbrev pub dead_or : Form (X ⊎ A)
+  abbrev pub dead_or : Parser (X ⊎ A)
   dead_or = record {
     text = dead_text d p;
     read = dead_read d p;

@@ -1,4 +1,4 @@
--- A form's reader answers the tree, or the first fault.
+-- A parser's reader answers the tree, or the first fault.
 use Rattle.std.proofs.Common.{◌≡◌, ℕ, suc, ◌+◌, ◌≤◌, Bool, true, false, List, [], ◌∷◌, ◌++◌, length, Option, Some, None}
 use Rattle.std.proofs.Common.{Result, Ok, Err, refl, sym, ap, subst, ◌∙◌, append_assoc, arith, inl, inr, ◌⊎◌}
 use Rattle.std.proofs.lemmas.List.{append-nil, length-append}
@@ -10,11 +10,11 @@ use Rattle.fcl_syntax.specs.First.{looks_on, SameNext, SameHead, Shown, IsAnnota
 use Rattle.fcl_syntax.specs.First.{Begins, NoTextHas, NoAnnotation, Here, FirstFault}
 use Rattle.fcl_syntax.specs.Readers.{ended, ◌>>=◌, fault_at}
 use Rattle.fcl_syntax.specs.declared.fault.Kind.TheVariants.{Expected, Deep, Unsupported}
-use Rattle.fcl_syntax.proofs.Form.{Stops, annotation_at, first_annotation, answer, Stands, Viable, Fails, Form}
+use Rattle.fcl_syntax.proofs.Parser.{Stops, annotation_at, first_annotation, answer, Stands, Viable, Fails, Parser}
 use Rattle.fcl_syntax.proofs.AnnotatedTexts.{bind_ok, bind_err, ok_is, tokens_of-append, length-tokens}
 use Rattle.fcl_syntax.proofs.AnnotatedTexts.{first_annotation-clean}
 
-abbrev pub whole : {T : Type 0} → Form T → List Token → Result T Fault
+abbrev pub whole : {T : Type 0} → Parser T → List Token → Result T Fault
 whole p ts = p.read ts >>= ended
 
 err_is : {A : Type 0} (r : Result A Fault) (d e : Fault) → r ≡ Err d → r ≡ Err e → d ≡ e
@@ -99,7 +99,7 @@ SameNext-after true k (z ∷ g) x a b s = refl
 SameNext-after true k [] x a [] s = absurd s
 SameNext-after true k [] x a (y ∷ b) s = s.0
 
-module _ {T : Type 0} (p : Form T) where
+module _ {T : Type 0} (p : Parser T) where
   nothing_stops : Stops p.goes []
   nothing_stops = tt
 

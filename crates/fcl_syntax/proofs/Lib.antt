@@ -1,4 +1,4 @@
-pub mod Form
+pub mod Parser
 pub mod AnnotatedTexts
 pub mod Seq
 pub mod Small
@@ -12,10 +12,10 @@ pub mod Tags
 pub mod Chains
 pub mod Named
 pub mod SingleTokens
-pub mod Forms
-pub mod TermForms
-pub mod ConditionForms
-pub mod RuleForms
+pub mod Parsers
+pub mod TermParsers
+pub mod ConditionParsers
+pub mod RuleParsers
 pub mod Rooms
 pub mod OneTree
 pub mod Theorem

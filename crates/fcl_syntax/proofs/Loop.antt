@@ -6,12 +6,12 @@ use Rattle.fcl_tokens.specs.declared.token.Token.{Token}
 use Rattle.fcl_syntax.specs.declared.fault.Fault.{Fault}
 use Rattle.fcl_syntax.specs.{Annotations.Sym, Annotations.tokens_of, Annotations.IsClean, Grammar.each}
 use Rattle.fcl_syntax.specs.Readers.{◌>>=◌, starts, with_front, turn, loop}
-use Rattle.fcl_syntax.proofs.Form.{disjoint, Stops, Starts, first_annotation, or_else, answer, Fails, Form}
+use Rattle.fcl_syntax.proofs.Parser.{disjoint, Stops, Starts, first_annotation, or_else, answer, Fails, Parser}
 use Rattle.fcl_syntax.proofs.AnnotatedTexts.{bind_ok, bind_err, ok_is, tokens_of-append, length-tokens, IsClean-append}
 use Rattle.fcl_syntax.proofs.AnnotatedTexts.{first_annotation-append, first_annotation-clean, starts-stops}
 use Rattle.fcl_syntax.proofs.Small.{starts-is}
 
-module _ {A : Type 0} (p : Form A) where
+module _ {A : Type 0} (p : Parser A) where
   abbrev pub texts : List A → List Sym
   texts items = each p.text items
 
@@ -37,7 +37,7 @@ pub all_settled : {A : Type 0} (goes : List ℕ) (items : List A) (rest : List T
 all_settled goes [] rest s = tt
 all_settled goes (a ∷ items) rest s = s
 
-pub record Ran {A : Type 0} (p : Form A) (ts : List Token) (items : List A) (rest : List Token) : Type 0 where
+pub record Ran {A : Type 0} (p : Parser A) (ts : List Token) (items : List A) (rest : List Token) : Type 0 where
   pub parts : ts ≡ tokens_of (texts p items) ++ rest
   pub clean : IsClean (texts p items)
   pub ends : starts p.first rest ≡ false
@@ -47,7 +47,7 @@ pub clean_parts : (a b : List Sym) → IsClean (a ++ b) → IsClean a × IsClean
 clean_parts [] b h = (tt, h)
 clean_parts (s ∷ a) b h = let r = clean_parts a b h.1 in ((h.0, r.0), r.1)
 
-pub record FailsIn {A : Type 0} (p : Form A) (ts : List Token) (e : Fault) : Type 0 where
+pub record FailsIn {A : Type 0} (p : Parser A) (ts : List Token) (e : Fault) : Type 0 where
   pub before : List A
   pub clean : IsClean (texts p before)
   pub ts' : List Token
@@ -55,7 +55,7 @@ pub record FailsIn {A : Type 0} (p : Form A) (ts : List Token) (e : Fault) : Typ
   pub begun : starts p.first ts' ≡ true
   pub inner : Fails p.text p.read ts' e
 
-module _ {A : Type 0} (p : Form A) (apart : disjoint p.goes p.first ≡ true) where
+module _ {A : Type 0} (p : Parser A) (apart : disjoint p.goes p.first ≡ true) where
   pub starts-Starts : (ts : List Token) → starts p.first ts ≡ true → Starts p.first ts
   starts-Starts [] h = absurd cc
   starts-Starts (x ∷ xs) h = h

@@ -1,18 +1,18 @@
--- A form under another reader that answers the same, and choices with their classes worked out.
+-- A parser under another reader that answers the same, and choices with their classes worked out.
 use Rattle.std.proofs.Common.{◌≡◌, ℕ, Bool, true, false, cond, List, [], ◌++◌, refl, sym, ◌∙◌, ◌⊎◌}
 use Rattle.fcl_tokens.specs.declared.token.Token.{Token}
 use Rattle.fcl_syntax.specs.declared.{fault.Kind.Kind, fault.Kind.TheVariants.Unsupported}
 use Rattle.fcl_syntax.specs.TokenClasses.{class_of, mem, Among}
 use Rattle.fcl_syntax.specs.{Annotations.refused_text, First.looks_on, Readers.Read}
 use Rattle.fcl_syntax.specs.Reading.{refusing, either_at}
-use Rattle.fcl_syntax.proofs.{Form.disjoint, Form.Form, Small.alt, Dead.Dead, Dead.dead_or}
+use Rattle.fcl_syntax.proofs.{Parser.disjoint, Parser.Parser, Small.alt, Dead.Dead, Dead.dead_or}
 use Rattle.fcl_syntax.proofs.Repeat.{mem-append, many}
 
--- the reader answers what the form does
-pub record Reads {A : Type 0} (read : List Token → Read A) (p : Form A) : Type 0 where
+-- the reader answers what the parser does
+pub record Reads {A : Type 0} (read : List Token → Read A) (p : Parser A) : Type 0 where
   pub same : (ts : List Token) → read ts ≡ p.read ts
 
-abbrev pub named : {A : Type 0} {read : List Token → Read A} {p : Form A} → Reads read p → Form A
+abbrev pub named : {A : Type 0} {read : List Token → Read A} {p : Parser A} → Reads read p → Parser A
 named {read = read} {p = p} is = record {
   text = p.text;
   read = read;
@@ -50,8 +50,8 @@ in_left xs ys x h = mem-append xs ys (class_of x) ∙ true_left (mem (class_of x
 pub in_right : (xs ys : List ℕ) (x : Token) → mem (class_of x) ys ≡ true → mem (class_of x) (xs ++ ys) ≡ true
 in_right xs ys x h = mem-append xs ys (class_of x) ∙ true_right (mem (class_of x) xs) (mem (class_of x) ys) h
 
-abbrev pub either : {A B : Type 0} (p : Form A) (q : Form B) → disjoint p.first q.first ≡ true → p.goes ≡ q.goes
-    → Form (A ⊎ B)
+abbrev pub either : {A B : Type 0} (p : Parser A) (q : Parser B) → disjoint p.first q.first ≡ true → p.goes ≡ q.goes
+    → Parser (A ⊎ B)
 either p q apart same = alt p q apart same (p.first ++ q.first) (in_left p.first q.first) (in_right p.first q.first)
 
 abbrev pub among_dead : (k : Kind) (classes : List ℕ) → looks_on k ≡ false → Dead (Among classes)
@@ -67,26 +67,26 @@ among_dead k classes here = record {
   here = here;
 }
 
-module _ {A : Type 0} (code : ℕ) (classes : List ℕ) (p : Form A) (here : looks_on (Unsupported code) ≡ false)
+module _ {A : Type 0} (code : ℕ) (classes : List ℕ) (p : Parser A) (here : looks_on (Unsupported code) ≡ false)
     (apart : disjoint classes p.first ≡ true) where
   pub refusing_is : Reads (refusing classes code p.read) (dead_or (among_dead (Unsupported code) classes here) p apart
       (classes ++ p.first) (in_left classes p.first) (in_right classes p.first))
   unfolding refusing
   refusing_is = record { same = λ ts. refl }
 
-  abbrev pub refuse : Form (Among classes ⊎ A)
+  abbrev pub refuse : Parser (Among classes ⊎ A)
   refuse = named refusing_is
 
-module _ {A B : Type 0} (p : Form A) (q : Form B) (apart : disjoint p.first q.first ≡ true) (same : p.goes ≡ q.goes)
+module _ {A B : Type 0} (p : Parser A) (q : Parser B) (apart : disjoint p.first q.first ≡ true) (same : p.goes ≡ q.goes)
   where
     pub either_is : Reads (either_at p.first p.read q.read) (either p q apart same)
     unfolding either_at
     either_is = record { same = λ ts. refl }
 
-    abbrev pub one_of : Form (A ⊎ B)
+    abbrev pub one_of : Parser (A ⊎ B)
     one_of = named either_is
 
-abbrev pub many_then : {A B : Type 0} (p : Form A) (q : Form B) → disjoint p.goes p.first ≡ true
+abbrev pub many_then : {A B : Type 0} (p : Parser A) (q : Parser B) → disjoint p.goes p.first ≡ true
     → disjoint p.goes q.first ≡ true
-    → disjoint p.first q.first ≡ true → Form (List A × B)
+    → disjoint p.first q.first ≡ true → Parser (List A × B)
 many_then p q a b c = many p q a b c (p.first ++ q.first) (in_left p.first q.first) (in_right p.first q.first)

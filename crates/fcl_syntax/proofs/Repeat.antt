@@ -1,4 +1,4 @@
--- P {Q} and {P} Q as forms.
+-- P {Q} and {P} Q as parsers.
 use Rattle.std.proofs.Common.{◌≡◌, ℕ, ◌+◌, Bool, true, false, cond, eqb, List, [], ◌∷◌, ◌++◌, length, Option, Some}
 use Rattle.std.proofs.Common.{None, Result, Ok, Err, refl, sym, ap, subst, ◌∙◌, append_assoc, arith, inl, inr}
 use Rattle.std.proofs.lemmas.List.{append-nil, length-append}
@@ -7,7 +7,7 @@ use Rattle.fcl_syntax.specs.declared.{fault.Fault.Fault, fault.Kind.Kind}
 use Rattle.fcl_syntax.specs.{TokenClasses.class_of, TokenClasses.mem, First.SameHead}
 use Rattle.fcl_syntax.specs.Annotations.{Sym, tokens_of, IsClean}
 use Rattle.fcl_syntax.specs.Readers.{◌>>=◌, fault_at, starts}
-use Rattle.fcl_syntax.proofs.Form.{disjoint, Stops, Starts, first_annotation, or_else, answer, Stands, Fails, Form}
+use Rattle.fcl_syntax.proofs.Parser.{disjoint, Stops, Starts, first_annotation, or_else, answer, Stands, Fails, Parser}
 use Rattle.fcl_syntax.proofs.AnnotatedTexts.{bind_ok, bind_err, ok_is, tokens_of-append, length-tokens, IsClean-append}
 use Rattle.fcl_syntax.proofs.AnnotatedTexts.{first_annotation-append, first_annotation-clean, starts-stops, Stops-same}
 use Rattle.fcl_syntax.proofs.{Seq.Shows-in, Seq.Viable-in, Small.starts-not, Small.starts-same, Small.widen}
@@ -34,21 +34,21 @@ pub Stops-both : (f g : List ℕ) (rest : List Token) → starts f rest ≡ fals
 Stops-both f g [] h s = tt
 Stops-both f g (x ∷ xs) h s = rw (mem-append f g (class_of x), h) s
 
-pub texts-append : {A : Type 0} (p : Form A) (a b : List A) → texts p (a ++ b) ≡ texts p a ++ texts p b
+pub texts-append : {A : Type 0} (p : Parser A) (a b : List A) → texts p (a ++ b) ≡ texts p a ++ texts p b
 texts-append p [] b = refl
 texts-append p (x ∷ a) b = ap (λ (l : List Sym). p.text x ++ l) (texts-append p a b)
     ∙ sym (append_assoc (p.text x) (texts p a) (texts p b))
 
 -- ---- P {Q}
 
-module _ {A B : Type 0} (p : Form A) (q : Form B) where
+module _ {A B : Type 0} (p : Parser A) (q : Parser B) where
   abbrev pub then_text : A × List B → List Sym
   then_text t = p.text t.0 ++ texts q t.1
 
   abbrev pub then_read : List Token → Result ((A × List B) × List Token) Fault
   then_read ts = p.read ts >>= λ a. rep q (length a.1) a.1 >>= λ r. Ok ((a.0, r.0), r.1)
 
-module _ {A B : Type 0} (p : Form A) (q : Form B) (apart : disjoint q.goes q.first ≡ true)
+module _ {A B : Type 0} (p : Parser A) (q : Parser B) (apart : disjoint q.goes q.first ≡ true)
     (same_goes : p.goes ≡ q.goes) where
   pub then_begins : (t : A × List B) (rest : List Token) → Starts p.first (tokens_of (then_text p q t) ++ rest)
   then_begins t rest =
@@ -184,7 +184,7 @@ module _ {A B : Type 0} (p : Form A) (q : Form B) (apart : disjoint q.goes q.fir
         ]
       ]
 
-  abbrev pub then_rep : Form (A × List B)
+  abbrev pub then_rep : Parser (A × List B)
   then_rep = record {
     text = then_text p q;
     read = then_read p q;
@@ -200,14 +200,14 @@ module _ {A B : Type 0} (p : Form A) (q : Form B) (apart : disjoint q.goes q.fir
 
 -- ---- {P} Q
 
-module _ {A B : Type 0} (p : Form A) (q : Form B) where
+module _ {A B : Type 0} (p : Parser A) (q : Parser B) where
   abbrev pub many_text : List A × B → List Sym
   many_text t = texts p t.0 ++ q.text t.1
 
   abbrev pub many_read : List Token → Result ((List A × B) × List Token) Fault
   many_read ts = rep p (length ts) ts >>= λ r. q.read r.1 >>= λ b. Ok ((r.0, b.0), b.1)
 
-module _ {A B : Type 0} (p : Form A) (q : Form B) (apart : disjoint p.goes p.first ≡ true)
+module _ {A B : Type 0} (p : Parser A) (q : Parser B) (apart : disjoint p.goes p.first ≡ true)
     (apart_end : disjoint p.goes q.first ≡ true)
     (apart_first : disjoint p.first q.first ≡ true) (first : List ℕ)
     (first_item : (x : Token) → mem (class_of x) p.first ≡ true → mem (class_of x) first ≡ true)
@@ -359,7 +359,7 @@ module _ {A B : Type 0} (p : Form A) (q : Form B) (apart : disjoint p.goes p.fir
         ]
       ]
 
-  abbrev pub many : Form (List A × B)
+  abbrev pub many : Parser (List A × B)
   many = record {
     text = many_text p q;
     read = many_read p q;

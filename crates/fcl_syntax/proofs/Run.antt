@@ -7,7 +7,7 @@ use Rattle.fcl_syntax.specs.declared.{fault.Fault.Fault, fault.ParseError.ParseE
 use Rattle.fcl_syntax.specs.declared.fault.ParseError.TheVariants as errors
 use Rattle.fcl_syntax.specs.Annotations.{tokens_of}
 use Rattle.fcl_syntax.specs.Readers.{TakesSome, ◌>>=◌, starts, with_front, loop, FailsAs}
-use Rattle.fcl_syntax.proofs.{Form.Starts, Form.Form}
+use Rattle.fcl_syntax.proofs.{Parser.Starts, Parser.Parser}
 
 abbrev pub prefixed : {A : Type 0} → List A → Result (List A × List Token) Fault → Result (List A × List Token) Fault
 prefixed front r = r >>= λ x. Ok (front ++ x.0, x.1)
@@ -19,7 +19,7 @@ pub record Going {A : Type 0} (first : List ℕ) (read : List Token → Result (
   pub enough : length rest ≤ fuel
   pub so_far : prefixed front (loop first read fuel rest) ≡ total
 
-pub shrinks : {A : Type 0} (p : Form A) (ts : List Token) (a : A) (rest : List Token) → p.read ts ≡ Ok (a, rest)
+pub shrinks : {A : Type 0} (p : Parser A) (ts : List Token) (a : A) (rest : List Token) → p.read ts ≡ Ok (a, rest)
     → length rest < length ts
 shrinks p ts a rest h =
     let s = p.stands ts a rest h in
@@ -101,6 +101,6 @@ pushed view first read items more x ts after total is begins h shorter g =
     let e : map view more ≡ map view items ++ view x ∷ [] = rw is (map_push view items x) in
     rw e (goes_on first read (map view items) ts (view x) after total begins h shorter g)
 
--- what reads as a form takes a token at least
-pub form_takes : {A : Type 0} (p : Form A) → TakesSome p.read
-form_takes p = record { shrinks = shrinks p }
+-- what reads as a parser takes a token at least
+pub parser_takes : {A : Type 0} (p : Parser A) → TakesSome p.read
+parser_takes p = record { shrinks = shrinks p }

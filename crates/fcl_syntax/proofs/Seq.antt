@@ -1,4 +1,4 @@
--- One form after another.
+-- One parser after another.
 use Rattle.std.proofs.Common.{◌≡◌, ℕ, ◌+◌, true, List, [], ◌∷◌, ◌++◌, length, Option, Some, None, Result, Ok, Err, refl}
 use Rattle.std.proofs.Common.{sym, ap, subst, ◌∙◌, append_assoc, arith, inl, inr}
 use Rattle.std.proofs.lemmas.List.{append-nil, length-append}
@@ -7,8 +7,8 @@ use Rattle.fcl_syntax.specs.declared.{fault.Fault.Fault, fault.Kind.Kind}
 use Rattle.fcl_syntax.specs.declared.fault.Kind.TheVariants.{Expected, Deep, Unsupported}
 use Rattle.fcl_syntax.specs.Annotations.{Sym, tokens_of, IsClean, annotated}
 use Rattle.fcl_syntax.specs.{First.SameHead, First.Shown, Readers.◌>>=◌}
-use Rattle.fcl_syntax.proofs.Form.{disjoint, Stops, Starts, first_annotation, or_else, answer, Stands, Viable, Shows}
-use Rattle.fcl_syntax.proofs.Form.{Fails, Form}
+use Rattle.fcl_syntax.proofs.Parser.{disjoint, Stops, Starts, first_annotation, or_else, answer, Stands, Viable, Shows}
+use Rattle.fcl_syntax.proofs.Parser.{Fails, Parser}
 use Rattle.fcl_syntax.proofs.AnnotatedTexts.{bind_ok, bind_err, ok_is, tokens_of-append, length-tokens}
 use Rattle.fcl_syntax.proofs.AnnotatedTexts.{IsClean-append, first_annotation-append, first_annotation-clean}
 use Rattle.fcl_syntax.proofs.AnnotatedTexts.{starts-stops, Stops-same, SameHead-append}
@@ -54,14 +54,14 @@ Viable-in ta tb front head b tail is ch ct v = record {
       ∙ sym (append_assoc (tokens_of head) front (v.more ++ tokens_of (tail v.tree)));
 }
 
-module _ {A B : Type 0} (p : Form A) (q : Form B) where
+module _ {A B : Type 0} (p : Parser A) (q : Parser B) where
   abbrev pub seq_text : A × B → List Sym
   seq_text t = p.text t.0 ++ q.text t.1
 
   abbrev pub seq_read : List Token → Result ((A × B) × List Token) Fault
   seq_read ts = p.read ts >>= λ a. q.read a.1 >>= λ b. Ok ((a.0, b.0), b.1)
 
-module _ {A B : Type 0} (p : Form A) (q : Form B) (apart : disjoint p.goes q.first ≡ true) where
+module _ {A B : Type 0} (p : Parser A) (q : Parser B) (apart : disjoint p.goes q.first ≡ true) where
   pub seq_begins : (t : A × B) (rest : List Token) → Starts p.first (tokens_of (seq_text p q t) ++ rest)
   seq_begins t rest = subst (Starts p.first) (sym (append_assoc (tokens_of (p.text t.0)) (tokens_of (q.text t.1)) rest)
       ∙ sym (ap (λ (l : List Token). l ++ rest) (tokens_of-append (p.text t.0) (q.text t.1))))
@@ -161,7 +161,7 @@ module _ {A B : Type 0} (p : Form A) (q : Form B) (apart : disjoint p.goes q.fir
         ]
       ]
 
-  abbrev pub seq : Form (A × B)
+  abbrev pub seq : Parser (A × B)
   seq = record {
     text = seq_text p q;
     read = seq_read p q;

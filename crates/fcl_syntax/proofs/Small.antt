@@ -1,4 +1,4 @@
--- One token, a choice, an annotated choice, and a form seen as another type.
+-- One token, a choice, an annotated choice, and a parser seen as another type.
 use Rattle.std.proofs.Common.{◌≡◌, ℕ, Bool, true, false, List, [], ◌∷◌, ◌++◌, length, Option, Some, None, Result, Ok}
 use Rattle.std.proofs.Common.{Err, refl, sym, ap, subst, ◌∙◌, inl, inr, ◌⊎◌}
 use Rattle.std.proofs.lemmas.List.{append-nil}
@@ -7,7 +7,7 @@ use Rattle.fcl_syntax.specs.declared.{fault.Fault.Fault, fault.Kind.Kind, fault.
 use Rattle.fcl_syntax.specs.{TokenClasses.class_of, TokenClasses.mem, First.SameHead}
 use Rattle.fcl_syntax.specs.Annotations.{either_text, IsClean, Sym, tokens_of, plain}
 use Rattle.fcl_syntax.specs.Readers.{cond_read, ◌>>=◌, fault_at, starts, found, one_at}
-use Rattle.fcl_syntax.proofs.Form.{disjoint, Stops, Starts, first_annotation, answer, Stands, Shows, Fails, Form}
+use Rattle.fcl_syntax.proofs.Parser.{disjoint, Stops, Starts, first_annotation, answer, Stands, Shows, Fails, Parser}
 use Rattle.fcl_syntax.proofs.AnnotatedTexts.{bind_ok, ok_is, disjoint-mem}
 use Rattle.fcl_syntax.proofs.Seq.{Shows-in, Viable-in}
 
@@ -83,7 +83,7 @@ module _ {A : Type 0} (c : Single A) where
           here [] s = absurd s
           here (y ∷ b) s = rw (← s.0, w) refl
 
-  abbrev pub one : Form A
+  abbrev pub one : Parser A
   one = record {
     text = one_text;
     read = one_at c.want;
@@ -97,7 +97,7 @@ module _ {A : Type 0} (c : Single A) where
     fails = one_fails;
   }
 
--- ---- a form seen as another type, or as one side of a choice
+-- ---- a parser seen as another type, or as one side of a choice
 
 abbrev pub seen_as : {A B : Type 0} → (A → B) → Result (A × List Token) Fault → Result (B × List Token) Fault
 seen_as to r = r >>= λ a. Ok (to a.0, a.1)
@@ -112,7 +112,7 @@ pub seen_err : {A B : Type 0} (to : A → B) (r : Result (A × List Token) Fault
 seen_err to (Ok x) e h = absurd cc
 seen_err to (Err d) e h = cc
 
-module _ {A B : Type 0} (p : Form A) (to : A → B) (text : B → List Sym)
+module _ {A B : Type 0} (p : Parser A) (to : A → B) (text : B → List Sym)
     (same_text : (a : A) → text (to a) ≡ p.text a) where
   pub seen_stands : (ts : List Token) (t : B) (rest : List Token) → seen_as to (p.read ts) ≡ Ok (t, rest)
       → Stands text p.goes ts t rest
@@ -182,14 +182,14 @@ pub bool_cases : (b : Bool) → (b ≡ true) ⊎ (b ≡ false)
 bool_cases true = inl refl
 bool_cases false = inr refl
 
-module _ {A B : Type 0} (p : Form A) (q : Form B) where
+module _ {A B : Type 0} (p : Parser A) (q : Parser B) where
   abbrev pub alt_text : A ⊎ B → List Sym
   alt_text = either_text p.text q.text
 
   abbrev pub alt_read : List Token → Result ((A ⊎ B) × List Token) Fault
   alt_read ts = choose (starts p.first ts) (p.read ts) (q.read ts)
 
-module _ {A B : Type 0} (p : Form A) (q : Form B) (apart : disjoint p.first q.first ≡ true)
+module _ {A B : Type 0} (p : Parser A) (q : Parser B) (apart : disjoint p.first q.first ≡ true)
     (same_goes : p.goes ≡ q.goes) (first : List ℕ)
     (first_left : (x : Token) → mem (class_of x) p.first ≡ true → mem (class_of x) first ≡ true)
     (first_right : (x : Token) → mem (class_of x) q.first ≡ true → mem (class_of x) first ≡ true) where
@@ -249,7 +249,7 @@ module _ {A B : Type 0} (p : Form A) (q : Form B) (apart : disjoint p.first q.fi
             (subst (λ (b : Bool). choose b (p.read ts) (q.read ts) ≡ Err e) not_so h)))
       ]
 
-  abbrev pub alt : Form (A ⊎ B)
+  abbrev pub alt : Parser (A ⊎ B)
   alt = record {
     text = alt_text p q;
     read = alt_read p q;

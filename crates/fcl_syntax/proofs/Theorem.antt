@@ -21,24 +21,24 @@ use Rattle.fcl_syntax.specs.TextReading.{of_kind, token_fault, grammar_fault, pl
 use Rattle.fcl_syntax.specs.TextReading.{read_text, Reads}
 use Rattle.fcl_syntax.specs.{Parsed.GivesTree, Parsed.GivesFault, Grammar.TBlock, Grammar.block_text, Reading.all_of}
 use Rattle.fcl_syntax.specs.{Readings.FirstFaultsAreOne, Readings.TreesAreOne, View.view}
-use Rattle.fcl_syntax.proofs.{OneTree.one_tree, RuleForms.block_form}
+use Rattle.fcl_syntax.proofs.{OneTree.one_tree, RuleParsers.block_parser}
 use Rattle.fcl_syntax.proofs.Exact.{whole, whole_spells, spells_whole, whole_faults, faults_whole}
 
-pub all_is : (ts : List Token) → all_of ts ≡ whole block_form ts
+pub all_is : (ts : List Token) → all_of ts ≡ whole block_parser ts
 unfolding all_of
 all_is ts = refl
 
 pub all_spells : (ts : List Token) (t : TBlock) → all_of ts ≡ Ok t → Spells block_text ts t
-all_spells ts t h = whole_spells block_form ts t (sym (all_is ts) ∙ h)
+all_spells ts t h = whole_spells block_parser ts t (sym (all_is ts) ∙ h)
 
 pub spells_all : (ts : List Token) (t : TBlock) → Spells block_text ts t → all_of ts ≡ Ok t
-spells_all ts t s = all_is ts ∙ spells_whole block_form ts t s
+spells_all ts t s = all_is ts ∙ spells_whole block_parser ts t s
 
 pub all_faults : (ts : List Token) (e : Fault) → all_of ts ≡ Err e → FirstFault block_text ts e
-all_faults ts e h = whole_faults block_form ts e (sym (all_is ts) ∙ h)
+all_faults ts e h = whole_faults block_parser ts e (sym (all_is ts) ∙ h)
 
 pub faults_all : (ts : List Token) (e : Fault) → FirstFault block_text ts e → all_of ts ≡ Err e
-faults_all ts e f = all_is ts ∙ faults_whole block_form ts e f
+faults_all ts e f = all_is ts ∙ faults_whole block_parser ts e f
 
 -- ---- texts
 

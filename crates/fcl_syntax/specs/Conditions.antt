@@ -1,5 +1,5 @@
 -- What the conditions of the program are in the grammar, and how large they are.
--- Beside the promise.
+-- Reached by the promise.
 use Rattle.std.specs.Prelude.{ℕ, ◌+◌, List, [], ◌∷◌}
 use Rattle.fcl_syntax.specs.declared.tree.Node.{Node}
 use Rattle.fcl_syntax.specs.declared.tree.Node.TheVariants as node

@@ -11,7 +11,7 @@ use crate::tree::{FunctionBlock, Part, Variables};
 use fcl_tokens::{Keyword, Token};
 use std::alloc::Global;
 
-// END_FUNCTION_BLOCK, where OPTION and RULEBLOCK are refused.
+/// END_FUNCTION_BLOCK, where OPTION and RULEBLOCK are refused.
 #[tactic(auto, unfolding(crate::specs::Reading::refusing))]
 fn end(tokens: &mut &[Token]) -> Result<u32, ParseError>
     ensures { Gives (λ x. (inr (inr x), tokens.new.now)) result (end_at tokens.old.now) }
@@ -23,7 +23,7 @@ fn end(tokens: &mut &[Token]) -> Result<u32, ParseError>
     }
 }
 
-#[tactic(auto, unfolding(crate::specs::Reading::block_at), using(crate::proofs::Forms::section_take, crate::proofs::TermForms::part_take))]
+#[tactic(auto, unfolding(crate::specs::Reading::block_at), using(crate::proofs::Parsers::section_take, crate::proofs::TermParsers::part_take))]
 fn block(alloc: Global, tokens: &mut &[Token]) -> Result<FunctionBlock, ParseError>
     ensures { Gives (λ x. (view x, tokens.new.now)) result (block_at tokens.old.now) }
 {

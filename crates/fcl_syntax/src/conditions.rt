@@ -11,7 +11,7 @@ use crate::tree::{And, Node, Not, Operand, Or};
 use fcl_tokens::{Keyword, Token};
 use std::alloc::Global;
 
-// Whether what may follow an operand is next.
+/// Whether what may follow an operand is next.
 fn is_behind_operand(tokens: &[Token]) -> bool
     ensures { result ≡ starts follow_classes tokens.now }
 {
@@ -24,7 +24,7 @@ fn is_behind_operand(tokens: &[Token]) -> bool
     )
 }
 
-// name IS [NOT] name, unless a condition's operand ends behind the first name.
+/// name IS [NOT] name, unless a condition's operand ends behind the first name.
 #[tactic(auto, unfolding(crate::specs::Reading::operand_at, crate::specs::Reading::not_word_at))]
 fn operand(tokens: &mut &[Token]) -> Result<Not, ParseError>
     ensures { Gives (λ x. (x, tokens.new.now)) result (operand_at tokens.old.now) }
@@ -49,14 +49,14 @@ fn operand(tokens: &mut &[Token]) -> Result<Not, ParseError>
     })
 }
 
-// Whether "(" or NOT is next.
+/// Whether "(" or NOT is next.
 fn is_opener(tokens: &[Token]) -> bool
     ensures { result ≡ starts opener_classes tokens.now }
 {
     matches!(tokens, [Token::Word(_, Keyword::Not) | Token::Open(_), ..])
 }
 
-// A part of a condition, where `room` more "(" and NOT may be open.
+/// A part of a condition, where `room` more "(" and NOT may be open.
 #[cycle(condition)]
 fn not(alloc: Global, room: u8, tokens: &mut &[Token]) -> Result<Not, ParseError>
     ensures { Gives (λ x. (x, tokens.new.now)) result (not_at room tokens.old.now) }

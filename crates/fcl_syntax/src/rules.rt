@@ -55,7 +55,7 @@ impl Repeated for Conclusion {
     }
 }
 
-#[tactic(auto, unfolding(crate::specs::Reading::listed_at), using(crate::proofs::RuleForms::conclusions_take))]
+#[tactic(auto, unfolding(crate::specs::Reading::listed_at), using(crate::proofs::RuleParsers::conclusions_take))]
 fn conclusions(
     alloc: Global,
     tokens: &mut &[Token],
@@ -67,7 +67,7 @@ fn conclusions(
     Ok((first, more))
 }
 
-// signed_number ";" behind WITH, where a name is refused
+/// signed_number ";" behind WITH, where a name is refused
 #[tactic(auto, unfolding(crate::specs::Reading::with_from, crate::specs::Reading::refusing))]
 fn with(at: u32, tokens: &mut &[Token]) -> Result<Weight, ParseError>
     ensures { Gives (λ x. (view_with x, tokens.new.now)) result (with_from at tokens.old.now) }
@@ -80,7 +80,7 @@ fn with(at: u32, tokens: &mut &[Token]) -> Result<Weight, ParseError>
     Ok(Weight { at, value })
 }
 
-// [WITH signed_number] ";"
+/// [WITH signed_number] ";"
 #[tactic(auto, unfolding(crate::specs::Reading::either_at, crate::specs::Reading::headed_at, crate::specs::Reading::token_at))]
 fn weight(tokens: &mut &[Token]) -> Result<Option<Weight>, ParseError>
     ensures { Gives (λ x. (view_weight x, tokens.new.now)) result (weight_at tokens.old.now) }
@@ -99,7 +99,7 @@ fn weight(tokens: &mut &[Token]) -> Result<Option<Weight>, ParseError>
 
 // ---- rules
 
-// A rule, behind RULE.
+/// A rule, behind RULE.
 #[tactic(auto, unfolding(crate::specs::Reading::rule_from))]
 fn rule(alloc: Global, at: u32, tokens: &mut &[Token]) -> Result<Rule, ParseError>
     ensures { Gives (λ x. (view_rule x, tokens.new.now)) result (rule_from at tokens.old.now) }
@@ -123,7 +123,7 @@ fn rule(alloc: Global, at: u32, tokens: &mut &[Token]) -> Result<Rule, ParseErro
     })
 }
 
-// One is next where a rule is, or OPTION in its place.
+/// One is next where a rule is, or OPTION in its place.
 impl Repeated for Rule {
     ghost Tree = { TRuleItem };
 
@@ -148,7 +148,7 @@ impl Repeated for Rule {
 
 // ---- the lines before the rules
 
-// MIN | PROD
+/// MIN | PROD
 #[tactic(auto, unfolding(crate::specs::Reading::either_at, crate::specs::Reading::token_at))]
 fn act_word(tokens: &mut &[Token]) -> Result<ActWord, ParseError>
     ensures { Gives (λ x. (view_act_word x, tokens.new.now)) result (act_word_at tokens.old.now) }
@@ -201,7 +201,7 @@ impl Repeated for RuleLine {
     }
 }
 
-#[tactic(auto, unfolding(crate::specs::Reading::rulebase_at), using(crate::proofs::RuleForms::rule_line_take, crate::proofs::RuleForms::rule_item_take))]
+#[tactic(auto, unfolding(crate::specs::Reading::rulebase_at), using(crate::proofs::RuleParsers::rule_line_take, crate::proofs::RuleParsers::rule_item_take))]
 pub fn rulebase(alloc: Global, tokens: &mut &[Token]) -> Result<Rulebase, ParseError>
     ensures { Gives (λ x. (view_rulebase x, tokens.new.now)) result (rulebase_at tokens.old.now) }
 {

@@ -31,7 +31,7 @@ use std::alloc::Global;
 
 // ---- numbers
 
-// The sign of a number.
+/// The sign of a number.
 #[derive(Clone, Copy)]
 enum Sign {
     Plus,
@@ -39,7 +39,7 @@ enum Sign {
     Bare,
 }
 
-// The sign that is next.
+/// The sign that is next.
 #[tactic(auto, unfolding(crate::specs::Reading::sign_at, crate::specs::Reading::token_at))]
 fn next_sign(tokens: &mut &[Token]) -> Sign
     ensures { sign_at tokens.old.now ≡ Ok (result, tokens.new.now) }
@@ -68,7 +68,7 @@ fn signed(sign: Sign, number: Number) -> SignedNumber
     }
 }
 
-#[tactic(auto, unfolding(crate::specs::Reading::signed_at), using(crate::proofs::Forms::behind_sign_alike))]
+#[tactic(auto, unfolding(crate::specs::Reading::signed_at), using(crate::proofs::Parsers::behind_sign_alike))]
 pub fn signed_number(tokens: &mut &[Token]) -> Result<SignedNumber, ParseError>
     ensures { Gives (λ x. (view_signed_number x, tokens.new.now)) result (signed_number_at tokens.old.now) }
 {
@@ -77,8 +77,8 @@ pub fn signed_number(tokens: &mut &[Token]) -> Result<SignedNumber, ParseError>
     Ok(signed(sign, number))
 }
 
-// A number of a point, where a name is refused.
-#[tactic(auto, unfolding(crate::specs::Reading::signed_at, crate::specs::Reading::refusing), using(crate::proofs::Forms::behind_sign_alike))]
+/// A number of a point, where a name is refused.
+#[tactic(auto, unfolding(crate::specs::Reading::signed_at, crate::specs::Reading::refusing), using(crate::proofs::Parsers::behind_sign_alike))]
 fn coordinate(tokens: &mut &[Token]) -> Result<SignedNumber, ParseError>
     ensures { Gives (λ x. (view_coordinate x, tokens.new.now)) result (coordinate_at tokens.old.now) }
 {
@@ -90,7 +90,7 @@ fn coordinate(tokens: &mut &[Token]) -> Result<SignedNumber, ParseError>
     Ok(signed(sign, number))
 }
 
-// 0 or 1, where a name and another number are refused.
+/// 0 or 1, where a name and another number are refused.
 #[tactic(auto, unfolding(crate::specs::Reading::refusing, crate::specs::Reading::token_at))]
 fn zero_or_one(tokens: &mut &[Token]) -> Result<UnitNumber, ParseError>
     ensures { Gives (λ x. (inr (inr x), tokens.new.now)) result (unit_at tokens.old.now) }
@@ -106,7 +106,7 @@ fn zero_or_one(tokens: &mut &[Token]) -> Result<UnitNumber, ParseError>
     Ok(UnitNumber { at, is_one, whole })
 }
 
-// 0 behind a minus sign, where a name and another number are refused.
+/// 0 behind a minus sign, where a name and another number are refused.
 #[tactic(auto, unfolding(crate::specs::Reading::refusing, crate::specs::Reading::token_at))]
 fn zero(tokens: &mut &[Token]) -> Result<ZeroNumber, ParseError>
     ensures { Gives (λ x. (inr (inr x), tokens.new.now)) result (zero_at tokens.old.now) }
@@ -136,7 +136,7 @@ fn degree(tokens: &mut &[Token]) -> Result<Degree, ParseError>
 
 // ---- terms of an input
 
-// A point, behind its "(".
+/// A point, behind its "(".
 #[tactic(auto, unfolding(crate::specs::Reading::point_from))]
 fn point(open_at: u32, tokens: &mut &[Token]) -> Result<Point, ParseError>
     ensures { Gives (λ x. (view_point x, tokens.new.now)) result (point_from open_at tokens.old.now) }
@@ -167,8 +167,8 @@ impl Repeated for Point {
     }
 }
 
-// The points of a term, where a number and a sign are refused.
-#[tactic(auto, unfolding(crate::specs::Reading::refusing, crate::specs::Reading::some_points_at, crate::specs::Reading::headed_at), using(crate::proofs::TermForms::point_take))]
+/// The points of a term, where a number and a sign are refused.
+#[tactic(auto, unfolding(crate::specs::Reading::refusing, crate::specs::Reading::some_points_at, crate::specs::Reading::headed_at), using(crate::proofs::TermParsers::point_take))]
 fn points(alloc: Global, tokens: &mut &[Token]) -> Result<(Point, List<Point>), ParseError>
     ensures { Gives (λ x. (inr (view_point x.0, map view_point x.1), tokens.new.now)) result
         (points_at tokens.old.now) }
@@ -201,7 +201,7 @@ fn term(alloc: Global, tokens: &mut &[Token]) -> Result<Term, ParseError>
 
 // ---- ranges
 
-// [":="] "("
+/// [":="] "("
 #[tactic(auto, unfolding(crate::specs::Reading::opening_at))]
 fn opening(tokens: &mut &[Token]) -> Result<(bool, u32), ParseError>
     ensures { Gives (λ x. (x, tokens.new.now)) result (opening_at tokens.old.now) }
@@ -253,7 +253,7 @@ impl Repeated for FuzzyLine {
     }
 }
 
-#[tactic(auto, unfolding(crate::specs::Reading::fuzzify_at), using(crate::proofs::TermForms::fuzzy_line_take))]
+#[tactic(auto, unfolding(crate::specs::Reading::fuzzify_at), using(crate::proofs::TermParsers::fuzzy_line_take))]
 fn fuzzify(alloc: Global, tokens: &mut &[Token]) -> Result<Fuzzify, ParseError>
     ensures { Gives (λ x. (view_fuzzify x, tokens.new.now)) result (fuzzify_at tokens.old.now) }
 {
@@ -302,7 +302,7 @@ pub fn accu(tokens: &mut &[Token]) -> Result<Setting, ParseError>
 
 // ---- DEFUZZIFY
 
-// A term of an output, where "(" is refused in place of its number.
+/// A term of an output, where "(" is refused in place of its number.
 #[tactic(auto, unfolding(crate::specs::Reading::singleton_at, crate::specs::Reading::refusing))]
 fn singleton(tokens: &mut &[Token]) -> Result<Singleton, ParseError>
     ensures { Gives (λ x. (view_singleton x, tokens.new.now)) result (singleton_at tokens.old.now) }
@@ -318,7 +318,7 @@ fn singleton(tokens: &mut &[Token]) -> Result<Singleton, ParseError>
     Ok(Singleton { at, name, value })
 }
 
-// signed_number | NC
+/// signed_number | NC
 #[tactic(auto, unfolding(crate::specs::Reading::either_at))]
 fn fallback_value(tokens: &mut &[Token]) -> Result<FallbackValue, ParseError>
     ensures { Gives (λ x. (view_value x, tokens.new.now)) result (fallback_value_at tokens.old.now) }
@@ -366,7 +366,7 @@ impl Repeated for DefuzzyLine {
     }
 }
 
-#[tactic(auto, unfolding(crate::specs::Reading::defuzzify_at), using(crate::proofs::TermForms::defuzzy_line_take))]
+#[tactic(auto, unfolding(crate::specs::Reading::defuzzify_at), using(crate::proofs::TermParsers::defuzzy_line_take))]
 fn defuzzify(alloc: Global, tokens: &mut &[Token]) -> Result<Defuzzify, ParseError>
     ensures { Gives (λ x. (view_defuzzify x, tokens.new.now)) result (defuzzify_at tokens.old.now) }
 {
@@ -384,7 +384,7 @@ fn defuzzify(alloc: Global, tokens: &mut &[Token]) -> Result<Defuzzify, ParseErr
 
 // ---- both
 
-// One is next where a part is, or OPTION in its place.
+/// One is next where a part is, or OPTION in its place.
 impl Repeated for Part {
     ghost Tree = { TPart };
 

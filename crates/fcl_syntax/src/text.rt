@@ -62,7 +62,7 @@ fn grammar_fault(kind: Kind, at: u32) -> SyntaxFault
     }
 }
 
-// The place of the token where this many are left, or the end.
+/// The place of the token where this many are left, or the end.
 fn place(places: &[u32], left: usize, end: u32) -> u32
     ensures { result ≡ place_of places.now left end }
 {

@@ -32,7 +32,7 @@ impl Repeated for Name {
     }
 }
 
-// REAL, where another name is refused.
+/// REAL, where another name is refused.
 #[tactic(auto, unfolding(crate::specs::Reading::refusing, crate::specs::Reading::token_at))]
 fn real(tokens: &mut &[Token]) -> Result<u32, ParseError>
     ensures { Gives (λ x. (inr x, tokens.new.now)) result (type_at tokens.old.now) }
@@ -47,8 +47,8 @@ fn real(tokens: &mut &[Token]) -> Result<u32, ParseError>
     }
 }
 
-// A declaration, behind its first name.
-#[tactic(auto, unfolding(crate::specs::Reading::declaration_from), using(crate::proofs::Forms::names_take))]
+/// A declaration, behind its first name.
+#[tactic(auto, unfolding(crate::specs::Reading::declaration_from), using(crate::proofs::Parsers::names_take))]
 fn declaration(alloc: Global, first: Name, tokens: &mut &[Token]) -> Result<Declaration, ParseError>
     ensures { Gives (λ x. (view_declaration x, tokens.new.now)) result (declaration_from first tokens.old.now) }
 {
@@ -79,8 +79,8 @@ impl Repeated for Declaration {
     }
 }
 
-// The declarations, behind their direction.
-#[tactic(auto, unfolding(crate::specs::Reading::variables_from), using(crate::proofs::Forms::declaration_take))]
+/// The declarations, behind their direction.
+#[tactic(auto, unfolding(crate::specs::Reading::variables_from), using(crate::proofs::Parsers::declaration_take))]
 fn variables(
     alloc: Global,
     at: u32,
@@ -99,7 +99,7 @@ fn variables(
     })
 }
 
-// One is next where variables are, or VAR in their place.
+/// One is next where variables are, or VAR in their place.
 impl Repeated for Variables {
     ghost Tree = { TSection };
 

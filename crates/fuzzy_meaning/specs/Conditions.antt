@@ -93,8 +93,8 @@ abbrev mutual
   evaluate_parts minus j v or end = j.none or
   evaluate_parts minus j v or (also c cs) = j.join or (evaluate minus j v c) (evaluate_parts minus j v or cs)
 
--- the same where NOT is pushed to the literals. `odd`: the condition stands under an odd number of NOTs. There an AND is
--- an OR of NOTs, an OR an AND of NOTs, and a literal its complement.
+-- the same where NOT is pushed to the literals. `odd`: the condition stands under an odd number of NOTs. There an AND
+-- is an OR of NOTs, an OR an AND of NOTs, and a literal its complement.
 abbrev mutual
   pub evaluate_pushed : {A : Type 0} → Joins A → (Bool → ℕ → ℕ → A) → Bool → Condition → A
   evaluate_pushed j v odd (is i t) = v odd i t

@@ -1,5 +1,5 @@
 -- What a condition of the code is as a tree.
--- Beside the promise.
+-- Reached by the promise.
 use Rattle.std.specs.Prelude.{◌+◌, ◌≤◌, List, [], ◌∷◌}
 use Rattle.std.proofs.Common.{arith}
 use denote.Param.Weighed.{most}

@@ -2,6 +2,6 @@ use Rattle.fcl_check.proofs.Words.{take}
 use Rattle.fcl_check.proofs.DeclaredNames.{KnowsTerms}
 use Rattle.fcl_check.proofs.names.fuzzy_terms.Given as goal
 
-abbrev pub invariant-each : goal.invariant-each
-invariant-each l =
+abbrev pub invariant-loop-line : goal.invariant-loop-line
+invariant-loop-line l =
     KnowsTerms l.tree.text.items l.tree.block (take l.line-index l.section.lines) l.terms l.has_range

@@ -4,6 +4,6 @@ use Rattle.fcl_check.proofs.names.rule_lines.Goals as goal
 
 pub returns-then-has_rule_line : goal.returns-then-has_rule_line
 returns-then-has_rule_line c =
-    let here = repeated_here same_rule_line rule_line_at c.args.lines.now c.each.index _
-    (take_more c.args.lines.now c.each.index _ c.each-test.true) c.each.invariant (sym c.if-has_rule_line.ensures) in
+    let here = repeated_here same_rule_line rule_line_at c.args.lines.now c.loop-index.index _
+    (take_more c.args.lines.now c.loop-index.index _ c.loop-index-test.true) c.loop-index.invariant (sym c.if-has_rule_line.ensures) in
     λ h. rw (here, c.rule_line_at.ensures) refl

@@ -2,8 +2,8 @@ use Rattle.fcl_check.proofs.Words.{◌≡◌, at_letters, count_of, Direction, f
 use Rattle.fcl_check.proofs.Words.{repeated, same_declared, take, variable_in, ℕ}
 use Rattle.fcl_check.proofs.names.variables.Given as goal
 
-abbrev pub invariant-each : goal.invariant-each
-invariant-each l = record {
+abbrev pub invariant-loop-direction : goal.invariant-loop-direction
+invariant-loop-direction l = record {
   variables : (ls : List ℕ)
       → at_letters l.variables ls ≡ variable_in l.tree.text.items (take l.direction-index l.declared) ls;
   counts : (d : Direction) → count_of d l.counts ≡ length (names_of d (take l.direction-index l.declared));

@@ -1,7 +1,7 @@
 use Rattle.std.proofs.Common.{◌≡◌, Err, rules, sym, ◌∙◌}
 use Rattle.fcl_tokens.specs.declared.token.Keyword.TheVariants as key
 use Rattle.fcl_syntax.specs.{Reading.and_in, Reading.not_at}
-use Rattle.fcl_syntax.proofs.ConditionForms.{conjuncts_take, alternatives_take}
+use Rattle.fcl_syntax.proofs.ConditionParsers.{conjuncts_take, alternatives_take}
 use Rattle.fcl_syntax.proofs.Rooms.{behind_key-shorter, behind_key-goes_on, behind_key-fails}
 use Rattle.fcl_syntax.proofs.Rooms.{not_at-leaf, not_at-deep, not_at-opened}
 use Rattle.fcl_syntax.proofs.conditions.+condition.Goals as goal

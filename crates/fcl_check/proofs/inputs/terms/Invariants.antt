@@ -1,5 +1,0 @@
-use Rattle.fcl_check.proofs.Words.{AllZip, filter_map, IsTermOf, take, term_of}
-use Rattle.fcl_check.proofs.inputs.terms.Given as goal
-
-abbrev pub invariant-each : goal.invariant-each
-invariant-each l = AllZip IsTermOf (filter_map term_of (take l.line-index l.section.lines)) l.terms.items
