@@ -5,10 +5,9 @@ use Rattle.std.specs.Prelude.{Some}
 use Rattle.std.proofs.lemmas.Bool.{cases_lt}
 use Rattle.std.proofs.lemmas.List.{append-nil, length-append}
 use Rattle.std.proofs.lemmas.List.Elements.{All-nil}
-use Rattle.byte_scaling.specs.declared.width.Width.{Width}
-use Rattle.box_tree.specs.declared.{cert.CertKind.CertKind, cert.LeafForm.LeafForm}
+use Rattle.box_tree.specs.declared.{cert.CertFormat.CertFormat, cert.CertKind.CertKind, cert.LeafLine.LeafLine}
 use Rattle.box_tree.specs.declared.cert.CertKind.TheVariants.{Named, Tight}
-use Rattle.box_tree.specs.declared.cert.LeafForm.TheVariants as form
+use Rattle.box_tree.specs.declared.cert.LeafLine.TheVariants as stated
 use Rattle.box_tree.specs.declared.{cert.Node.Node, cert.Cert.Cert, cert.CertFault.CertFault}
 use Rattle.box_tree.specs.declared.cert.Node.TheVariants.{Split, Leaf}
 use Rattle.box_tree.specs.declared.cert.CertFault.TheVariants.{BadLine, Early, Late, TooManyLeaves}
@@ -78,30 +77,30 @@ cuts_searchable Q judge =
         → (i : ℕ) × (i ≤ 8) × ((1 ≤ i) × ((c : ℕ) × (c ≤ 255) × Q i c))
     from (i, c, good, q) = (i, good.few, (good.some, (c, good.byte, q)))
 
-leaves_searchable : (kind : CertKind) (width : ℕ) → IsSearchable LeafForm (IsLeaf kind width)
+leaves_searchable : (kind : CertKind) (width : ℕ) → IsSearchable LeafLine (IsLeaf kind width)
 leaves_searchable Named width Q judge =
-    as_decided to from (lists_searchable IsPair pairs_searchable width (λ pairs. Q (form.Pairs (record { items = pairs })))
-    (λ pairs. judge (form.Pairs (record { items = pairs }))))
+    as_decided to from (lists_searchable IsPair pairs_searchable width (λ pairs. Q (stated.Pairs (record { items = pairs })))
+    (λ pairs. judge (stated.Pairs (record { items = pairs }))))
   where
-    to : (pairs : List (ℕ × ℕ)) × AreSo IsPair width pairs × Q (form.Pairs (record { items = pairs }))
-        → (leaf : LeafForm) × IsLeaf Named width leaf × Q leaf
-    to (pairs, so, q) = (form.Pairs (record { items = pairs }), so, q)
+    to : (pairs : List (ℕ × ℕ)) × AreSo IsPair width pairs × Q (stated.Pairs (record { items = pairs }))
+        → (leaf : LeafLine) × IsLeaf Named width leaf × Q leaf
+    to (pairs, so, q) = (stated.Pairs (record { items = pairs }), so, q)
 
-    from : (leaf : LeafForm) × IsLeaf Named width leaf × Q leaf
-        → (pairs : List (ℕ × ℕ)) × AreSo IsPair width pairs × Q (form.Pairs (record { items = pairs }))
-    from (form.Pairs pairs, good, q) = (pairs.items, good, q)
-    from (form.Tight, good, q) = absurd good
-    from (form.Cells, good, q) = absurd good
-leaves_searchable Tight width Q judge = as_decided to from (either_decided (judge form.Tight) (judge form.Cells))
+    from : (leaf : LeafLine) × IsLeaf Named width leaf × Q leaf
+        → (pairs : List (ℕ × ℕ)) × AreSo IsPair width pairs × Q (stated.Pairs (record { items = pairs }))
+    from (stated.Pairs pairs, good, q) = (pairs.items, good, q)
+    from (stated.Tight, good, q) = absurd good
+    from (stated.Cells, good, q) = absurd good
+leaves_searchable Tight width Q judge = as_decided to from (either_decided (judge stated.Tight) (judge stated.Cells))
   where
-    to : Q form.Tight ⊎ Q form.Cells → (leaf : LeafForm) × IsLeaf Tight width leaf × Q leaf
-    to (inl q) = (form.Tight, tt, q)
-    to (inr q) = (form.Cells, tt, q)
+    to : Q stated.Tight ⊎ Q stated.Cells → (leaf : LeafLine) × IsLeaf Tight width leaf × Q leaf
+    to (inl q) = (stated.Tight, tt, q)
+    to (inr q) = (stated.Cells, tt, q)
 
-    from : (leaf : LeafForm) × IsLeaf Tight width leaf × Q leaf → Q form.Tight ⊎ Q form.Cells
-    from (form.Pairs pairs, good, q) = absurd good
-    from (form.Tight, good, q) = inl q
-    from (form.Cells, good, q) = inr q
+    from : (leaf : LeafLine) × IsLeaf Tight width leaf × Q leaf → Q stated.Tight ⊎ Q stated.Cells
+    from (stated.Pairs pairs, good, q) = absurd good
+    from (stated.Tight, good, q) = inl q
+    from (stated.Cells, good, q) = inr q
 
 nodes_searchable : (kind : CertKind) (width : ℕ) → IsSearchable Node (IsNode kind width)
 nodes_searchable kind width Q judge =
@@ -109,31 +108,31 @@ nodes_searchable kind width Q judge =
     (either_decided (cuts_searchable (λ i c. Q (Split i c)) (λ i c. judge (Split i c)))
     (leaves_searchable kind width (λ leaf. Q (Leaf leaf)) (λ leaf. judge (Leaf leaf))))
   where
-    to : ((i : ℕ) × (c : ℕ) × IsCut i c × Q (Split i c)) ⊎ ((leaf : LeafForm) × IsLeaf kind width leaf × Q (Leaf leaf))
+    to : ((i : ℕ) × (c : ℕ) × IsCut i c × Q (Split i c)) ⊎ ((leaf : LeafLine) × IsLeaf kind width leaf × Q (Leaf leaf))
         → (node : Node) × IsNode kind width node × Q node
     to (inl (i, c, good, q)) = (Split i c, good, q)
     to (inr (leaf, good, q)) = (Leaf leaf, good, q)
 
     from : (node : Node) × IsNode kind width node × Q node
-        → ((i : ℕ) × (c : ℕ) × IsCut i c × Q (Split i c)) ⊎ ((leaf : LeafForm) × IsLeaf kind width leaf × Q (Leaf leaf))
+        → ((i : ℕ) × (c : ℕ) × IsCut i c × Q (Split i c)) ⊎ ((leaf : LeafLine) × IsLeaf kind width leaf × Q (Leaf leaf))
     from (Split i c, good, q) = inl (i, c, good, q)
     from (Leaf leaf, good, q) = inr (leaf, good, q)
 
 -- ---- node by node
 
-module _ (kind : CertKind) (answers : Width) (text : List ℕ) where
+module _ (format : CertFormat) (text : List ℕ) where
   abbrev IsJudged : Type 0
-  IsJudged = ((cert : Cert) × CertText kind answers text cert) ⊎ ((f : CertFault) × HasFault kind answers text f)
+  IsJudged = ((cert : Cert) × CertText format text cert) ⊎ ((f : CertFault) × HasFault format text f)
 
   module _ (claims : List ℕ) where
     abbrev IsNext : List ℕ → Type 0
-    IsNext rest = (node : Node) × IsNode kind (length claims) node × ((behind : List ℕ) × (rest ≡ node_line node ++ behind))
+    IsNext rest = (node : Node) × IsNode format.kind (length claims) node × ((behind : List ℕ) × (rest ≡ node_line node ++ behind))
 
     next_decided : (rest : List ℕ) → Decided (IsNext rest)
-    next_decided rest = nodes_searchable kind (length claims) (λ node. (behind : List ℕ) × (rest ≡ node_line node ++ behind))
+    next_decided rest = nodes_searchable format.kind (length claims) (λ node. (behind : List ℕ) × (rest ≡ node_line node ++ behind))
         (λ node. front_decided rest (node_line node))
 
-    ended : (nodes : List Node) (n : ℕ) → Begins kind answers text claims nodes n [] → IsJudged
+    ended : (nodes : List Node) (n : ℕ) → Begins format text claims nodes n [] → IsJudged
     ended nodes zero begins = inl (
       record { claims = claims; nodes = nodes },
       record {
@@ -143,20 +142,20 @@ module _ (kind : CertKind) (answers : Width) (text : List ℕ) where
           tree = begins.left_open;
           few_leaves = begins.few_leaves;
         };
-        lines = begins.lines ∙ append-nil (lines_of kind answers claims nodes);
+        lines = begins.lines ∙ append-nil (lines_of format claims nodes);
       },
     )
     ended nodes (suc n) begins = inr (Early, left_open claims nodes (suc n) begins (omega arith))
 
     node_is_some : (node : Node) → 0 < length (node_line node)
     node_is_some (Split i c) = omega arith
-    node_is_some (Leaf (form.Pairs pairs)) = omega arith
-    node_is_some (Leaf form.Tight) = omega arith
-    node_is_some (Leaf form.Cells) = omega arith
+    node_is_some (Leaf (stated.Pairs pairs)) = omega arith
+    node_is_some (Leaf stated.Tight) = omega arith
+    node_is_some (Leaf stated.Cells) = omega arith
 
     -- what is left is at most so long
     from_node : (room : ℕ) (nodes : List Node) (n : ℕ) (rest : List ℕ) → length rest ≤ room
-        → Begins kind answers text claims nodes n rest → IsJudged
+        → Begins format text claims nodes n rest → IsJudged
     from_node room nodes n [] short begins = ended nodes n begins
     from_node zero nodes n (c ∷ rest) short begins = absurd (omega (arith, short))
     from_node (suc room) nodes n (c ∷ rest) short begins = elim (next_decided (c ∷ rest)) [
@@ -170,21 +169,21 @@ module _ (kind : CertKind) (answers : Width) (text : List ℕ) where
       where
         Rest : Type 0
         Rest = (nodes : List Node) (n : ℕ) (rest : List ℕ) → length rest ≤ room
-            → Begins kind answers text claims nodes n rest → IsJudged
+            → Begins format text claims nodes n rest → IsJudged
 
-        go_on : Rest → (n m : ℕ) (node : Node) (behind : List ℕ) → Begins kind answers text claims nodes n (c ∷ rest)
-            → IsNode kind (length claims) node → c ∷ rest ≡ node_line node ++ behind
+        go_on : Rest → (n m : ℕ) (node : Node) (behind : List ℕ) → Begins format text claims nodes n (c ∷ rest)
+            → IsNode format.kind (length claims) node → c ∷ rest ≡ node_line node ++ behind
             → open_from n (node ∷ []) ≡ Some m → leaf_count nodes + leaf_count (node ∷ []) ≤ 4096 → IsJudged
         go_on on n m node behind begins good is left few =
             on (nodes ++ node ∷ []) m behind
             (omega (arith, short, ap length is, length-append (node_line node) behind, node_is_some node))
-            (begins_more kind answers text claims nodes n m (c ∷ rest) behind node begins is good left few)
+            (begins_more format text claims nodes n m (c ∷ rest) behind node begins is good left few)
 
-        met : Rest → (n : ℕ) (node : Node) (behind : List ℕ) → Begins kind answers text claims nodes n (c ∷ rest)
-            → IsNode kind (length claims) node → c ∷ rest ≡ node_line node ++ behind → IsJudged
+        met : Rest → (n : ℕ) (node : Node) (behind : List ℕ) → Begins format text claims nodes n (c ∷ rest)
+            → IsNode format.kind (length claims) node → c ∷ rest ≡ node_line node ++ behind → IsJudged
         met on zero node behind begins good is = inr (
           Late (line_behind nodes),
-          late claims nodes node behind (subst (λ (r : List ℕ). Begins kind answers text claims nodes zero r) is begins)
+          late claims nodes node behind (subst (λ (r : List ℕ). Begins format text claims nodes zero r) is begins)
               good,
         )
         met on (suc n) (Split i k) behind begins good is =
@@ -196,7 +195,7 @@ module _ (kind : CertKind) (answers : Width) (text : List ℕ) where
           | inr full ↦ inr (
             TooManyLeaves (line_behind nodes),
             many_leaves claims nodes (suc n) leaf behind
-                (subst (λ (r : List ℕ). Begins kind answers text claims nodes (suc n) r) is begins) good (omega arith)
+                (subst (λ (r : List ℕ). Begins format text claims nodes (suc n) r) is begins) good (omega arith)
                 (omega (arith, full, begins.few_leaves)),
           )
         ]
@@ -208,8 +207,8 @@ module _ (kind : CertKind) (answers : Width) (text : List ℕ) where
   claims_decided rest = claims_searchable (λ claims. (behind : List ℕ) × (rest ≡ claim_line claims ++ behind))
       (λ claims. front_decided rest (claim_line claims))
 
-  from_claims : (rest : List ℕ) → text ≡ version_line kind answers ++ rest → IsJudged
-  from_claims [] is = inr (Early, no_claims (is ∙ append-nil (version_line kind answers)))
+  from_claims : (rest : List ℕ) → text ≡ version_line format ++ rest → IsJudged
+  from_claims [] is = inr (Early, no_claims (is ∙ append-nil (version_line format)))
   from_claims (c ∷ rest) is = elim (claims_decided (c ∷ rest)) [
     | inr none ↦ inr (
       BadLine 2,
@@ -218,19 +217,19 @@ module _ (kind : CertKind) (answers : Width) (text : List ℕ) where
     )
     | inl (claims, good, (behind, line)) ↦
         from_node claims (length behind) [] 1 behind (omega arith) (record {
-          lines = is ∙ ap (λ (t : List ℕ). version_line kind answers ++ t) line ∙ first_lines claims behind;
+          lines = is ∙ ap (λ (t : List ℕ). version_line format ++ t) line ∙ first_lines claims behind;
           good_claims = good;
-          good_nodes = All-nil (IsNode kind (length claims));
+          good_nodes = All-nil (IsNode format.kind (length claims));
           left_open = refl;
           few_leaves = omega arith;
         })
   ]
     where
       first_lines : (claims behind : List ℕ)
-          → version_line kind answers ++ (claim_line claims ++ behind) ≡ lines_of kind answers claims [] ++ behind
-      first_lines claims behind = sym (lines_behind kind answers claims [] behind)
+          → version_line format ++ (claim_line claims ++ behind) ≡ lines_of format claims [] ++ behind
+      first_lines claims behind = sym (lines_behind format claims [] behind)
 
-  from_version : (found : Decided ((rest : List ℕ) × (text ≡ version_line kind answers ++ rest))) → IsJudged
+  from_version : (found : Decided ((rest : List ℕ) × (text ≡ version_line format ++ rest))) → IsJudged
   from_version (inl found) = from_claims found.0 found.1
   from_version (inr none) = empty_or_bad text refl
     where
@@ -242,4 +241,4 @@ module _ (kind : CertKind) (answers : Width) (text : List ℕ) where
       )
 
 pub each_text_judged : EachTextIsJudged
-each_text_judged kind answers text = from_version kind answers text (front_decided text (version_line kind answers))
+each_text_judged format text = from_version format text (front_decided text (version_line format))

@@ -4,9 +4,9 @@ use Rattle.std.proofs.Common.{arith, append_assoc}
 use Rattle.std.specs.Prelude.{codes}
 use Rattle.std.proofs.lemmas.List.{append_cancel_left}
 use Rattle.std.proofs.lemmas.List.Elements.{All-cons, All-nil, All-head, All-tail}
-use Rattle.box_tree.specs.declared.{cert.CertKind.CertKind, cert.LeafForm.LeafForm}
+use Rattle.box_tree.specs.declared.{cert.CertKind.CertKind, cert.LeafLine.LeafLine}
 use Rattle.box_tree.specs.declared.cert.CertKind.TheVariants.{Named, Tight}
-use Rattle.box_tree.specs.declared.cert.LeafForm.TheVariants as form
+use Rattle.box_tree.specs.declared.cert.LeafLine.TheVariants as stated
 use Rattle.box_tree.specs.declared.{cert.Node.Node, cert.Node.TheVariants.Split, cert.Node.TheVariants.Leaf}
 use Rattle.box_tree.specs.Certificates.{IsCut, IsLeaf, IsNode, IsPair}
 use Rattle.box_tree.specs.Texts.{line, numbers, leaf_line, node_line, pair_numbers}
@@ -64,12 +64,12 @@ abbrev pub NoLine : List ℕ → List ℕ → Type 0
 NoLine word text = (ns behind : List ℕ) → length ns ≤ 8 → AreSmall ns → text ≢ line word ns ++ behind
 
 -- a leaf's line begins with another letter than that of a cut
-pub leaf_is_no_cut : (leaf : LeafForm) (ns x y : List ℕ) → line (codes "split") ns ++ x ≡ leaf_line leaf ++ y → ⊥
-leaf_is_no_cut (form.Pairs pairs) ns x y same =
+pub leaf_is_no_cut : (leaf : LeafLine) (ns x y : List ℕ) → line (codes "split") ns ++ x ≡ leaf_line leaf ++ y → ⊥
+leaf_is_no_cut (stated.Pairs pairs) ns x y same =
     let first_letters : 115 ≡ 108 = ap (λ (t : List ℕ). get_or t 0 0) same in omega (arith, first_letters)
-leaf_is_no_cut form.Tight ns x y same =
+leaf_is_no_cut stated.Tight ns x y same =
     let first_letters : 115 ≡ 108 = ap (λ (t : List ℕ). get_or t 0 0) same in omega (arith, first_letters)
-leaf_is_no_cut form.Cells ns x y same =
+leaf_is_no_cut stated.Cells ns x y same =
     let first_letters : 115 ≡ 99 = ap (λ (t : List ℕ). get_or t 0 0) same in omega (arith, first_letters)
 
 pub no_cut : (kind : CertKind) (text ns behind : List ℕ) (width : ℕ) → text ≡ line (codes "split") ns ++ behind
@@ -83,7 +83,7 @@ no_cut kind text ns behind width found small none (Leaf leaf) other is same =
     leaf_is_no_cut leaf ns behind other (sym found ∙ same)
 
 pub no_node : (kind : CertKind) (text : List ℕ) (width : ℕ) → NoLine (codes "split") text
-    → ((leaf : LeafForm) (behind : List ℕ) → IsLeaf kind width leaf → text ≢ leaf_line leaf ++ behind)
+    → ((leaf : LeafLine) (behind : List ℕ) → IsLeaf kind width leaf → text ≢ leaf_line leaf ++ behind)
     → (node : Node) (other : List ℕ) → IsNode kind width node → text ≢ node_line node ++ other
 no_node kind text width no_split no_leaf (Split input cut) other is same =
     no_split (input ∷ cut ∷ []) other (omega arith) (cut_is_small input cut is) same
@@ -91,25 +91,25 @@ no_node kind text width no_split no_leaf (Leaf leaf) other is same = no_leaf lea
 
 pub no_pairs : (text ns behind : List ℕ) (width : ℕ) → text ≡ line (codes "leaf") ns ++ behind → AreSmall ns
     → ((pairs : List (ℕ × ℕ)) → length pairs ≡ width → All IsPair pairs → ns ≢ pair_numbers pairs)
-    → (leaf : LeafForm) (other : List ℕ) → IsLeaf Named width leaf → text ≢ leaf_line leaf ++ other
-no_pairs text ns behind width found small none (form.Pairs pairs) other is same =
+    → (leaf : LeafLine) (other : List ℕ) → IsLeaf Named width leaf → text ≢ leaf_line leaf ++ other
+no_pairs text ns behind width found small none (stated.Pairs pairs) other is same =
     none pairs.items is.0 is.1
     ((line_is_one (codes "leaf") ns (pair_numbers pairs.items) behind other small (pairs_are_small pairs.items is.1)
     (sym found ∙ same)).0)
-no_pairs text ns behind width found small none form.Tight other is same = is
-no_pairs text ns behind width found small none form.Cells other is same = is
+no_pairs text ns behind width found small none stated.Tight other is same = is
+no_pairs text ns behind width found small none stated.Cells other is same = is
 
 pub no_named_leaf : (text : List ℕ) (width : ℕ) → width ≤ 4 → NoLine (codes "leaf") text
-    → (leaf : LeafForm) (other : List ℕ) → IsLeaf Named width leaf → text ≢ leaf_line leaf ++ other
-no_named_leaf text width few none (form.Pairs pairs) other is same =
+    → (leaf : LeafLine) (other : List ℕ) → IsLeaf Named width leaf → text ≢ leaf_line leaf ++ other
+no_named_leaf text width few none (stated.Pairs pairs) other is same =
     none (pair_numbers pairs.items) other (omega (arith, length-pair_numbers pairs.items, is.0))
     (pairs_are_small pairs.items is.1) same
-no_named_leaf text width few none form.Tight other is same = is
-no_named_leaf text width few none form.Cells other is same = is
+no_named_leaf text width few none stated.Tight other is same = is
+no_named_leaf text width few none stated.Cells other is same = is
 
 pub no_tight_leaf : (text : List ℕ) (width : ℕ) → ((rest : List ℕ) → text ≢ codes "leaf\n" ++ rest)
     → ((rest : List ℕ) → text ≢ codes "cells\n" ++ rest)
-    → (leaf : LeafForm) (other : List ℕ) → IsLeaf Tight width leaf → text ≢ leaf_line leaf ++ other
-no_tight_leaf text width no_leaf no_cells (form.Pairs pairs) other is same = is
-no_tight_leaf text width no_leaf no_cells form.Tight other is same = no_leaf other same
-no_tight_leaf text width no_leaf no_cells form.Cells other is same = no_cells other same
+    → (leaf : LeafLine) (other : List ℕ) → IsLeaf Tight width leaf → text ≢ leaf_line leaf ++ other
+no_tight_leaf text width no_leaf no_cells (stated.Pairs pairs) other is same = is
+no_tight_leaf text width no_leaf no_cells stated.Tight other is same = no_leaf other same
+no_tight_leaf text width no_leaf no_cells stated.Cells other is same = no_cells other same

@@ -3,8 +3,7 @@ use Rattle.std.proofs.Common.{◌≡◌, ◌≢◌, ◌<◌, ◌+◌, ◌≤◌,
 use Rattle.std.proofs.Common.{Option, Some, None, refl, sym, ◌∙◌, ap, subst, arith, append_assoc}
 use Rattle.std.proofs.lemmas.List.{append_cancel_left, append-nil}
 use Rattle.std.proofs.lemmas.List.Elements.{All-head, All-tail}
-use Rattle.byte_scaling.specs.declared.width.Width.{Width}
-use Rattle.box_tree.specs.declared.{cert.CertKind.CertKind, cert.LeafForm.LeafForm}
+use Rattle.box_tree.specs.declared.{cert.CertFormat.CertFormat, cert.CertKind.CertKind, cert.LeafLine.LeafLine}
 use Rattle.box_tree.specs.declared.{cert.Node.Node, cert.Node.TheVariants.Leaf, cert.Cert.Cert}
 use Rattle.box_tree.specs.declared.cert.CertFault.{CertFault}
 use Rattle.box_tree.specs.declared.cert.CertFault.TheVariants.{BadLine, Early, Late, TooManyLeaves}
@@ -24,7 +23,7 @@ data Stops (kind : CertKind) (width : ℕ) (nodes : List Node) (n : ℕ) (rest :
   early : rest ≡ [] → 0 < n → Stops kind width nodes n rest (Some Early)
   past : (node : Node) (behind : List ℕ) → n ≡ 0 → rest ≡ node_line node ++ behind → IsNode kind width node
       → Stops kind width nodes n rest (Some (Late (line_behind nodes)))
-  full : (leaf : LeafForm) (behind : List ℕ) → 0 < n → rest ≡ node_line (Leaf leaf) ++ behind
+  full : (leaf : LeafLine) (behind : List ℕ) → 0 < n → rest ≡ node_line (Leaf leaf) ++ behind
       → IsNode kind width (Leaf leaf)
       → leaf_count nodes ≡ 4096 → Stops kind width nodes n rest (Some (TooManyLeaves (line_behind nodes)))
 
@@ -104,27 +103,27 @@ compared kind width (n ∷ ns) (m ∷ ms) r s ns_good ms_good same =
     both e (inr (inr g)) = inr (inr (behind m n ms ns s r (sym e) g))
 
 -- what an answer about a text's nodes rests on
-record StopsAt (kind : CertKind) (answers : Width) (text : List ℕ) (answer : Option CertFault) : Type 0 where
+record StopsAt (format : CertFormat) (text : List ℕ) (answer : Option CertFault) : Type 0 where
   claims : List ℕ
   nodes : List Node
   n : ℕ
   rest : List ℕ
-  begins : Begins kind answers text claims nodes n rest
-  stops : Stops kind (length claims) nodes n rest answer
+  begins : Begins format text claims nodes n rest
+  stops : Stops format.kind (length claims) nodes n rest answer
 
-no_more : (kind : CertKind) (answers : Width) (text claims : List ℕ) (ns ms : List Node)
+no_more : (format : CertFormat) (text claims : List ℕ) (ns ms : List Node)
     (n m : ℕ) (r s : List ℕ) (answer : Option CertFault)
-    → Begins kind answers text claims ns n r → Begins kind answers text claims ms m s
-    → Stops kind (length claims) ns n r answer
+    → Begins format text claims ns n r → Begins format text claims ms m s
+    → Stops format.kind (length claims) ns n r answer
     → GoesOn ns ms r s → ⊥
-no_more kind answers text claims ns ms n m r s answer first second stop on = by answer stop
+no_more format text claims ns ms n m r s answer first second stop on = by answer stop
   where
     behind : List ℕ
     behind = node_lines on.more ++ s
 
-    good : IsNode kind (length claims) on.node
-    good = at_seam (IsNode kind (length claims)) ns on.node on.more
-        (subst (All (IsNode kind (length claims))) on.nodes_are second.good_nodes)
+    good : IsNode format.kind (length claims) on.node
+    good = at_seam (IsNode format.kind (length claims)) ns on.node on.more
+        (subst (All (IsNode format.kind (length claims))) on.nodes_are second.good_nodes)
 
     opens : open_from n (on.node ∷ on.more) ≡ Some m
     opens = sym (open_from-append 1 n ns (on.node ∷ on.more) first.left_open)
@@ -137,162 +136,162 @@ no_more kind answers text claims ns ms n m r s answer first second stop on = by 
     leaves : leaf_count ns + leaf_count (on.node ∷ on.more) ≤ 4096
     leaves = omega (arith, leaf_count-append ns (on.node ∷ on.more), ap leaf_count on.nodes_are, second.few_leaves)
 
-    too_many : (leaf : LeafForm) → on.node ≡ Leaf leaf → leaf_count ns ≡ 4096 → ⊥
+    too_many : (leaf : LeafLine) → on.node ≡ Leaf leaf → leaf_count ns ≡ 4096 → ⊥
     too_many leaf e l = omega (arith, leaves, l, ap (λ (k : Node). leaf_count (k ∷ on.more)) e)
 
-    by : (reason : Option CertFault) → Stops kind (length claims) ns n r reason → ⊥
+    by : (reason : Option CertFault) → Stops format.kind (length claims) ns n r reason → ⊥
     by _ (whole e z) = line_is_not_nothing on.node behind r e on.rest_is
     by _ (bad h) = h.1 on.node behind good on.rest_is
     by _ (early e z) = line_is_not_nothing on.node behind r e on.rest_is
     by _ (past k c z e g) = closed n on.node on.more z opens
     by _ (full p c z e g l) =
         too_many p
-        ((one_node kind (length claims) (length claims) on.node (Leaf p) behind c good g (sym on.rest_is ∙ e)).0) l
+        ((one_node format.kind (length claims) (length claims) on.node (Leaf p) behind c good g (sym on.rest_is ∙ e)).0) l
 
-stops_are_one : (kind : CertKind) (answers : Width) (text : List ℕ) (a b : Option CertFault)
-    → StopsAt kind answers text a
-    → StopsAt kind answers text b → a ≡ b
-stops_are_one kind answers text a b p q =
-    let front = append_cancel_left (version_line kind answers) (claim_line p.claims ++ (node_lines p.nodes ++ p.rest))
+stops_are_one : (format : CertFormat) (text : List ℕ) (a b : Option CertFault)
+    → StopsAt format text a
+    → StopsAt format text b → a ≡ b
+stops_are_one format text a b p q =
+    let front = append_cancel_left (version_line format) (claim_line p.claims ++ (node_lines p.nodes ++ p.rest))
     (claim_line q.claims ++ (node_lines q.nodes ++ q.rest))
-    (sym (p.begins.lines ∙ lines_behind kind answers p.claims p.nodes p.rest)
-    ∙ (q.begins.lines ∙ lines_behind kind answers q.claims q.nodes q.rest)) in
+    (sym (p.begins.lines ∙ lines_behind format p.claims p.nodes p.rest)
+    ∙ (q.begins.lines ∙ lines_behind format q.claims q.nodes q.rest)) in
     let claims = one_claim_line p.claims q.claims (node_lines p.nodes ++ p.rest)
     (node_lines q.nodes ++ q.rest) p.begins.good_claims q.begins.good_claims front in
-    let begins = subst (λ (cs : List ℕ). Begins kind answers text cs q.nodes q.n q.rest) (sym claims.0) q.begins in
-    let stops = subst (λ (cs : List ℕ). Stops kind (length cs) q.nodes q.n q.rest b) (sym claims.0) q.stops in
+    let begins = subst (λ (cs : List ℕ). Begins format text cs q.nodes q.n q.rest) (sym claims.0) q.begins in
+    let stops = subst (λ (cs : List ℕ). Stops format.kind (length cs) q.nodes q.n q.rest b) (sym claims.0) q.stops in
     by p.claims p.nodes q.nodes p.n q.n p.rest q.rest p.begins begins p.stops stops
-    (compared kind (length p.claims) p.nodes q.nodes p.rest q.rest p.begins.good_nodes begins.good_nodes claims.1)
+    (compared format.kind (length p.claims) p.nodes q.nodes p.rest q.rest p.begins.good_nodes begins.good_nodes claims.1)
   where
-    same : (claims : List ℕ) (ns ms : List Node) (n m : ℕ) (r s : List ℕ) → Begins kind answers text claims ns n r
-        → Begins kind answers text claims ms m s → ns ≡ ms → n ≡ m
+    same : (claims : List ℕ) (ns ms : List Node) (n m : ℕ) (r s : List ℕ) → Begins format text claims ns n r
+        → Begins format text claims ms m s → ns ≡ ms → n ≡ m
     same claims ns ms n m r s first second e =
         let opens : Some n ≡ Some m = sym first.left_open ∙ ap (λ (l : List Node). open_from 1 l) e
         ∙ second.left_open in
         cc
 
-    by : (claims : List ℕ) (ns ms : List Node) (n m : ℕ) (r s : List ℕ) → Begins kind answers text claims ns n r
-        → Begins kind answers text claims ms m s → Stops kind (length claims) ns n r a
-        → Stops kind (length claims) ms m s b
+    by : (claims : List ℕ) (ns ms : List Node) (n m : ℕ) (r s : List ℕ) → Begins format text claims ns n r
+        → Begins format text claims ms m s → Stops format.kind (length claims) ns n r a
+        → Stops format.kind (length claims) ms m s b
         → ((ns ≡ ms) × (r ≡ s)) ⊎ (GoesOn ns ms r s ⊎ GoesOn ms ns s r) → a ≡ b
     by claims ns ms n m r s first second one other (inl (e, f)) =
         let opens = same claims ns ms n m r s first second e in
-        one_stop kind (length claims) ms m s a b
-        (subst (λ (l : List Node). Stops kind (length claims) l m s a) e
-        (subst (λ (k : ℕ). Stops kind (length claims) ns k s a) opens
-        (subst (λ (t : List ℕ). Stops kind (length claims) ns n t a) f one))) other
+        one_stop format.kind (length claims) ms m s a b
+        (subst (λ (l : List Node). Stops format.kind (length claims) l m s a) e
+        (subst (λ (k : ℕ). Stops format.kind (length claims) ns k s a) opens
+        (subst (λ (t : List ℕ). Stops format.kind (length claims) ns n t a) f one))) other
     by claims ns ms n m r s first second one other (inr (inl on)) =
-        absurd (no_more kind answers text claims ns ms n m r s a first second one on)
+        absurd (no_more format text claims ns ms n m r s a first second one on)
     by claims ns ms n m r s first second one other (inr (inr on)) =
-        absurd (no_more kind answers text claims ms ns m n s r b second first other on)
+        absurd (no_more format text claims ms ns m n s r b second first other on)
 
 -- ---- the first two lines too
 
-data Ends (kind : CertKind) (answers : Width) (text : List ℕ) : Option CertFault → Type 0 where
-  other_version : text ≢ [] → ((rest : List ℕ) → text ≢ version_line kind answers ++ rest)
-      → Ends kind answers text (Some (BadLine 1))
-  nothing : text ≡ [] → Ends kind answers text (Some Early)
-  other_claims : (rest : List ℕ) → text ≡ version_line kind answers ++ rest → HasNoClaims rest
-      → Ends kind answers text (Some (BadLine 2))
-  just_version : text ≡ version_line kind answers → Ends kind answers text (Some Early)
-  in_nodes : (answer : Option CertFault) → StopsAt kind answers text answer → Ends kind answers text answer
+data Ends (format : CertFormat) (text : List ℕ) : Option CertFault → Type 0 where
+  other_version : text ≢ [] → ((rest : List ℕ) → text ≢ version_line format ++ rest)
+      → Ends format text (Some (BadLine 1))
+  nothing : text ≡ [] → Ends format text (Some Early)
+  other_claims : (rest : List ℕ) → text ≡ version_line format ++ rest → HasNoClaims rest
+      → Ends format text (Some (BadLine 2))
+  just_version : text ≡ version_line format → Ends format text (Some Early)
+  in_nodes : (answer : Option CertFault) → StopsAt format text answer → Ends format text answer
 
-version_is_some : (kind : CertKind) (answers : Width) (rest : List ℕ) → [] ≡ version_line kind answers ++ rest → ⊥
-version_is_some kind answers rest same = cc
+version_is_some : (format : CertFormat) (rest : List ℕ) → [] ≡ version_line format ++ rest → ⊥
+version_is_some format rest same = cc
 
 claims_are_some : (claims rest : List ℕ) → [] ≡ claim_line claims ++ rest → ⊥
 claims_are_some claims rest same = cc
 
-no_rest : (kind : CertKind) (answers : Width) (text : List ℕ) → text ≡ version_line kind answers
-    → text ≡ version_line kind answers ++ []
-no_rest kind answers text same = same ∙ sym (append-nil (version_line kind answers))
+no_rest : (format : CertFormat) (text : List ℕ) → text ≡ version_line format
+    → text ≡ version_line format ++ []
+no_rest format text same = same ∙ sym (append-nil (version_line format))
 
-nodes_front : (kind : CertKind) (answers : Width) (text : List ℕ) (answer : Option CertFault)
-    (p : StopsAt kind answers text answer)
-    → text ≡ version_line kind answers ++ (claim_line p.claims ++ (node_lines p.nodes ++ p.rest))
-nodes_front kind answers text answer p = p.begins.lines ∙ lines_behind kind answers p.claims p.nodes p.rest
+nodes_front : (format : CertFormat) (text : List ℕ) (answer : Option CertFault)
+    (p : StopsAt format text answer)
+    → text ≡ version_line format ++ (claim_line p.claims ++ (node_lines p.nodes ++ p.rest))
+nodes_front format text answer p = p.begins.lines ∙ lines_behind format p.claims p.nodes p.rest
 
-nodes_apart_nothing : (kind : CertKind) (answers : Width) (text : List ℕ) (answer : Option CertFault)
-    → StopsAt kind answers text answer
+nodes_apart_nothing : (format : CertFormat) (text : List ℕ) (answer : Option CertFault)
+    → StopsAt format text answer
     → text ≡ [] → ⊥
-nodes_apart_nothing kind answers text answer p none =
-    version_is_some kind answers (claim_line p.claims ++ (node_lines p.nodes ++ p.rest))
-    (sym none ∙ nodes_front kind answers text answer p)
+nodes_apart_nothing format text answer p none =
+    version_is_some format (claim_line p.claims ++ (node_lines p.nodes ++ p.rest))
+    (sym none ∙ nodes_front format text answer p)
 
-nodes_apart_claims : (kind : CertKind) (answers : Width) (text : List ℕ) (answer : Option CertFault)
+nodes_apart_claims : (format : CertFormat) (text : List ℕ) (answer : Option CertFault)
     (rest : List ℕ)
-    → StopsAt kind answers text answer → text ≡ version_line kind answers ++ rest → HasNoClaims rest → ⊥
-nodes_apart_claims kind answers text answer rest p is none =
+    → StopsAt format text answer → text ≡ version_line format ++ rest → HasNoClaims rest → ⊥
+nodes_apart_claims format text answer rest p is none =
     none.1 p.claims (node_lines p.nodes ++ p.rest) p.begins.good_claims
-    (append_cancel_left (version_line kind answers) rest (claim_line p.claims ++ (node_lines p.nodes ++ p.rest))
-    (sym is ∙ nodes_front kind answers text answer p))
+    (append_cancel_left (version_line format) rest (claim_line p.claims ++ (node_lines p.nodes ++ p.rest))
+    (sym is ∙ nodes_front format text answer p))
 
-nodes_apart_version : (kind : CertKind) (answers : Width) (text : List ℕ) (answer : Option CertFault)
-    → StopsAt kind answers text answer
-    → text ≡ version_line kind answers → ⊥
-nodes_apart_version kind answers text answer p is =
+nodes_apart_version : (format : CertFormat) (text : List ℕ) (answer : Option CertFault)
+    → StopsAt format text answer
+    → text ≡ version_line format → ⊥
+nodes_apart_version format text answer p is =
     claims_are_some p.claims (node_lines p.nodes ++ p.rest)
-    (append_cancel_left (version_line kind answers) [] (claim_line p.claims ++ (node_lines p.nodes ++ p.rest))
-    (sym (no_rest kind answers text is) ∙ nodes_front kind answers text answer p))
+    (append_cancel_left (version_line format) [] (claim_line p.claims ++ (node_lines p.nodes ++ p.rest))
+    (sym (no_rest format text is) ∙ nodes_front format text answer p))
 
-claims_apart_version : (kind : CertKind) (answers : Width) (text rest : List ℕ)
-    → text ≡ version_line kind answers ++ rest → HasNoClaims rest
-    → text ≡ version_line kind answers → ⊥
-claims_apart_version kind answers text rest is none just =
-    none.0 (append_cancel_left (version_line kind answers) rest [] (sym is ∙ no_rest kind answers text just))
+claims_apart_version : (format : CertFormat) (text rest : List ℕ)
+    → text ≡ version_line format ++ rest → HasNoClaims rest
+    → text ≡ version_line format → ⊥
+claims_apart_version format text rest is none just =
+    none.0 (append_cancel_left (version_line format) rest [] (sym is ∙ no_rest format text just))
 
-ends_are_one : (kind : CertKind) (answers : Width) (text : List ℕ) (a b : Option CertFault)
-    → Ends kind answers text a
-    → Ends kind answers text b → a ≡ b
-ends_are_one kind answers text _ _ (other_version r s) (other_version u w) = refl
-ends_are_one kind answers text _ _ (other_version r s) (nothing u) = absurd (r u)
-ends_are_one kind answers text _ _ (other_version r s) (other_claims t u w) = absurd (s t u)
-ends_are_one kind answers text _ _ (other_version r s) (just_version u) = absurd (s [] (no_rest kind answers text u))
-ends_are_one kind answers text _ _ (other_version r s) (in_nodes b q) =
-    absurd (s (claim_line q.claims ++ (node_lines q.nodes ++ q.rest)) (nodes_front kind answers text b q))
-ends_are_one kind answers text _ _ (nothing r) (other_version u w) = absurd (u r)
-ends_are_one kind answers text _ _ (nothing r) (nothing u) = refl
-ends_are_one kind answers text _ _ (nothing r) (other_claims t u w) =
-    absurd (version_is_some kind answers t (sym r ∙ u))
-ends_are_one kind answers text _ _ (nothing r) (just_version u) = refl
-ends_are_one kind answers text _ _ (nothing r) (in_nodes b q) = absurd (nodes_apart_nothing kind answers text b q r)
-ends_are_one kind answers text _ _ (other_claims l r s) (other_version u w) = absurd (w l r)
-ends_are_one kind answers text _ _ (other_claims l r s) (nothing u) =
-    absurd (version_is_some kind answers l (sym u ∙ r))
-ends_are_one kind answers text _ _ (other_claims l r s) (other_claims t u w) = refl
-ends_are_one kind answers text _ _ (other_claims l r s) (just_version u) =
-    absurd (claims_apart_version kind answers text l r s u)
-ends_are_one kind answers text _ _ (other_claims l r s) (in_nodes b q) =
-    absurd (nodes_apart_claims kind answers text b l q r s)
-ends_are_one kind answers text _ _ (just_version r) (other_version u w) = absurd (w [] (no_rest kind answers text r))
-ends_are_one kind answers text _ _ (just_version r) (nothing u) = refl
-ends_are_one kind answers text _ _ (just_version r) (other_claims t u w) =
-    absurd (claims_apart_version kind answers text t u w r)
-ends_are_one kind answers text _ _ (just_version r) (just_version u) = refl
-ends_are_one kind answers text _ _ (just_version r) (in_nodes b q) =
-    absurd (nodes_apart_version kind answers text b q r)
-ends_are_one kind answers text _ _ (in_nodes a p) (other_version u w) =
-    absurd (w (claim_line p.claims ++ (node_lines p.nodes ++ p.rest)) (nodes_front kind answers text a p))
-ends_are_one kind answers text _ _ (in_nodes a p) (nothing u) = absurd (nodes_apart_nothing kind answers text a p u)
-ends_are_one kind answers text _ _ (in_nodes a p) (other_claims t u w) =
-    absurd (nodes_apart_claims kind answers text a t p u w)
-ends_are_one kind answers text _ _ (in_nodes a p) (just_version u) =
-    absurd (nodes_apart_version kind answers text a p u)
-ends_are_one kind answers text _ _ (in_nodes a p) (in_nodes b q) = stops_are_one kind answers text a b p q
+ends_are_one : (format : CertFormat) (text : List ℕ) (a b : Option CertFault)
+    → Ends format text a
+    → Ends format text b → a ≡ b
+ends_are_one format text _ _ (other_version r s) (other_version u w) = refl
+ends_are_one format text _ _ (other_version r s) (nothing u) = absurd (r u)
+ends_are_one format text _ _ (other_version r s) (other_claims t u w) = absurd (s t u)
+ends_are_one format text _ _ (other_version r s) (just_version u) = absurd (s [] (no_rest format text u))
+ends_are_one format text _ _ (other_version r s) (in_nodes b q) =
+    absurd (s (claim_line q.claims ++ (node_lines q.nodes ++ q.rest)) (nodes_front format text b q))
+ends_are_one format text _ _ (nothing r) (other_version u w) = absurd (u r)
+ends_are_one format text _ _ (nothing r) (nothing u) = refl
+ends_are_one format text _ _ (nothing r) (other_claims t u w) =
+    absurd (version_is_some format t (sym r ∙ u))
+ends_are_one format text _ _ (nothing r) (just_version u) = refl
+ends_are_one format text _ _ (nothing r) (in_nodes b q) = absurd (nodes_apart_nothing format text b q r)
+ends_are_one format text _ _ (other_claims l r s) (other_version u w) = absurd (w l r)
+ends_are_one format text _ _ (other_claims l r s) (nothing u) =
+    absurd (version_is_some format l (sym u ∙ r))
+ends_are_one format text _ _ (other_claims l r s) (other_claims t u w) = refl
+ends_are_one format text _ _ (other_claims l r s) (just_version u) =
+    absurd (claims_apart_version format text l r s u)
+ends_are_one format text _ _ (other_claims l r s) (in_nodes b q) =
+    absurd (nodes_apart_claims format text b l q r s)
+ends_are_one format text _ _ (just_version r) (other_version u w) = absurd (w [] (no_rest format text r))
+ends_are_one format text _ _ (just_version r) (nothing u) = refl
+ends_are_one format text _ _ (just_version r) (other_claims t u w) =
+    absurd (claims_apart_version format text t u w r)
+ends_are_one format text _ _ (just_version r) (just_version u) = refl
+ends_are_one format text _ _ (just_version r) (in_nodes b q) =
+    absurd (nodes_apart_version format text b q r)
+ends_are_one format text _ _ (in_nodes a p) (other_version u w) =
+    absurd (w (claim_line p.claims ++ (node_lines p.nodes ++ p.rest)) (nodes_front format text a p))
+ends_are_one format text _ _ (in_nodes a p) (nothing u) = absurd (nodes_apart_nothing format text a p u)
+ends_are_one format text _ _ (in_nodes a p) (other_claims t u w) =
+    absurd (nodes_apart_claims format text a t p u w)
+ends_are_one format text _ _ (in_nodes a p) (just_version u) =
+    absurd (nodes_apart_version format text a p u)
+ends_are_one format text _ _ (in_nodes a p) (in_nodes b q) = stops_are_one format text a b p q
 
-fault_ends : (kind : CertKind) (answers : Width) (text : List ℕ) (f : CertFault) → HasFault kind answers text f
-    → Ends kind answers text (Some f)
-fault_ends kind answers text _ (bad_version some none) = other_version some none
-fault_ends kind answers text _ (no_version none) = nothing none
-fault_ends kind answers text _ (bad_claims rest is none) = other_claims rest is none
-fault_ends kind answers text _ (no_claims is) = just_version is
-fault_ends kind answers text _ (bad_node claims nodes n rest begins none) =
+fault_ends : (format : CertFormat) (text : List ℕ) (f : CertFault) → HasFault format text f
+    → Ends format text (Some f)
+fault_ends format text _ (bad_version some none) = other_version some none
+fault_ends format text _ (no_version none) = nothing none
+fault_ends format text _ (bad_claims rest is none) = other_claims rest is none
+fault_ends format text _ (no_claims is) = just_version is
+fault_ends format text _ (bad_node claims nodes n rest begins none) =
     in_nodes (Some (BadLine (line_behind nodes)))
     (record { claims = claims; nodes = nodes; n = n; rest = rest; begins = begins; stops = bad none })
-fault_ends kind answers text _ (left_open claims nodes n begins some) =
+fault_ends format text _ (left_open claims nodes n begins some) =
     in_nodes (Some Early)
     (record { claims = claims; nodes = nodes; n = n; rest = []; begins = begins; stops = early refl some })
-fault_ends kind answers text _ (late claims nodes node behind begins good) =
+fault_ends format text _ (late claims nodes node behind begins good) =
     in_nodes (Some (Late (line_behind nodes)))
     (record {
       claims = claims;
@@ -303,7 +302,7 @@ fault_ends kind answers text _ (late claims nodes node behind begins good) =
       stops =
           past node behind refl refl good;
     })
-fault_ends kind answers text _ (many_leaves claims nodes n leaf behind begins good some all) =
+fault_ends format text _ (many_leaves claims nodes n leaf behind begins good some all) =
     in_nodes (Some (TooManyLeaves (line_behind nodes)))
     (record {
       claims = claims;
@@ -315,9 +314,9 @@ fault_ends kind answers text _ (many_leaves claims nodes n leaf behind begins go
           full leaf behind some refl good all;
     })
 
-cert_ends : (kind : CertKind) (answers : Width) (text : List ℕ) (cert : Cert) → CertText kind answers text cert
-    → Ends kind answers text None
-cert_ends kind answers text cert spelled = in_nodes None (record {
+cert_ends : (format : CertFormat) (text : List ℕ) (cert : Cert) → CertText format text cert
+    → Ends format text None
+cert_ends format text cert spelled = in_nodes None (record {
   claims = cert.claims;
   nodes = cert.nodes;
   n = 0;
@@ -333,13 +332,13 @@ cert_ends kind answers text cert spelled = in_nodes None (record {
 })
 
 pub faults_are_one : FaultsAreOne
-faults_are_one kind answers text f g first second =
-    let same : Some f ≡ Some g = ends_are_one kind answers text (Some f) (Some g)
-    (fault_ends kind answers text f first) (fault_ends kind answers text g second) in
+faults_are_one format text f g first second =
+    let same : Some f ≡ Some g = ends_are_one format text (Some f) (Some g)
+    (fault_ends format text f first) (fault_ends format text g second) in
     cc
 
 pub cert_texts_have_no_fault : CertTextsHaveNoFault
-cert_texts_have_no_fault kind answers text cert f spelled fault =
-    let same : None ≡ Some f = ends_are_one kind answers text None (Some f)
-    (cert_ends kind answers text cert spelled) (fault_ends kind answers text f fault) in
+cert_texts_have_no_fault format text cert f spelled fault =
+    let same : None ≡ Some f = ends_are_one format text None (Some f)
+    (cert_ends format text cert spelled) (fault_ends format text f fault) in
     cc

@@ -4,8 +4,7 @@ use Rattle.std.proofs.Common.{append_assoc, Some, None, take, get_or, add-one}
 use Rattle.std.proofs.Math.Seq.{take-suc}
 use Rattle.std.proofs.lemmas.List.{append-nil}
 use Rattle.std.proofs.lemmas.List.Elements.{All-append, All-cons, All-nil}
-use Rattle.byte_scaling.specs.declared.width.Width.{Width}
-use Rattle.box_tree.specs.declared.{cert.CertKind.CertKind, cert.LeafForm.LeafForm}
+use Rattle.box_tree.specs.declared.{cert.CertFormat.CertFormat, cert.LeafLine.LeafLine}
 use Rattle.box_tree.specs.declared.{cert.Node.Node, cert.Node.TheVariants.Split, cert.Node.TheVariants.Leaf}
 use Rattle.box_tree.specs.Texts.{claim_line, lines_of, node_line, node_lines, version_line}
 use Rattle.box_tree.specs.{Trees.open_from, Trees.leaf_count, Certificates.Begins, Certificates.IsNode}
@@ -21,7 +20,7 @@ pub open_split : (n i c : ℕ) → 0 < n → open_from n (Split i c ∷ []) ≡ 
 open_split zero i c some = absurd (omega arith)
 open_split (suc n) i c some = let e : suc (suc n) ≡ suc n + 1 = omega arith in ap (λ (k : ℕ). Some k) e
 
-pub open_leaf : (n : ℕ) (leaf : LeafForm) → 0 < n → open_from n (Leaf leaf ∷ []) ≡ Some (n - 1)
+pub open_leaf : (n : ℕ) (leaf : LeafLine) → 0 < n → open_from n (Leaf leaf ∷ []) ≡ Some (n - 1)
 open_leaf zero leaf some = absurd (omega arith)
 open_leaf (suc n) leaf some = let e : n ≡ suc n - 1 = omega arith in ap (λ (k : ℕ). Some k) e
 
@@ -51,35 +50,35 @@ node_lines_more nodes i node text text' before lt is so_far added =
     ∙ ap node_lines (ap (λ (n : Node). take i nodes ++ n ∷ []) is ∙ sym (take-suc nodes i node lt)
     ∙ ap (λ (k : ℕ). take k nodes) (sym (add-one i))))
 
-pub lines_behind : (kind : CertKind) (answers : Width) (claims : List ℕ) (nodes : List Node) (rest : List ℕ)
-    → lines_of kind answers claims nodes ++ rest
-    ≡ version_line kind answers ++ (claim_line claims ++ (node_lines nodes ++ rest))
-lines_behind kind answers claims nodes rest =
-    append_assoc (version_line kind answers) (claim_line claims ++ node_lines nodes) rest
-    ∙ ap (λ (t : List ℕ). version_line kind answers ++ t) (append_assoc (claim_line claims) (node_lines nodes) rest)
+pub lines_behind : (format : CertFormat) (claims : List ℕ) (nodes : List Node) (rest : List ℕ)
+    → lines_of format claims nodes ++ rest
+    ≡ version_line format ++ (claim_line claims ++ (node_lines nodes ++ rest))
+lines_behind format claims nodes rest =
+    append_assoc (version_line format) (claim_line claims ++ node_lines nodes) rest
+    ∙ ap (λ (t : List ℕ). version_line format ++ t) (append_assoc (claim_line claims) (node_lines nodes) rest)
 
-pub lines_of-snoc : (kind : CertKind) (answers : Width) (claims : List ℕ) (nodes : List Node)
+pub lines_of-snoc : (format : CertFormat) (claims : List ℕ) (nodes : List Node)
     (node : Node) (rest : List ℕ)
-    → lines_of kind answers claims (nodes ++ node ∷ []) ++ rest
-    ≡ lines_of kind answers claims nodes ++ (node_line node ++ rest)
-lines_of-snoc kind answers claims nodes node rest =
-    lines_behind kind answers claims (nodes ++ node ∷ []) rest
-    ∙ ap (λ (t : List ℕ). version_line kind answers ++ (claim_line claims ++ t)) (node_lines-snoc nodes node rest)
-    ∙ sym (lines_behind kind answers claims nodes (node_line node ++ rest))
+    → lines_of format claims (nodes ++ node ∷ []) ++ rest
+    ≡ lines_of format claims nodes ++ (node_line node ++ rest)
+lines_of-snoc format claims nodes node rest =
+    lines_behind format claims (nodes ++ node ∷ []) rest
+    ∙ ap (λ (t : List ℕ). version_line format ++ (claim_line claims ++ t)) (node_lines-snoc nodes node rest)
+    ∙ sym (lines_behind format claims nodes (node_line node ++ rest))
 
 -- the nodes that a text begins with, and one more
-pub begins_more : (kind : CertKind) (answers : Width) (text claims : List ℕ) (nodes : List Node)
+pub begins_more : (format : CertFormat) (text claims : List ℕ) (nodes : List Node)
     (n m : ℕ) (rest behind : List ℕ)
-    (node : Node) → Begins kind answers text claims nodes n rest → rest ≡ node_line node ++ behind
-    → IsNode kind (length claims) node
+    (node : Node) → Begins format text claims nodes n rest → rest ≡ node_line node ++ behind
+    → IsNode format.kind (length claims) node
     → open_from n (node ∷ []) ≡ Some m → leaf_count nodes + leaf_count (node ∷ []) ≤ 4096
-    → Begins kind answers text claims (nodes ++ node ∷ []) m behind
-begins_more kind answers text claims nodes n m rest behind node begins line good left few = record {
-  lines = begins.lines ∙ ap (λ (t : List ℕ). lines_of kind answers claims nodes ++ t) line
-      ∙ sym (lines_of-snoc kind answers claims nodes node behind);
+    → Begins format text claims (nodes ++ node ∷ []) m behind
+begins_more format text claims nodes n m rest behind node begins line good left few = record {
+  lines = begins.lines ∙ ap (λ (t : List ℕ). lines_of format claims nodes ++ t) line
+      ∙ sym (lines_of-snoc format claims nodes node behind);
   good_claims = begins.good_claims;
-  good_nodes = All-append (IsNode kind (length claims)) nodes (node ∷ []) begins.good_nodes
-      (All-cons (IsNode kind (length claims)) node [] good (All-nil (IsNode kind (length claims))));
+  good_nodes = All-append (IsNode format.kind (length claims)) nodes (node ∷ []) begins.good_nodes
+      (All-cons (IsNode format.kind (length claims)) node [] good (All-nil (IsNode format.kind (length claims))));
   left_open = open_from-append 1 n nodes (node ∷ []) begins.left_open ∙ left;
   few_leaves = omega (arith, leaf_count-append nodes (node ∷ []), few);
 }

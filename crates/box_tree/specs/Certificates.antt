@@ -1,10 +1,9 @@
 -- Which text has which certificate, and the first fault of a text that has none.
 -- Beside the promise.
 use Rattle.std.specs.Prelude.{◌≡◌, ◌≢◌, ◌↔◌, ℕ, ◌+◌, ◌<◌, ◌≤◌, List, [], ◌++◌, length, All, Some}
-use Rattle.byte_scaling.specs.declared.width.Width.{Width}
-use Rattle.box_tree.specs.declared.{cert.CertKind.CertKind, cert.LeafForm.LeafForm}
+use Rattle.box_tree.specs.declared.{cert.CertFormat.CertFormat, cert.CertKind.CertKind, cert.LeafLine.LeafLine}
 use Rattle.box_tree.specs.declared.cert.CertKind.TheVariants.{Named, Tight}
-use Rattle.box_tree.specs.declared.cert.LeafForm.TheVariants as form
+use Rattle.box_tree.specs.declared.cert.LeafLine.TheVariants as stated
 use Rattle.box_tree.specs.declared.{cert.Node.Node, cert.Cert.Cert, cert.CertFault.CertFault}
 use Rattle.box_tree.specs.declared.cert.Node.TheVariants.{Split, Leaf}
 use Rattle.box_tree.specs.declared.cert.CertFault.TheVariants.{BadLine, Early, Late, TooManyLeaves}
@@ -30,10 +29,10 @@ pub record IsCut (input cut : ℕ) : Type 0 where
   pub byte : cut ≤ 255
 
 -- a leaf of a certificate of this kind with this many claims
-abbrev pub IsLeaf : CertKind → ℕ → LeafForm → Type 0
-IsLeaf Named width (form.Pairs pairs) = (length pairs.items ≡ width) × All IsPair pairs.items
-IsLeaf Tight width form.Tight = Unit {0}
-IsLeaf Tight width form.Cells = Unit {0}
+abbrev pub IsLeaf : CertKind → ℕ → LeafLine → Type 0
+IsLeaf Named width (stated.Pairs pairs) = (length pairs.items ≡ width) × All IsPair pairs.items
+IsLeaf Tight width stated.Tight = Unit {0}
+IsLeaf Tight width stated.Cells = Unit {0}
 IsLeaf kind width leaf = ⊥
 
 -- and a node
@@ -47,17 +46,17 @@ pub record IsCert (kind : CertKind) (cert : Cert) : Type 0 where
   pub tree : IsTree cert.nodes
   pub few_leaves : leaf_count cert.nodes ≤ 4096
 
--- the text is that of the certificate, which is of this kind and for answers of this width
-pub record CertText (kind : CertKind) (answers : Width) (text : List ℕ) (cert : Cert) : Type 0 where
-  pub good : IsCert kind cert
-  pub lines : text ≡ lines_of kind answers cert.claims cert.nodes
+-- the text is that of the certificate, in this format
+pub record CertText (format : CertFormat) (text : List ℕ) (cert : Cert) : Type 0 where
+  pub good : IsCert format.kind cert
+  pub lines : text ≡ lines_of format cert.claims cert.nodes
 
 -- the text begins with whole lines of claims and nodes, of which none is at fault, and leaves this many boxes open
-pub record Begins (kind : CertKind) (answers : Width) (text claims : List ℕ) (nodes : List Node) (open_boxes : ℕ)
+pub record Begins (format : CertFormat) (text claims : List ℕ) (nodes : List Node) (open_boxes : ℕ)
     (rest : List ℕ) : Type 0 where
-  pub lines : text ≡ lines_of kind answers claims nodes ++ rest
+  pub lines : text ≡ lines_of format claims nodes ++ rest
   pub good_claims : AreClaims claims
-  pub good_nodes : All (IsNode kind (length claims)) nodes
+  pub good_nodes : All (IsNode format.kind (length claims)) nodes
   pub left_open : open_behind nodes ≡ Some open_boxes
   pub few_leaves : leaf_count nodes ≤ 4096
 
@@ -73,23 +72,23 @@ HasNoNode kind width rest =
 abbrev pub line_behind : List Node → ℕ
 line_behind nodes = length nodes + 3
 
--- the first fault of a text that is to have a certificate of this kind, for answers of this width
-pub data HasFault (kind : CertKind) (answers : Width) (text : List ℕ) : CertFault → Type 0 where
-  bad_version : text ≢ [] → ((rest : List ℕ) → text ≢ version_line kind answers ++ rest)
-      → HasFault kind answers text (BadLine 1)
-  no_version : text ≡ [] → HasFault kind answers text Early
-  bad_claims : (rest : List ℕ) → text ≡ version_line kind answers ++ rest → HasNoClaims rest
-      → HasFault kind answers text (BadLine 2)
-  no_claims : text ≡ version_line kind answers → HasFault kind answers text Early
+-- the first fault of a text that is to have a certificate of this format
+pub data HasFault (format : CertFormat) (text : List ℕ) : CertFault → Type 0 where
+  bad_version : text ≢ [] → ((rest : List ℕ) → text ≢ version_line format ++ rest)
+      → HasFault format text (BadLine 1)
+  no_version : text ≡ [] → HasFault format text Early
+  bad_claims : (rest : List ℕ) → text ≡ version_line format ++ rest → HasNoClaims rest
+      → HasFault format text (BadLine 2)
+  no_claims : text ≡ version_line format → HasFault format text Early
   bad_node : (claims : List ℕ) (nodes : List Node) (n : ℕ) (rest : List ℕ)
-      → Begins kind answers text claims nodes n rest → HasNoNode kind (length claims) rest
-      → HasFault kind answers text (BadLine (line_behind nodes))
-  left_open : (claims : List ℕ) (nodes : List Node) (n : ℕ) → Begins kind answers text claims nodes n [] → 0 < n
-      → HasFault kind answers text Early
+      → Begins format text claims nodes n rest → HasNoNode format.kind (length claims) rest
+      → HasFault format text (BadLine (line_behind nodes))
+  left_open : (claims : List ℕ) (nodes : List Node) (n : ℕ) → Begins format text claims nodes n [] → 0 < n
+      → HasFault format text Early
   late : (claims : List ℕ) (nodes : List Node) (node : Node) (behind : List ℕ)
-      → Begins kind answers text claims nodes 0 (node_line node ++ behind) → IsNode kind (length claims) node
-      → HasFault kind answers text (Late (line_behind nodes))
-  many_leaves : (claims : List ℕ) (nodes : List Node) (n : ℕ) (leaf : LeafForm) (behind : List ℕ)
-      → Begins kind answers text claims nodes n (node_line (Leaf leaf) ++ behind)
-      → IsNode kind (length claims) (Leaf leaf) → 0 < n → leaf_count nodes ≡ 4096
-      → HasFault kind answers text (TooManyLeaves (line_behind nodes))
+      → Begins format text claims nodes 0 (node_line node ++ behind) → IsNode format.kind (length claims) node
+      → HasFault format text (Late (line_behind nodes))
+  many_leaves : (claims : List ℕ) (nodes : List Node) (n : ℕ) (leaf : LeafLine) (behind : List ℕ)
+      → Begins format text claims nodes n (node_line (Leaf leaf) ++ behind)
+      → IsNode format.kind (length claims) (Leaf leaf) → 0 < n → leaf_count nodes ≡ 4096
+      → HasFault format text (TooManyLeaves (line_behind nodes))

@@ -1,8 +1,7 @@
 -- A reader of lines, and how far it has come.
 -- Beside the promise.
 use Rattle.std.specs.Prelude.{◌≡◌, ℕ, ◌+◌, ◌<◌, List, [], ◌∷◌, ◌++◌, length, Some, None}
-use Rattle.byte_scaling.specs.declared.width.Width.{Width}
-use Rattle.box_tree.specs.declared.{cert.CertKind.CertKind, cert.Node.Node}
+use Rattle.box_tree.specs.declared.{cert.CertFormat.CertFormat, cert.Node.Node}
 use Rattle.box_tree.specs.declared.{cert.Cert.Cert, cert.CertFault.CertFault, lines.Lines.Lines}
 use Rattle.box_tree.specs.{Trees.leaf_count, Certificates.Begins, Certificates.IsNode, Texts.node_line}
 
@@ -19,10 +18,9 @@ abbrev pub cert_of : Lines → List Node → Cert
 cert_of lines nodes = record { claims = claims_of lines; nodes = nodes }
 
 -- the reader has read these nodes of the text, and has met no fault
-pub record HasRead (kind : CertKind) (answers : Width) (text : List ℕ) (nodes : List Node) (lines : Lines)
-    : Type 0 where
-  pub kind_is : lines.kind ≡ kind
-  pub begins : Begins kind answers text (claims_of lines) nodes lines.open_boxes lines.rest.now
+pub record HasRead (format : CertFormat) (text : List ℕ) (nodes : List Node) (lines : Lines) : Type 0 where
+  pub kind_is : lines.kind ≡ format.kind
+  pub begins : Begins format text (claims_of lines) nodes lines.open_boxes lines.rest.now
   pub count : lines.read ≡ length nodes + 2
   pub leaves : lines.leaves ≡ leaf_count nodes
   pub no_fault : lines.fault ≡ None

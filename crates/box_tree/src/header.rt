@@ -2,36 +2,23 @@
 ghost use Rattle.std.specs.Prelude.{◌≡◌, ◌≢◌, ◌≤◌, ◌<◌, ◌↔◌, ℕ, List, [], ◌∷◌, ◌++◌, length, MatchOption, IfSome};
 ghost use Rattle.std.specs.Prelude.{IsTrue};
 ghost use Rattle.box_tree.specs.Certificates.{AreClaims};
-ghost use Rattle.box_tree.specs.Texts.{version_line, claim_line, version_of as the_version_of};
+ghost use Rattle.box_tree.specs.Texts.{version_line, claim_line};
 
-use crate::cert::CertKind;
+use crate::cert::CertFormat;
 use crate::text::numbers_of;
 use arrayvec::ArrayVec;
-use byte_scaling::Width;
 
 /// The most claims of a certificate.
 const MOST_CLAIMS: usize = 4;
 
-/// The version of the texts of certificates of this kind, for answers of this width.
-pub(crate) fn version_of(kind: CertKind, answers: Width) -> u32
-    ensures { result ≡ the_version_of kind answers }
-{
-    match (kind, answers) {
-        (CertKind::Named, Width::Byte) => 1,
-        (CertKind::Named, Width::Word) => 2,
-        (CertKind::Tight, Width::Byte) => 3,
-        (CertKind::Tight, Width::Word) => 4,
-    }
-}
-
 /// What follows the line of the version at the front of a text.
-pub(crate) fn behind_version(text: &[u8], kind: CertKind, answers: Width) -> Option<&[u8]>
+pub(crate) fn behind_version(format: CertFormat, text: &[u8]) -> Option<&[u8]>
     ensures shorter { IfSome result (λ rest. length rest.now < length text.now) }
-    ensures line { MatchOption result ((rest : List ℕ) → text.now ≢ version_line kind answers ++ rest)
-        (λ rest. text.now ≡ version_line kind answers ++ rest.now) }
+    ensures line { MatchOption result ((rest : List ℕ) → text.now ≢ version_line format ++ rest)
+        (λ rest. text.now ≡ version_line format ++ rest.now) }
 {
     let (numbers, rest) = numbers_of(b"FZC", text)?;
-    if is_just(numbers.as_slice(), version_of(kind, answers)) {
+    if is_just(numbers.as_slice(), format.version()) {
         Some(rest)
     } else {
         None

@@ -2,7 +2,7 @@
 ghost use Rattle.box_tree.specs.Laws.{CertsAreOne, CertTextsHaveNoFault, EachTextIsJudged, FaultsAreOne};
 ghost use Rattle.box_tree.specs.Laws.{OpenBoxesGoOn};
 
-/// A text has at most one certificate, of one kind and for answers of one width.
+/// A text has at most one certificate, of one format.
 pub fn certs_are_one()
     ensures { CertsAreOne }
 {}

@@ -1,7 +1,7 @@
 //! Certificates as text: a claim for each output, and a tree of boxes in prefix order.
 //!
-//! A [`Cert`] holds the claims and the nodes of the tree. Its leaves name rules, or are tight: a [`CertKind`]
-//! states which, and a [`Width`] which answers it is for. [`read`] returns exactly the certificate that a text
+//! A [`Cert`] holds the claims and the nodes of the tree. Its leaves name rules, or are tight: a [`CertFormat`]
+//! states which, and which answers it is for. [`read`] returns exactly the certificate that a text
 //! spells, or exactly its first fault; [`write`] returns the text, and what is written reads back as the same
 //! certificate. [`Lines`] reads a text node by node without allocating memory: a caller knows at each node which
 //! nodes the text begins with, at the end that they are its certificate, and at a fault that it is the text's
@@ -17,7 +17,7 @@ mod reader;
 mod text;
 mod writer;
 
-pub use cert::{Cert, CertFault, CertKind, LeafForm, Node};
+pub use cert::{Cert, CertFault, CertFormat, CertKind, LeafLine, Node};
 pub use lines::Lines;
 pub use reader::{read, read_for, read16};
 pub use writer::{write, write_for, write16};

@@ -1,15 +1,13 @@
 //! A certificate's text, node by node.
 ghost use Rattle.std.specs.Prelude.{◌≡◌, ◌≤◌, ◌<◌, ◌+◌, ℕ, List, [], ◌∷◌, ◌++◌, length, MatchOption, IfSome, IfOk};
 ghost use Rattle.std.specs.Prelude.{IfErr, Err};
-ghost use Rattle.box_tree.specs.declared.{cert.CertKind.CertKind as TheKind, cert.Node.Node as TheNode};
+ghost use Rattle.box_tree.specs.declared.{cert.CertFormat.CertFormat as TheFormat, cert.Node.Node as TheNode};
 ghost use Rattle.box_tree.specs.declared.cert.CertFault.{CertFault as TheFault};
-ghost use Rattle.byte_scaling.specs.declared.width.Width.{Width as TheWidth};
 
-use crate::cert::{CertFault, CertKind, Node};
+use crate::cert::{CertFault, CertFormat, CertKind, Node};
 use crate::header::{behind_version, claims_at, copy_of};
 use crate::nodes::node_at;
 use arrayvec::ArrayVec;
-use byte_scaling::Width;
 
 /// The most leaves of a certificate, of all kinds together.
 const MOST_LEAVES: u32 = 4096;
@@ -40,31 +38,31 @@ impl<'a> Lines<'a> {
     /// The reader of a text of version 1, after its claims.
     pub fn new(text: &'a [u8]) -> Result<Lines<'a>, CertFault>
         requires { length text.now ≤ 1048576 }
-        ensures begun { IfOk result (HasRead CertKind.Named Width.Byte text.now []) }
-        ensures fault { IfErr result (HasFault CertKind.Named Width.Byte text.now) }
+        ensures begun { IfOk result (HasRead CertFormat.NAMED text.now []) }
+        ensures fault { IfErr result (HasFault CertFormat.NAMED text.now) }
     {
-        Lines::of(text, CertKind::Named, Width::Byte)
+        Lines::of(CertFormat::NAMED, text)
     }
 
     /// The reader of a text of version 2, which is that of a certificate for answers of 16 bits.
     pub fn new16(text: &'a [u8]) -> Result<Lines<'a>, CertFault>
         requires { length text.now ≤ 1048576 }
-        ensures begun { IfOk result (HasRead CertKind.Named Width.Word text.now []) }
-        ensures fault { IfErr result (HasFault CertKind.Named Width.Word text.now) }
+        ensures begun { IfOk result (HasRead CertFormat.NAMED16 text.now []) }
+        ensures fault { IfErr result (HasFault CertFormat.NAMED16 text.now) }
     {
-        Lines::of(text, CertKind::Named, Width::Word)
+        Lines::of(CertFormat::NAMED16, text)
     }
 
-    /// The reader of a text that must have a certificate of this kind, for answers of this width.
-    pub fn of(text: &'a [u8], kind: CertKind, answers: Width) -> Result<Lines<'a>, CertFault>
+    /// The reader of a text that must have a certificate of this format.
+    pub fn of(format: CertFormat, text: &'a [u8]) -> Result<Lines<'a>, CertFault>
         requires { length text.now ≤ 1048576 }
-        ensures begun { IfOk result (HasRead kind answers text.now []) }
-        ensures fault { IfErr result (HasFault kind answers text.now) }
+        ensures begun { IfOk result (HasRead format text.now []) }
+        ensures fault { IfErr result (HasFault format text.now) }
     {
         if text.is_empty() {
             return Err(CertFault::Early);
         }
-        let claim_text = match behind_version(text, kind, answers) {
+        let claim_text = match behind_version(format, text) {
             Some(rest) => rest,
             None => return Err(CertFault::BadLine(1)),
         };
@@ -73,7 +71,7 @@ impl<'a> Lines<'a> {
         }
         match claims_at(claim_text) {
             Some((claims, rest)) => Ok(Lines {
-                kind,
+                kind: format.kind,
                 rest,
                 claims,
                 read: 2,
@@ -97,14 +95,14 @@ impl<'a> Lines<'a> {
     pub fn next(&mut self) -> Result<Option<Node>, CertFault>
         ensures less { IfOk result (λ next. IfSome next (λ _. unread_len self.new < unread_len self.old)) }
         ensures claims { claims_of self.new ≡ claims_of self.old }
-        ensures node { (k : TheKind) (v : TheWidth) (text : List ℕ) (nodes : List TheNode)
-            → HasRead k v text nodes self.old
+        ensures node { (f : TheFormat) (text : List ℕ) (nodes : List TheNode)
+            → HasRead f text nodes self.old
             → IfOk result
-            (λ next. MatchOption next (CertText k v text (cert_of self.old nodes) × (self.new ≡ self.old))
-            (λ node. HasRead k v text (nodes ++ node ∷ []) self.new)) }
-        ensures fault { (k : TheKind) (v : TheWidth) (text : List ℕ) (nodes : List TheNode)
-            → HasRead k v text nodes self.old
-            → IfErr result (λ fault. HasFault k v text fault × HasFailed fault self.new) }
+            (λ next. MatchOption next (CertText f text (cert_of self.old nodes) × (self.new ≡ self.old))
+            (λ node. HasRead f text (nodes ++ node ∷ []) self.new)) }
+        ensures fault { (f : TheFormat) (text : List ℕ) (nodes : List TheNode)
+            → HasRead f text nodes self.old
+            → IfErr result (λ fault. HasFault f text fault × HasFailed fault self.new) }
         ensures again { (fault : TheFault) → HasFailed fault self.old → (result ≡ Err fault) × (self.new ≡ self.old) }
     {
         if let Some(fault) = self.fault {
@@ -135,9 +133,9 @@ impl<'a> Lines<'a> {
     fn node_here(&self) -> Result<Option<(Node, &'a [u8])>, CertFault>
         ensures node { IfOk result (λ next. MatchOption next ((self.now.rest.now ≡ []) × (self.now.open_boxes ≡ 0))
             (λ r. StandsBefore r.0 r.1.now self.now)) }
-        ensures fault { (k : TheKind) (v : TheWidth) (text : List ℕ) (nodes : List TheNode)
-            → HasRead k v text nodes self.now
-            → IfErr result (HasFault k v text) }
+        ensures fault { (f : TheFormat) (text : List ℕ) (nodes : List TheNode)
+            → HasRead f text nodes self.now
+            → IfErr result (HasFault f text) }
     {
         if self.rest.is_empty() {
             return if self.open_boxes == 0 {

@@ -1,11 +1,11 @@
 //! The node of a line.
 ghost use Rattle.std.specs.Prelude.{◌≡◌, ◌≢◌, ◌↔◌, ◌≤◌, ◌<◌, ℕ, List, [], ◌∷◌, ◌++◌, length, MatchOption, IfSome, All};
 ghost use Rattle.std.specs.Prelude.{IsTrue};
-ghost use Rattle.box_tree.specs.declared.{cert.LeafForm.LeafForm as TheForm, cert.Node.Node as TheNode};
+ghost use Rattle.box_tree.specs.declared.{cert.LeafLine.LeafLine as TheForm, cert.Node.Node as TheNode};
 ghost use Rattle.box_tree.specs.Certificates.{IsCut, IsLeaf, IsNode, IsPair};
 ghost use Rattle.box_tree.specs.Texts.{leaf_line, node_line, pair_numbers};
 
-use crate::cert::{CertKind, LeafForm, Node};
+use crate::cert::{CertKind, LeafLine, Node};
 use crate::text::{after, numbers_of};
 use arrayvec::ArrayVec;
 
@@ -52,7 +52,7 @@ fn pairs_of(numbers: &[u32], width: usize) -> Option<ArrayVec<(u16, u8), 4>>
 }
 
 /// The leaf on the line at the front of a text, and what follows it, in a certificate that names rules.
-fn named_leaf_at(text: &[u8], width: usize) -> Option<(LeafForm, &[u8])>
+fn named_leaf_at(text: &[u8], width: usize) -> Option<(LeafLine, &[u8])>
     requires { width ≤ 4 }
     ensures { MatchOption result ((leaf : TheForm) (behind : List ℕ) → IsLeaf CertKind.Named width leaf
         → text.now ≢ leaf_line leaf ++ behind)
@@ -60,24 +60,24 @@ fn named_leaf_at(text: &[u8], width: usize) -> Option<(LeafForm, &[u8])>
 {
     let (numbers, behind) = numbers_of(b"leaf", text)?;
     let pairs = pairs_of(numbers.as_slice(), width)?;
-    Some((LeafForm::Pairs(pairs), behind))
+    Some((LeafLine::Pairs(pairs), behind))
 }
 
 /// The same in one that names none.
-fn tight_leaf_at(text: &[u8]) -> Option<(LeafForm, &[u8])>
+fn tight_leaf_at(text: &[u8]) -> Option<(LeafLine, &[u8])>
     ensures { (width : ℕ) → MatchOption result ((leaf : TheForm) (behind : List ℕ) → IsLeaf CertKind.Tight width leaf
         → text.now ≢ leaf_line leaf ++ behind)
         (λ r. IsLeaf CertKind.Tight width r.0 × (text.now ≡ leaf_line r.0 ++ r.1.now)) }
 {
     if let Some(behind) = after(b"leaf\n", text) {
-        return Some((LeafForm::Tight, behind));
+        return Some((LeafLine::Tight, behind));
     }
     let behind = after(b"cells\n", text)?;
-    Some((LeafForm::Cells, behind))
+    Some((LeafLine::Cells, behind))
 }
 
 /// The same in a certificate of this kind.
-fn leaf_at(text: &[u8], kind: CertKind, width: usize) -> Option<(LeafForm, &[u8])>
+fn leaf_at(text: &[u8], kind: CertKind, width: usize) -> Option<(LeafLine, &[u8])>
     requires { width ≤ 4 }
     ensures { MatchOption result ((leaf : TheForm) (behind : List ℕ) → IsLeaf kind width leaf
         → text.now ≢ leaf_line leaf ++ behind)

@@ -1,49 +1,42 @@
 //! Whole certificates from texts.
 ghost use Rattle.std.specs.Prelude.{◌≡◌, ◌≢◌, ◌≤◌, ℕ, List as Items, [], length, IfOk, IfErr};
-ghost use Rattle.box_tree.specs.declared.cert.CertKind.{CertKind as TheKind};
-ghost use Rattle.byte_scaling.specs.declared.width.Width.{Width as TheWidth};
+ghost use Rattle.box_tree.specs.declared.cert.CertFormat.{CertFormat as TheFormat};
 ghost use Rattle.box_tree.specs.{Certificates.CertText, Certificates.HasFault, Reading.HasRead};
 
-use crate::cert::{Cert, CertFault, CertKind, Node};
+use crate::cert::{Cert, CertFault, CertFormat, Node};
 use crate::lines::Lines;
 use arrayvec::ArrayVec;
-use byte_scaling::Width;
 use fz_list::List;
 use std::alloc::Global;
 
 /// The certificate of a text of version 1, or the text's first fault.
 pub fn read(alloc: Global, text: &[u8]) -> Result<Cert, CertFault>
     requires { length text.now ≤ 1048576 }
-    ensures cert { IfOk result (CertText CertKind.Named Width.Byte text.now) }
+    ensures cert { IfOk result (CertText CertFormat.NAMED text.now) }
     ensures fault { IfErr result (λ fault.
-        fault ≢ CertFault.Memory → HasFault CertKind.Named Width.Byte text.now fault) }
+        fault ≢ CertFault.Memory → HasFault CertFormat.NAMED text.now fault) }
 {
-    read_for(alloc, text, CertKind::Named, Width::Byte)
+    read_for(alloc, CertFormat::NAMED, text)
 }
 
 /// The certificate of a text of version 2, which is for answers of 16 bits, or the text's first
 /// fault.
 pub fn read16(alloc: Global, text: &[u8]) -> Result<Cert, CertFault>
     requires { length text.now ≤ 1048576 }
-    ensures cert { IfOk result (CertText CertKind.Named Width.Word text.now) }
+    ensures cert { IfOk result (CertText CertFormat.NAMED16 text.now) }
     ensures fault { IfErr result (λ fault.
-        fault ≢ CertFault.Memory → HasFault CertKind.Named Width.Word text.now fault) }
+        fault ≢ CertFault.Memory → HasFault CertFormat.NAMED16 text.now fault) }
 {
-    read_for(alloc, text, CertKind::Named, Width::Word)
+    read_for(alloc, CertFormat::NAMED16, text)
 }
 
-/// The certificate of this kind, for answers of this width, that a text has, or the text's first fault.
-pub fn read_for(
-    alloc: Global,
-    text: &[u8],
-    kind: CertKind,
-    answers: Width,
-) -> Result<Cert, CertFault>
+/// The certificate of this format that a text has, or the text's first fault.
+pub fn read_for(alloc: Global, format: CertFormat, text: &[u8]) -> Result<Cert, CertFault>
     requires { length text.now ≤ 1048576 }
-    ensures cert { IfOk result (CertText kind answers text.now) }
-    ensures fault { IfErr result (λ fault. fault ≢ CertFault.Memory → HasFault kind answers text.now fault) }
+    ensures cert { IfOk result (CertText format text.now) }
+    ensures fault { IfErr result (λ fault. fault ≢ CertFault.Memory → HasFault format text.now fault) }
 {
-    match Lines::of(text, kind, answers) {
+    match Lines::of(format, text) {
         Ok(lines) => cert_behind(alloc, lines),
         Err(fault) => Err(fault),
     }
@@ -51,10 +44,10 @@ pub fn read_for(
 
 /// The certificate of a text whose first two lines were read.
 fn cert_behind(alloc: Global, mut lines: Lines<'_>) -> Result<Cert, CertFault>
-    ensures cert { (k : TheKind) (v : TheWidth) (text : Items ℕ) → HasRead k v text [] lines.entry
-        → IfOk result (CertText k v text) }
-    ensures fault { (k : TheKind) (v : TheWidth) (text : Items ℕ) → HasRead k v text [] lines.entry
-        → IfErr result (λ fault. fault ≢ CertFault.Memory → HasFault k v text fault) }
+    ensures cert { (f : TheFormat) (text : Items ℕ) → HasRead f text [] lines.entry
+        → IfOk result (CertText f text) }
+    ensures fault { (f : TheFormat) (text : Items ℕ) → HasRead f text [] lines.entry
+        → IfErr result (λ fault. fault ≢ CertFault.Memory → HasFault f text fault) }
 {
     let mut nodes = Vec::new(alloc);
     loop {

@@ -3,53 +3,40 @@ ghost use Rattle.std.specs.Prelude.{◌≡◌, ◌++◌, IfOk, OnOk};
 ghost use Rattle.box_tree.specs.Certificates.{CertText, IsCert};
 ghost use Rattle.box_tree.specs.Texts.{line, lines_of, node_line, node_lines, pair_numbers};
 
-use crate::cert::{Cert, CertKind, LeafForm, Node};
-use crate::header::version_of;
+use crate::cert::{Cert, CertFormat, CertKind, LeafLine, Node};
 use arrayvec::ArrayVec;
-use byte_scaling::Width;
 use itoa::Buffer;
 use std::alloc::{AllocError, Global};
 
 /// The text of a certificate that names rules, of version 1.
 pub fn write(alloc: Global, cert: &Cert) -> Result<Vec<u8>, AllocError>
     requires { IsCert CertKind.Named cert.now }
-    ensures { IfOk result (λ text. CertText CertKind.Named Width.Byte text.items cert.now) }
+    ensures { IfOk result (λ text. CertText CertFormat.NAMED text.items cert.now) }
 {
-    write_for(alloc, cert, CertKind::Named, Width::Byte)
+    write_for(alloc, CertFormat::NAMED, cert)
 }
 
 /// The text of a certificate that names rules, for answers of 16 bits, of version 2.
 pub fn write16(alloc: Global, cert: &Cert) -> Result<Vec<u8>, AllocError>
     requires { IsCert CertKind.Named cert.now }
-    ensures { IfOk result (λ text. CertText CertKind.Named Width.Word text.items cert.now) }
+    ensures { IfOk result (λ text. CertText CertFormat.NAMED16 text.items cert.now) }
 {
-    write_for(alloc, cert, CertKind::Named, Width::Word)
+    write_for(alloc, CertFormat::NAMED16, cert)
 }
 
-/// The text of a certificate of this kind, for answers of this width: of version 1 or 2 if it names rules, of
-/// version 3 or 4 if it is tight.
-pub fn write_for(
-    alloc: Global,
-    cert: &Cert,
-    kind: CertKind,
-    answers: Width,
-) -> Result<Vec<u8>, AllocError>
-    requires { IsCert kind cert.now }
-    ensures { IfOk result (λ text. CertText kind answers text.items cert.now) }
+/// The text of a certificate in this format.
+pub fn write_for(alloc: Global, format: CertFormat, cert: &Cert) -> Result<Vec<u8>, AllocError>
+    requires { IsCert format.kind cert.now }
+    ensures { IfOk result (λ text. CertText format text.items cert.now) }
 {
-    text_of(alloc, cert, kind, answers)
+    text_of(alloc, format, cert)
 }
 
-fn text_of(
-    alloc: Global,
-    cert: &Cert,
-    kind: CertKind,
-    answers: Width,
-) -> Result<Vec<u8>, AllocError>
-    ensures { IfOk result (λ text. text.items ≡ lines_of kind answers cert.now.claims cert.now.nodes) }
+fn text_of(alloc: Global, format: CertFormat, cert: &Cert) -> Result<Vec<u8>, AllocError>
+    ensures { IfOk result (λ text. text.items ≡ lines_of format cert.now.claims cert.now.nodes) }
 {
     let mut text = Vec::new(alloc);
-    put_line(&mut text, b"FZC", &[version_of(kind, answers)])?;
+    put_line(&mut text, b"FZC", &[format.version()])?;
     put_line(&mut text, b"claim", cert.claims.as_slice())?;
     put_nodes(&mut text, cert.nodes.as_slice())?;
     Ok(text)
@@ -69,11 +56,11 @@ fn put_node(text: &mut Vec<u8>, node: &Node) -> Result<(), AllocError>
 {
     match node {
         Node::Split(input, cut) => put_line(text, b"split", &[u32::from(*input), u32::from(*cut)]),
-        Node::Leaf(LeafForm::Pairs(pairs)) => {
+        Node::Leaf(LeafLine::Pairs(pairs)) => {
             put_line(text, b"leaf", numbers_of_pairs(pairs).as_slice())
         }
-        Node::Leaf(LeafForm::Tight) => put_line(text, b"leaf", &[]),
-        Node::Leaf(LeafForm::Cells) => put_line(text, b"cells", &[]),
+        Node::Leaf(LeafLine::Tight) => put_line(text, b"leaf", &[]),
+        Node::Leaf(LeafLine::Cells) => put_line(text, b"cells", &[]),
     }
 }
 

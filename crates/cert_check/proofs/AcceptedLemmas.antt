@@ -20,17 +20,18 @@ use Rattle.cell_bounds.specs.declared.claims.Claim.TheVariants.{Pair, Tight}
 use Rattle.cell_bounds.specs.declared.claims.Claim.{Claim}
 use Rattle.fz_num.proofs.Algebra.{IsClose-more}
 use Rattle.box_tree.specs.declared.cert.Node.TheVariants.{Split, Leaf}
-use Rattle.box_tree.specs.{Texts.version_line, Texts.claim_line, Texts.node_lines, declared.cert.LeafForm.LeafForm}
+use Rattle.box_tree.specs.Texts.{claim_line, format_of, node_lines, version_line}
+use Rattle.box_tree.specs.declared.cert.LeafLine.{LeafLine}
 use Rattle.box_tree.specs.{Certificates.IsNode, Certificates.IsCert, Trees.open_from, Trees.leaf_count}
 use Rattle.box_tree.specs.{declared.cert.Cert.Cert, declared.cert.Node.Node}
 use Rattle.cert_check.specs.Laws.{AcceptedAnswersAreNear, AreNoHigher, NamedCertsHaveNoCells, WideIsAccepted}
-use Rattle.cert_check.specs.Laws.{WideTextsAreAccepted, tight_form, tight_node, tight_cert, TightIsAccepted}
+use Rattle.cert_check.specs.Laws.{WideTextsAreAccepted, tight_line, tight_node, tight_cert, TightIsAccepted}
 use Rattle.cert_check.specs.Trees.{Part, IsTree, lies, whole, leaf, split, left_of, right_of}
 use Rattle.cert_check.specs.Acceptance.{HasBound, IsGreatestBound, IsAccepted, claim_at}
 use Rattle.cert_check.specs.Laws.{TightTextsAreAccepted}
-use Rattle.cert_check.proofs.TreeLemmas.{one_leaf, leaf_with, LieIn-lies, All-both, boxes_are, whole_is, forms_are}
+use Rattle.cert_check.proofs.TreeLemmas.{one_leaf, leaf_with, LieIn-lies, All-both, boxes_are, whole_is, lines_are}
 use Rattle.box_tree.specs.declared.cert.CertKind.TheVariants as kind
-use Rattle.box_tree.specs.declared.cert.LeafForm.TheVariants as form
+use Rattle.box_tree.specs.declared.cert.LeafLine.TheVariants as leaf_line
 
 -- the bytes of numbers within their ranges
 byte_of-le : (i : Input) (x : Dec) → byte_of i x ≤ 255
@@ -152,7 +153,7 @@ at_least h k = omega arith
 
 -- a tree has a leaf
 some_leaf : (box : List Interval) (ns r : List Node) (ps : List Part) → IsTree box ns ps r → 0 < length ps
-some_leaf box ns r ps (leaf x form rest) = omega arith
+some_leaf box ns r ps (leaf x stated rest) = omega arith
 some_leaf box ns r ps (split x i c m mid rest left right h cut tl tq) = appended left right (some_leaf _ _ _ left tl)
   where
     appended : {X : Type 0} (xs ys : List X) → 0 < length xs → 0 < length (xs ++ ys)
@@ -300,42 +301,42 @@ pairs_name (Some p) claim e =
 
 -- ---- for answers in 16 bits
 
-names : (f : LeafForm) (k : ℕ) (claim : Claim) → Leaf f ≢ Leaf form.Cells → claim_at f k ≡ Some claim
+names : (f : LeafLine) (k : ℕ) (claim : Claim) → Leaf f ≢ Leaf leaf_line.Cells → claim_at f k ≡ Some claim
     → NamesNoCells claim
-names (form.Pairs pairs) k claim other e = pairs_name (slice_get pairs.items k) claim e
-names form.Tight k claim other e = let same : Tight ≡ claim = cc in subst NamesNoCells same tt
-names form.Cells k claim other e = absurd (other refl)
+names (leaf_line.Pairs pairs) k claim other e = pairs_name (slice_get pairs.items k) claim e
+names leaf_line.Tight k claim other e = let same : Tight ≡ claim = cc in subst NamesNoCells same tt
+names leaf_line.Cells k claim other e = absurd (other refl)
 
 wide_falls : ClaimBoundsFallWithParts → (b : Block) → IsValid b → (o : ℕ) (x : Output) (p : Part) (n : ℕ)
-    → output_at b o ≡ Some x → Leaf p.form ≢ Leaf form.Cells → HasBound b o x 1 p n
+    → output_at b o ≡ Some x → Leaf p.stated ≢ Leaf leaf_line.Cells → HasBound b o x 1 p n
     → (m : ℕ) × HasBound b o x 256 p m × (m ≤ n)
 wide_falls fall b valid o x p n out other bound =
     let w = fall b p.box o x 256 bound.claim n valid out (omega arith)
-    (names p.form (o - 1) bound.claim other bound.claim_is) bound.bound_is in
+    (names p.stated (o - 1) bound.claim other bound.claim_is) bound.bound_is in
     (w.0, record { claim = bound.claim; claim_is = bound.claim_is; allowed = bound.allowed; bound_is = w.1 }, w.2)
 
 pub wide_accepted : ClaimBoundsFallWithParts → WideIsAccepted
 wide_accepted fall b cert es valid none a =
-    accepted_lower b 1 256 (λ p. Leaf p.form ≢ Leaf form.Cells) (λ p. p) (wide_falls fall b valid) cert es a
-    (forms_are (λ node. node ≢ Leaf form.Cells) (whole b) cert.nodes a.parts [] a.tree none) cert.nodes
+    accepted_lower b 1 256 (λ p. Leaf p.stated ≢ Leaf leaf_line.Cells) (λ p. p) (wide_falls fall b valid) cert es a
+    (lines_are (λ node. node ≢ Leaf leaf_line.Cells) (whole b) cert.nodes a.parts [] a.tree none) cert.nodes
     (subst (λ ps. IsTree (whole b) cert.nodes ps []) (sym (map-id a.parts)) a.tree)
 
 pub wide_texts : WideIsAccepted → WideTextsAreAccepted
 wide_texts wide b k rest es valid a none =
     let w = wide b a.cert es valid none a.accepted in
-    let behind = append_cancel_left (version_line k Byte) rest
+    let behind = append_cancel_left (version_line (format_of k Byte)) rest
     (claim_line a.cert.claims ++ node_lines a.cert.nodes) a.spelled.lines in (
       w.0,
       record {
         cert = a.cert;
         spelled =
-            record { good = a.spelled.good; lines = ap (λ (t : List ℕ). version_line k Word ++ t) behind };
+            record { good = a.spelled.good; lines = ap (λ (t : List ℕ). version_line (format_of k Word) ++ t) behind };
         accepted = w.1;
       },
       w.2,
     )
 
-no_cells : (width : ℕ) (node : Node) → IsNode kind.Named width node → node ≢ Leaf form.Cells
+no_cells : (width : ℕ) (node : Node) → IsNode kind.Named width node → node ≢ Leaf leaf_line.Cells
 no_cells width node good e = subst (IsNode kind.Named width) e good
 
 pub named_no_cells : NamedCertsHaveNoCells
@@ -344,23 +345,23 @@ named_no_cells cert good k d l = no_cells (length cert.claims) _ (good.nodes k d
 -- ---- with tight leaves
 
 abbrev tight_part : Part → Part
-tight_part p = record { box = p.box; form = tight_form p.form }
+tight_part p = record { box = p.box; stated = tight_line p.stated }
 
 tight_has : TightClaimsAreLeast → (b : Block) → IsValid b → (h : ℕ) → 1 ≤ h → (o : ℕ) (x : Output)
-    (box : List Interval) (f : LeafForm) (n : ℕ) → output_at b o ≡ Some x
-    → HasBound b o x h (record { box = box; form = f }) n
-    → (m : ℕ) × HasBound b o x h (record { box = box; form = tight_form f }) m × (m ≤ n)
-tight_has least b valid h parts o x box (form.Pairs pairs) n out bound =
+    (box : List Interval) (f : LeafLine) (n : ℕ) → output_at b o ≡ Some x
+    → HasBound b o x h (record { box = box; stated = f }) n
+    → (m : ℕ) × HasBound b o x h (record { box = box; stated = tight_line f }) m × (m ≤ n)
+tight_has least b valid h parts o x box (leaf_line.Pairs pairs) n out bound =
     let w = least b box o x h bound.claim n valid out parts
     (pairs_name (slice_get pairs.items (o - 1)) bound.claim bound.claim_is) bound.bound_is in
     (w.0, record { claim = Tight; claim_is = refl; allowed = tt; bound_is = w.1 }, w.2)
-tight_has least b valid h parts o x box form.Tight n out bound = (n, bound, omega arith)
-tight_has least b valid h parts o x box form.Cells n out bound = (n, bound, omega arith)
+tight_has least b valid h parts o x box leaf_line.Tight n out bound = (n, bound, omega arith)
+tight_has least b valid h parts o x box leaf_line.Cells n out bound = (n, bound, omega arith)
 
 tight_tree : (box : List Interval) (nodes : List Node) (parts : List Part) (rest : List Node)
     → IsTree box nodes parts rest
     → IsTree box (map tight_node nodes) (map tight_part parts) (map tight_node rest)
-tight_tree _ _ _ _ (leaf box f rest) = leaf box (tight_form f) (map tight_node rest)
+tight_tree _ _ _ _ (leaf box f rest) = leaf box (tight_line f) (map tight_node rest)
 tight_tree _ _ _ _ (split box i c nodes mid rest left right some cut l r) =
     subst (λ ps. IsTree box (map tight_node (Split i c ∷ nodes)) ps (map tight_node rest))
     (sym (map-append tight_part left right))
@@ -371,16 +372,16 @@ tight_tree _ _ _ _ (split box i c nodes mid rest left right some cut l r) =
 pub tight_accepted : TightClaimsAreLeast → TightIsAccepted
 tight_accepted least b h cert es valid some a =
     accepted_lower b h h (λ _. Unit {0}) tight_part
-    (λ o x p n out good bound. tight_has least b valid h some o x p.box p.form n out bound) cert es a (λ k d l. tt)
+    (λ o x p n out good bound. tight_has least b valid h some o x p.box p.stated n out bound) cert es a (λ k d l. tt)
     (map tight_node cert.nodes) (tight_tree (whole b) cert.nodes a.parts [] a.tree)
 
 -- its text
 
 tight_good : (width : ℕ) (node : Node) → IsNode kind.Named width node → IsNode kind.Tight width (tight_node node)
 tight_good width (Split i c) good = good
-tight_good width (Leaf (form.Pairs pairs)) good = tt
-tight_good width (Leaf form.Tight) good = absurd good
-tight_good width (Leaf form.Cells) good = absurd good
+tight_good width (Leaf (leaf_line.Pairs pairs)) good = tt
+tight_good width (Leaf leaf_line.Tight) good = absurd good
+tight_good width (Leaf leaf_line.Cells) good = absurd good
 
 all_tight : (width : ℕ) (nodes : List Node) → All (IsNode kind.Named width) nodes
     → All (IsNode kind.Tight width) (map tight_node nodes)
@@ -409,7 +410,7 @@ tight_is_cert cert good = record {
 }
 
 pub tight_texts : TightIsAccepted → TightTextsAreAccepted
-tight_texts tight b h answers text es valid some a =
+tight_texts tight b h width text es valid some a =
     let w = tight b h a.cert es valid some a.accepted in (
       w.0,
       record {

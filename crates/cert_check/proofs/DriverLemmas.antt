@@ -5,10 +5,10 @@ use Rattle.std.proofs.Math.Seq.{take-suc}
 use Rattle.std.specs.Prelude.{◌≢◌, All, Result, Ok, Err, IfOk, IfErr}
 use Rattle.std.specs.Global.{Vec}
 use Rattle.fuzzy_meaning.specs.declared.block.Block.{Block}
-use Rattle.byte_scaling.specs.declared.width.Width.{Width}
 use Rattle.box_tree.specs.declared.cert.Node.TheVariants.{Split, Leaf}
 use Rattle.box_tree.specs.{Certificates.IsNode, Certificates.IsCert, Certificates.CertText, declared.lines.Lines.Lines}
-use Rattle.box_tree.specs.{Reading.HasRead, Reading.claims_of, Reading.cert_of, declared.cert.CertKind.CertKind}
+use Rattle.box_tree.specs.{Reading.HasRead, Reading.claims_of, Reading.cert_of}
+use Rattle.box_tree.specs.declared.{cert.CertFormat.CertFormat, cert.CertKind.CertKind}
 use Rattle.box_tree.specs.{Trees.IsTree, Trees.open_from, Trees.leaf_count, declared.cert.Node.Node}
 use Rattle.box_tree.specs.declared.cert.Cert.{Cert}
 use Rattle.cert_check.specs.TextFaults.{IsAcceptedText, HasTextFault, of_cert}
@@ -59,7 +59,7 @@ opens-front : (k m : ℕ) (nodes more : List Node) → open_from k (nodes ++ mor
 opens-front k m [] more e = (k, refl)
 opens-front zero m (node ∷ nodes) more e = absurd (let z : ⊥ = cc in z)
 opens-front (suc k) m (Split i c ∷ nodes) more e = opens-front (suc (suc k)) m nodes more e
-opens-front (suc k) m (Leaf form ∷ nodes) more e = opens-front k m nodes more e
+opens-front (suc k) m (Leaf stated ∷ nodes) more e = opens-front k m nodes more e
 
 All-take : {X : Type 0} (P : X → Type 0) (xs : List X) (k : ℕ) → All P xs → All P (take k xs)
 All-take P xs zero all j d l = absurd (omega arith)
@@ -98,12 +98,11 @@ take_all (node ∷ nodes) (suc k) l = ap (λ (ns : List Node). node ∷ ns) (tak
 
 -- ---- the nodes of a text, as far as it is read
 
-pub first_of_text : (kind : CertKind) (answers : Width) (text : List ℕ) (nodes : List Node) (lines : Lines)
-    → HasRead kind answers text nodes lines
-    → AreFirst (length (claims_of lines)) nodes
-first_of_text kind answers text nodes lines read =
+pub first_of_text : (format : CertFormat) (text : List ℕ) (nodes : List Node) (lines : Lines)
+    → HasRead format text nodes lines → AreFirst (length (claims_of lines)) nodes
+first_of_text format text nodes lines read =
     record {
-      good = any_kind kind (length (claims_of lines)) nodes read.begins.good_nodes;
+      good = any_kind format.kind (length (claims_of lines)) nodes read.begins.good_nodes;
       opens = (lines.open_boxes, read.begins.left_open);
       few_leaves =
           read.begins.few_leaves;
@@ -174,33 +173,31 @@ module _ (b : Block) (h : ℕ) (cert : Cert) (w : Walk) (over : IsWalkOver b cer
 -- the walk has taken the nodes that are read of a text, whose lines were these when no node was read
 pub record IsWalkOverText (b : Block) (h : ℕ) (begun lines : Lines) (w : Walk) : Type 0 where
   pub over : IsWalkOver b (claims_of lines) h w
-  pub taken : (kind : CertKind) (answers : Width) (text : List ℕ) → HasRead kind answers text [] begun
-      → (nodes : List Node) × HasRead kind answers text nodes lines × HasTaken nodes w
+  pub taken : (format : CertFormat) (text : List ℕ) → HasRead format text [] begun
+      → (nodes : List Node) × HasRead format text nodes lines × HasTaken nodes w
 
 module _ {b : Block} {h : ℕ} {begun lines : Lines} {w : Walk} (is : IsWalkOverText b h begun lines w) where
   -- there are such nodes where there is such a text
-  pub HasTaken-some : (kind : CertKind) × (answers : Width) × (text : List ℕ) × HasRead kind answers text [] begun
+  pub HasTaken-some : (format : CertFormat) × (text : List ℕ) × HasRead format text [] begun
       → (nodes : List Node) × HasTaken nodes w
-  HasTaken-some r = let t = is.taken r.0 r.1 r.2 r.3 in (t.0, t.2)
+  HasTaken-some r = let t = is.taken r.0 r.1 r.2 in (t.0, t.2)
 
   -- ---- one more node is read
 
   module _ (next : Lines) (node : Node) (claims : claims_of next ≡ claims_of lines)
-      (more : (kind : CertKind) (answers : Width) (text : List ℕ) (nodes : List Node)
-      → HasRead kind answers text nodes lines
-      → HasRead kind answers text (nodes ++ node ∷ []) next) where
-    AreFirst-read : (kind : CertKind) (answers : Width) (text : List ℕ) (nodes : List Node)
-        → HasRead kind answers text nodes lines
+      (more : (format : CertFormat) (text : List ℕ) (nodes : List Node) → HasRead format text nodes lines
+      → HasRead format text (nodes ++ node ∷ []) next) where
+    AreFirst-read : (format : CertFormat) (text : List ℕ) (nodes : List Node) → HasRead format text nodes lines
         → AreFirst (length w.claims.now) (nodes ++ node ∷ [])
-    AreFirst-read kind answers text nodes read =
+    AreFirst-read format text nodes read =
         subst (λ (cs : List ℕ). AreFirst (length cs) (nodes ++ node ∷ [])) (claims ∙ sym is.over.claims_are)
-        (first_of_text kind answers text (nodes ++ node ∷ []) next (more kind answers text nodes read))
+        (first_of_text format text (nodes ++ node ∷ []) next (more format text nodes read))
 
     -- the walk may take it
-    pub AreFirst-some : (kind : CertKind) × (answers : Width) × (text : List ℕ)
-        × HasRead kind answers text [] begun
+    pub AreFirst-some : (format : CertFormat) × (text : List ℕ)
+        × HasRead format text [] begun
         → (nodes : List Node) × HasTaken nodes w × AreFirst (length w.claims.now) (nodes ++ node ∷ [])
-    AreFirst-some r = let t = is.taken r.0 r.1 r.2 r.3 in (t.0, t.2, AreFirst-read r.0 r.1 r.2 t.0 t.1)
+    AreFirst-some r = let t = is.taken r.0 r.1 r.2 in (t.0, t.2, AreFirst-read r.0 r.1 t.0 t.1)
 
     -- and is behind it then
     pub IsWalkOverText-more : (v : Walk) → IsSameTask v w
@@ -209,41 +206,41 @@ module _ {b : Block} {h : ℕ} {begun lines : Lines} {w : Walk} (is : IsWalkOver
     IsWalkOverText-more v same take = record {
       over = still_over b (claims_of next) h w v
           (subst (λ (cs : List ℕ). IsWalkOver b cs h w) (sym claims) is.over) same;
-      taken = λ kind answers text first.
-          let t = is.taken kind answers text first in
-          let read = AreFirst-read kind answers text t.0 t.1 in
-          (t.0 ++ node ∷ [], more kind answers text t.0 t.1, take t.0 t.2 read);
+      taken = λ format text first.
+          let t = is.taken format text first in
+          let read = AreFirst-read format text t.0 t.1 in
+          (t.0 ++ node ∷ [], more format text t.0 t.1, take t.0 t.2 read);
     }
 
   -- ---- the text is read to its end
 
-  module _ (ended : (kind : CertKind) (answers : Width) (text : List ℕ) (nodes : List Node)
-      → HasRead kind answers text nodes lines
-      → CertText kind answers text (cert_of lines nodes)) (kind : CertKind) (answers : Width) (text : List ℕ)
-      (first : HasRead kind answers text [] begun) where
-    IsTree-read : IsTree (is.taken kind answers text first).0
+  module _ (ended : (format : CertFormat) (text : List ℕ) (nodes : List Node)
+      → HasRead format text nodes lines
+      → CertText format text (cert_of lines nodes)) (format : CertFormat) (text : List ℕ)
+      (first : HasRead format text [] begun) where
+    IsTree-read : IsTree (is.taken format text first).0
     IsTree-read =
-        let t = is.taken kind answers text first in
-        (ended kind answers text t.0 t.1).good.tree
+        let t = is.taken format text first in
+        (ended format text t.0 t.1).good.tree
 
     -- its certificate is accepted as that of the nodes is
     pub IsAcceptedText-read : (errors : List ℕ)
         → ((nodes : List Node) → HasTaken nodes w → IsTree nodes
-        → IsAccepted w.block.now w.parts (cert_over w nodes) errors) → IsAcceptedText b h kind answers text errors
+        → IsAccepted w.block.now w.parts (cert_over w nodes) errors) → IsAcceptedText b h format text errors
     IsAcceptedText-read errors accepted =
-        let t = is.taken kind answers text first in
+        let t = is.taken format text first in
         record {
           cert = cert_of lines t.0;
-          spelled = ended kind answers text t.0 t.1;
+          spelled = ended format text t.0 t.1;
           accepted = accepted_over b (claims_of lines) h w is.over t.0 errors (accepted t.0 t.2 IsTree-read);
         }
 
     -- or has its fault
     pub HasTextFault-read : (f : CheckFault)
         → ((nodes : List Node) → HasTaken nodes w → IsTree nodes
-        → HasCheckFault w.block.now w.parts (cert_over w nodes) f) → HasTextFault b h kind answers text
+        → HasCheckFault w.block.now w.parts (cert_over w nodes) f) → HasTextFault b h format text
         (refusal.Check f)
     HasTextFault-read f fault =
-        let t = is.taken kind answers text first in
-        of_cert (cert_of lines t.0) f (ended kind answers text t.0 t.1)
+        let t = is.taken format text first in
+        of_cert (cert_of lines t.0) f (ended format text t.0 t.1)
         (fault_over b (claims_of lines) h w is.over t.0 f (fault t.0 t.2 IsTree-read))

@@ -10,7 +10,7 @@ use Rattle.error_bound.specs.declared.boxes.Leaf as the
 use Rattle.error_bound.specs.Boxes.{IsBox}
 use Rattle.error_bound.specs.Leaves.{Holds, IsStrong, IsStill, strong, silent}
 use Rattle.error_bound.specs.{Bounds.IsBound, Bounds.bound, CellErrors.term_errors, Laws.TermErrorsAre}
-use Rattle.box_tree.specs.declared.{cert.LeafForm.LeafForm, cert.LeafForm.TheVariants.Pairs}
+use Rattle.box_tree.specs.declared.{cert.LeafLine.LeafLine, cert.LeafLine.TheVariants.Pairs}
 use Rattle.box_tree.specs.declared.cert.Node.TheVariants.{Split}
 use Rattle.cell_bounds.specs.declared.claims.Claim.TheVariants.{Pair}
 use Rattle.cert_check.specs.Trees.{Part, IsTree, leaf, split, whole}
@@ -21,14 +21,14 @@ use Rattle.fz_list.proofs.Algebra.{All-cons, All-none}
 abbrev pair : ℕ → ℕ → the.Leaf
 pair r k = record { rule = r; k = k }
 
-abbrev pairs_form : ℕ → ℕ → LeafForm
-pairs_form r k = Pairs (record { items = (r, k) ∷ [] })
+abbrev pairs_line : ℕ → ℕ → LeafLine
+pairs_line r k = Pairs (record { items = (r, k) ∷ [] })
 
 abbrev span_of : ℕ → ℕ → List Interval
 span_of f t = record { from = f; to = t } ∷ []
 
 abbrev part : ℕ → ℕ → ℕ → ℕ → Part
-part f t r k = record { box = span_of f t; form = pairs_form r k }
+part f t r k = record { box = span_of f t; stated = pairs_line r k }
 
 abbrev cold_box : List Interval
 cold_box = span_of 0 127
@@ -42,8 +42,8 @@ heater_parts = part 0 127 1 127 ∷ part 128 255 2 127 ∷ []
 heater_tree : IsTree (whole heater) heater_cert.nodes heater_parts []
 heater_tree = split (whole heater) 1 128 (leaf_node 1 127 ∷ leaf_node 2 127 ∷ []) (leaf_node 2 127 ∷ []) []
     (part 0 127 1 127 ∷ []) (part 128 255 2 127 ∷ [])
-    (omega arith) (omega arith, omega arith) (leaf cold_box (pairs_form 1 127) (leaf_node 2 127 ∷ []))
-    (leaf hot_box (pairs_form 2 127) [])
+    (omega arith) (omega arith, omega arith) (leaf cold_box (pairs_line 1 127) (leaf_node 2 127 ∷ []))
+    (leaf hot_box (pairs_line 2 127) [])
 
 abbrev cold_rule : Rule
 cold_rule = record { cond = is 1 1; weight = None; concl = (1, 1) ∷ [] }
@@ -221,11 +221,11 @@ latch_tree : IsTree (whole latch) latch_cert.nodes (part 0 63 1 255 ∷ part 64 
 latch_tree = split (span_of 0 255) 1 64 (leaf_node 1 255 ∷ Split 1 192 ∷ leaf_node 0 0 ∷ leaf_node 2 255 ∷ [])
     (Split 1 192 ∷ leaf_node 0 0 ∷ leaf_node 2 255 ∷ []) [] (part 0 63 1 255 ∷ [])
     (part 64 191 0 0 ∷ part 192 255 2 255 ∷ []) (omega arith) (omega arith, omega arith)
-    (leaf (span_of 0 63) (pairs_form 1 255) (Split 1 192 ∷ leaf_node 0 0 ∷ leaf_node 2 255 ∷ []))
+    (leaf (span_of 0 63) (pairs_line 1 255) (Split 1 192 ∷ leaf_node 0 0 ∷ leaf_node 2 255 ∷ []))
     (split (span_of 64 255) 1 192 (leaf_node 0 0 ∷ leaf_node 2 255 ∷ []) (leaf_node 2 255 ∷ []) []
     (part 64 191 0 0 ∷ []) (part 192 255 2 255 ∷ []) (omega arith) (omega arith, omega arith)
-    (leaf (span_of 64 191) (pairs_form 0 0) (leaf_node 2 255 ∷ []))
-    (leaf (span_of 192 255) (pairs_form 2 255) []))
+    (leaf (span_of 64 191) (pairs_line 0 0) (leaf_node 2 255 ∷ []))
+    (leaf (span_of 192 255) (pairs_line 2 255) []))
 
 latch_greatest : TermErrorsAre → IsValid latch
     → IsGreatestBound latch 1 keeper 1 (part 0 63 1 255 ∷ part 64 191 0 0 ∷ part 192 255 2 255 ∷ []) 3922

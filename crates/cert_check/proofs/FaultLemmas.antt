@@ -12,7 +12,7 @@ use Rattle.cell_bounds.specs.declared.claims.Claim.TheVariants.{Pair, Tight, Cel
 use Rattle.cell_bounds.specs.{Claims.HasClaimBound, Claims.ClaimBoundsAreOne, declared.claims.Claim.Claim}
 use Rattle.box_tree.specs.{Laws.CertsAreOne, Laws.FaultsAreOne, Laws.CertTextsHaveNoFault, declared.cert.Cert.Cert}
 use Rattle.box_tree.specs.declared.cert.Node.TheVariants.{Split, Leaf}
-use Rattle.box_tree.specs.{declared.cert.CertFault.CertFault, declared.cert.LeafForm.LeafForm, declared.cert.Node.Node}
+use Rattle.box_tree.specs.{declared.cert.CertFault.CertFault, declared.cert.LeafLine.LeafLine, declared.cert.Node.Node}
 use Rattle.cert_check.specs.Faults.{line_at, Reaches, root, in_left, in_right, HasTreeFault, bad_cut, bad_leaf}
 use Rattle.cert_check.specs.Faults.{outputs, tree, claimed, AllHold, HasPartFault, IsPairFault, IsCellsFault, bad_rule}
 use Rattle.cert_check.specs.Laws.{ErrorsAreDetermined, FaultyCertsFail, CheckFaultsAreOne, TextAnswersAreOne}
@@ -28,13 +28,13 @@ use Rattle.cert_check.specs.declared.text.TextFault.TheVariants as refusal
 -- nodes spell one tree
 pub tree_unique : (box box' : List Interval) (ns ns' : List Node) (ps qs : List Part) (r r' : List Node)
     → IsTree box ns ps r → IsTree box' ns' qs r' → box ≡ box' → ns ≡ ns' → (ps ≡ qs) × (r ≡ r')
-tree_unique box box' ns ns' ps qs r r' (leaf x form rest) (leaf x' form' rest') eb en =
-    let e1 : form ≡ form' = cc in
+tree_unique box box' ns ns' ps qs r r' (leaf x stated rest) (leaf x' stated' rest') eb en =
+    let e1 : stated ≡ stated' = cc in
     let e2 : rest ≡ rest' = cc in
-    (ap₂ (λ (a : List Interval) (c : LeafForm). part_of a c ∷ []) eb e1, e2)
-tree_unique box box' ns ns' ps qs r r' (leaf x form rest) (split x' i c n m rest' left right h cut tl tq) eb en =
+    (ap₂ (λ (a : List Interval) (c : LeafLine). part_of a c ∷ []) eb e1, e2)
+tree_unique box box' ns ns' ps qs r r' (leaf x stated rest) (split x' i c n m rest' left right h cut tl tq) eb en =
     absurd (let z : ⊥ = cc in z)
-tree_unique box box' ns ns' ps qs r r' (split x i c n m rest left right h cut tl tq) (leaf x' form' rest') eb en =
+tree_unique box box' ns ns' ps qs r r' (split x i c n m rest left right h cut tl tq) (leaf x' stated' rest') eb en =
     absurd (let z : ⊥ = cc in z)
 tree_unique box box' ns ns' ps qs r r' (split x i c n m rest left right h cut tl tq)
     (split x' i' c' n' m' rest' left' right' h' cut' tl' tq') eb en =
@@ -64,8 +64,8 @@ right_count (suc k) c (v ∷ vs) = ap suc (right_count k c vs)
 -- each box has an interval for each input
 pub boxes_count : (n : ℕ) (box : List Interval) (ns r : List Node) (ps : List Part) → IsTree box ns ps r
     → length box ≡ n → All (λ p. length p.box ≡ n) ps
-boxes_count n box ns r ps (leaf x form rest) e zero d l = e
-boxes_count n box ns r ps (leaf x form rest) e (suc k) d l = absurd (omega arith)
+boxes_count n box ns r ps (leaf x stated rest) e zero d l = e
+boxes_count n box ns r ps (leaf x stated rest) e (suc k) d l = absurd (omega arith)
 boxes_count n box ns r ps (split x i c m mid rest left right h cut tl tq) e k d l =
     All-append (λ p. length p.box ≡ n) left right
     (boxes_count n (left_of (i - 1) c x) m mid left tl (left_count (i - 1) c x ∙ e))
@@ -148,7 +148,7 @@ record Halves (box : List Interval) (i c : ℕ) (nodes : List Node) (parts : Lis
 
 halves : (box : List Interval) (nodes : List Node) (parts : List Part) (rest : List Node) → IsTree box nodes parts rest
     → (i c : ℕ) (below : List Node) → nodes ≡ Split i c ∷ below → Halves box i c below parts rest
-halves box nodes parts rest (leaf x form r) i c below e = absurd (let z : ⊥ = cc in z)
+halves box nodes parts rest (leaf x stated r) i c below e = absurd (let z : ⊥ = cc in z)
 halves box nodes parts rest (split x j d n m r left right some cut tl tr) i c below e =
     let ei : j ≡ i = cc in
     let ec : d ≡ c = cc in
@@ -159,11 +159,11 @@ halves box nodes parts rest (split x j d n m r left right some cut tl tr) i c be
 
 one_part : (box : List Interval) (nodes : List Node) (parts : List Part) (rest : List Node)
     → IsTree box nodes parts rest
-    → (form : LeafForm) (below : List Node) → nodes ≡ Leaf form ∷ below → part_of box form ∷ [] ≡ parts
-one_part box nodes parts rest (leaf x form' r) form below e =
-    let s : form ≡ form' = cc in
-    ap (λ (a : LeafForm). part_of x a ∷ []) s
-one_part box nodes parts rest (split x j d n m r left right some cut tl tr) form below e = absurd (let z : ⊥ = cc in z)
+    → (stated : LeafLine) (below : List Node) → nodes ≡ Leaf stated ∷ below → part_of box stated ∷ [] ≡ parts
+one_part box nodes parts rest (leaf x stated' r) stated below e =
+    let s : stated ≡ stated' = cc in
+    ap (λ (a : LeafLine). part_of x a ∷ []) s
+one_part box nodes parts rest (split x j d n m r left right some cut tl tr) stated below e = absurd (let z : ⊥ = cc in z)
 
 All-front : {X : Type 0} (P : X → Type 0) (xs ys : List X) → All P (xs ++ ys) → All P xs
 All-front P [] ys a k d l = absurd (omega arith)
@@ -202,7 +202,7 @@ tree_fails fail b h cert errors f (bad_cut box i c rest reach outside) a =
     let t = inside b h (λ _. Unit {0}) (whole b) cert.nodes box (Split i c ∷ rest) reach a.parts [] a.tree
     (λ k d l. tt) in
     outside (halves box (Split i c ∷ rest) t.0 t.1 t.2 i c rest refl).cut
-tree_fails fail b h cert errors f (bad_leaf box form rest g reach fault) a =
+tree_fails fail b h cert errors f (bad_leaf box stated rest g reach fault) a =
     let o = fault.output in
     let from = fault.from in
     let to = fault.to in
@@ -211,10 +211,10 @@ tree_fails fail b h cert errors f (bad_leaf box form rest g reach fault) a =
     let e = some_at errors (o - 1) (omega arith) in
     let P : Part → Type 0 = λ p. (n : ℕ) × HasBound b o x.0 h p n × (n ≤ e.0) in
     let each : All P a.parts = (a.greatest o x.0 e.0 from x.1 e.1).each in
-    let t = inside b h P (whole b) cert.nodes box (Leaf form ∷ rest) reach a.parts [] a.tree each in
-    let p = part_of box form in
-    let here : P p = only_part P p t.0 (one_part box (Leaf form ∷ rest) t.0 t.1 t.2 form rest refl) t.3 in
-    bound_fails fail b h p o x.0 here.0 (line_at cert.nodes (Leaf form ∷ rest)) fault.claim g x.1 fault.claim_is
+    let t = inside b h P (whole b) cert.nodes box (Leaf stated ∷ rest) reach a.parts [] a.tree each in
+    let p = part_of box stated in
+    let here : P p = only_part P p t.0 (one_part box (Leaf stated ∷ rest) t.0 t.1 t.2 stated rest refl) t.3 in
+    bound_fails fail b h p o x.0 here.0 (line_at cert.nodes (Leaf stated ∷ rest)) fault.claim g x.1 fault.claim_is
     fault.is here.1
 
 pub certs_fail : FaultyLeavesFail → ClaimBoundsAreOne → FaultyCertsFail
@@ -276,7 +276,7 @@ one_part_fault one fail b h p line f g first second =
     let down = none_before fail b h p line g f second first in
     let same : first.output ≡ second.output = omega (arith, up, down) in
     let claims : first.claim ≡ second.claim = one_claim first.claim_is
-    (ap (λ o. claim_at p.form (o - 1)) same ∙ second.claim_is) in
+    (ap (λ o. claim_at p.stated (o - 1)) same ∙ second.claim_is) in
     one_claim_fault one b h p.box second.output line second.claim f g
     (subst (λ c. IsClaimFault b h p.box second.output line c f) claims
     (subst (λ o. IsClaimFault b h p.box o line first.claim f) same first.is)) second.is
@@ -287,8 +287,8 @@ one_part_fault one fail b h p line f g first second =
 data Stops (b : Block) (h : ℕ) (box : List Interval) (rest : List Node) (line : ℕ) : CheckFault → Type 0 where
   at_cut : (i c : ℕ) (after : List Node) → rest ≡ Split i c ∷ after → (IsCut (i - 1) c box → ⊥)
       → Stops b h box rest line (fault.BadCut line)
-  at_leaf : (form : LeafForm) (after : List Node) (f : CheckFault) → rest ≡ Leaf form ∷ after
-      → HasPartFault b h (part_of box form) line f → Stops b h box rest line f
+  at_leaf : (stated : LeafLine) (after : List Node) (f : CheckFault) → rest ≡ Leaf stated ∷ after
+      → HasPartFault b h (part_of box stated) line f → Stops b h box rest line f
 
 no_cut : (b : Block) (h : ℕ) (box : List Interval) (rest : List Node) (line : ℕ) (f : CheckFault) (i c : ℕ)
     (nodes : List Node)
@@ -298,16 +298,16 @@ no_cut b h box rest line _ i c nodes (at_cut j d after e none) same cut =
     let is : j ≡ i = cc in
     let cs : d ≡ c = cc in
     none (subst (λ k. IsCut (k - 1) d box) (sym is) (subst (λ k. IsCut (i - 1) k box) (sym cs) cut))
-no_cut b h box rest line _ i c nodes (at_leaf form after f e part) same cut =
-    absurd (let both : Leaf form ∷ after ≡ Split i c ∷ nodes = sym e ∙ same in let z : ⊥ = cc in z)
+no_cut b h box rest line _ i c nodes (at_leaf stated after f e part) same cut =
+    absurd (let both : Leaf stated ∷ after ≡ Split i c ∷ nodes = sym e ∙ same in let z : ⊥ = cc in z)
 
 no_leaf : FaultyLeavesFail
-    → (b : Block) (h : ℕ) (box : List Interval) (form : LeafForm) (rest : List Node) (line : ℕ) (f : CheckFault)
-    → Stops b h box (Leaf form ∷ rest) line f → AllHold b h (part_of box form) → ⊥
-no_leaf fail b h box form rest line _ (at_cut j d after e none) hold = absurd (let z : ⊥ = cc in z)
-no_leaf fail b h box form rest line _ (at_leaf other after f e part) hold =
-    let same : other ≡ form = cc in
-    let here = subst (λ (a : LeafForm). HasPartFault b h (part_of box a) line f) same part in
+    → (b : Block) (h : ℕ) (box : List Interval) (stated : LeafLine) (rest : List Node) (line : ℕ) (f : CheckFault)
+    → Stops b h box (Leaf stated ∷ rest) line f → AllHold b h (part_of box stated) → ⊥
+no_leaf fail b h box stated rest line _ (at_cut j d after e none) hold = absurd (let z : ⊥ = cc in z)
+no_leaf fail b h box stated rest line _ (at_leaf other after f e part) hold =
+    let same : other ≡ stated = cc in
+    let here = subst (λ (a : LeafLine). HasPartFault b h (part_of box a) line f) same part in
     let from = here.from in
     let to = here.to in
     let x = some_at b.outputs (here.output - 1) (omega arith) in
@@ -318,8 +318,8 @@ no_leaf fail b h box form rest line _ (at_leaf other after f e part) hold =
 no_stop : FaultyLeavesFail
     → (b : Block) (h : ℕ) (box : List Interval) (nodes : List Node) (parts : List Part) (after : List Node) (line : ℕ)
     (f : CheckFault) → IsTree box nodes parts after → All (AllHold b h) parts → Stops b h box nodes line f → ⊥
-no_stop fail b h box nodes parts after line f (leaf x form rest) all stop =
-    no_leaf fail b h x form rest line f stop (all 0 (part_of x form) (omega arith))
+no_stop fail b h box nodes parts after line f (leaf x stated rest) all stop =
+    no_leaf fail b h x stated rest line f stop (all 0 (part_of x stated) (omega arith))
 no_stop fail b h box nodes parts after line f (split x i c n m rest left right some cut tl tr) all stop =
     no_cut b h x (Split i c ∷ n) line f i c n stop refl cut
 
@@ -400,23 +400,23 @@ record StopsAt (b : Block) (h : ℕ) (nodes : List Node) (f : CheckFault) : Type
 stops_at : (b : Block) (h : ℕ) (nodes : List Node) (f : CheckFault) → HasTreeFault b h nodes f → StopsAt b h nodes f
 stops_at b h nodes _ (bad_cut box i c rest reach none) =
     record { box = box; rest = Split i c ∷ rest; reached = reach; stops = at_cut i c rest refl none }
-stops_at b h nodes f (bad_leaf box form rest g reach part) =
-    record { box = box; rest = Leaf form ∷ rest; reached = reach; stops = at_leaf form rest f refl part }
+stops_at b h nodes f (bad_leaf box stated rest g reach part) =
+    record { box = box; rest = Leaf stated ∷ rest; reached = reach; stops = at_leaf stated rest f refl part }
 
 one_stop : LeafFaultsAreOne → FaultyLeavesFail
     → (b : Block) (h : ℕ) (box : List Interval) (rest : List Node) (line : ℕ) (f g : CheckFault)
     → Stops b h box rest line f
     → Stops b h box rest line g → f ≡ g
 one_stop one fail b h box rest line _ _ (at_cut i c after e none) (at_cut j d after' e' none') = refl
-one_stop one fail b h box rest line _ _ (at_cut i c after e none) (at_leaf form after' g e' part) =
-    absurd (let both : Split i c ∷ after ≡ Leaf form ∷ after' = sym e ∙ e' in let z : ⊥ = cc in z)
-one_stop one fail b h box rest line _ _ (at_leaf form after f e part) (at_cut j d after' e' none') =
-    absurd (let both : Leaf form ∷ after ≡ Split j d ∷ after' = sym e ∙ e' in let z : ⊥ = cc in z)
-one_stop one fail b h box rest line _ _ (at_leaf form after f e part) (at_leaf other after' g e' part') =
-    let both : Leaf form ∷ after ≡ Leaf other ∷ after' = sym e ∙ e' in
-    let same : form ≡ other = cc in
+one_stop one fail b h box rest line _ _ (at_cut i c after e none) (at_leaf stated after' g e' part) =
+    absurd (let both : Split i c ∷ after ≡ Leaf stated ∷ after' = sym e ∙ e' in let z : ⊥ = cc in z)
+one_stop one fail b h box rest line _ _ (at_leaf stated after f e part) (at_cut j d after' e' none') =
+    absurd (let both : Leaf stated ∷ after ≡ Split j d ∷ after' = sym e ∙ e' in let z : ⊥ = cc in z)
+one_stop one fail b h box rest line _ _ (at_leaf stated after f e part) (at_leaf other after' g e' part') =
+    let both : Leaf stated ∷ after ≡ Leaf other ∷ after' = sym e ∙ e' in
+    let same : stated ≡ other = cc in
     one_part_fault one fail b h (part_of box other) line f g
-    (subst (λ (a : LeafForm). HasPartFault b h (part_of box a) line f) same part) part'
+    (subst (λ (a : LeafLine). HasPartFault b h (part_of box a) line f) same part) part'
 
 one_tree_fault : LeafFaultsAreOne → FaultyLeavesFail → (b : Block) (h : ℕ) (nodes : List Node) (f g : CheckFault)
     → HasTreeFault b h nodes f → HasTreeFault b h nodes g → f ≡ g
@@ -489,32 +489,32 @@ check_faults_are_one one fail unique b h cert _ _ v (claimed es k over count acc
 
 pub text_answers_are_one : FaultyLeavesFail → ClaimBoundsAreOne → CertsAreOne → FaultsAreOne → CertTextsHaveNoFault
     → CheckFaultsAreOne → TextAnswersAreOne
-text_answers_are_one fail unique certs faults faultless checks b h k answers text (Ok es) (Ok fs) v x y =
-    let same = (certs k k answers answers text x.cert y.cert x.spelled y.spelled).2 in
+text_answers_are_one fail unique certs faults faultless checks b h format text (Ok es) (Ok fs) v x y =
+    let same = (certs format format text x.cert y.cert x.spelled y.spelled).1 in
     ap (λ (l : List ℕ). Ok l)
     (errors_unique unique b h x.cert y.cert es fs (ap (λ (c : Cert). c.nodes) same) v x.accepted y.accepted)
-text_answers_are_one fail unique certs faults faultless checks b h k answers text (Ok es) (Err _) v x
+text_answers_are_one fail unique certs faults faultless checks b h format text (Ok es) (Err _) v x
     (of_text f h') =
-    absurd (faultless k answers text x.cert f x.spelled h')
-text_answers_are_one fail unique certs faults faultless checks b h k answers text (Ok es) (Err _) v x
+    absurd (faultless format text x.cert f x.spelled h')
+text_answers_are_one fail unique certs faults faultless checks b h format text (Ok es) (Err _) v x
     (of_cert cert f spelled h') =
-    let same = (certs k k answers answers text cert x.cert spelled x.spelled).2 in
+    let same = (certs format format text cert x.cert spelled x.spelled).1 in
     absurd (certs_fail fail unique b h x.cert es f v (subst (λ c. HasCheckFault b h c f) same h') x.accepted)
-text_answers_are_one fail unique certs faults faultless checks b h k answers text (Err _) (Ok fs) v (of_text f h')
+text_answers_are_one fail unique certs faults faultless checks b h format text (Err _) (Ok fs) v (of_text f h')
     y =
-    absurd (faultless k answers text y.cert f y.spelled h')
-text_answers_are_one fail unique certs faults faultless checks b h k answers text (Err _) (Ok fs) v
+    absurd (faultless format text y.cert f y.spelled h')
+text_answers_are_one fail unique certs faults faultless checks b h format text (Err _) (Ok fs) v
     (of_cert cert f spelled h') y =
-    let same = (certs k k answers answers text cert y.cert spelled y.spelled).2 in
+    let same = (certs format format text cert y.cert spelled y.spelled).1 in
     absurd (certs_fail fail unique b h y.cert fs f v (subst (λ c. HasCheckFault b h c f) same h') y.accepted)
-text_answers_are_one fail unique certs faults faultless checks b h k answers text (Err _) (Err _) v (of_text f h')
-    (of_text g k') = ap (λ (l : CertFault). Err (refusal.Text l)) (faults k answers text f g h' k')
-text_answers_are_one fail unique certs faults faultless checks b h k answers text (Err _) (Err _) v (of_text f h')
-    (of_cert cert g spelled k') = absurd (faultless k answers text cert f spelled h')
-text_answers_are_one fail unique certs faults faultless checks b h k answers text (Err _) (Err _) v
-    (of_cert cert f spelled h') (of_text g k') = absurd (faultless k answers text cert g spelled k')
-text_answers_are_one fail unique certs faults faultless checks b h k answers text (Err _) (Err _) v
+text_answers_are_one fail unique certs faults faultless checks b h format text (Err _) (Err _) v (of_text f h')
+    (of_text g k') = ap (λ (l : CertFault). Err (refusal.Text l)) (faults format text f g h' k')
+text_answers_are_one fail unique certs faults faultless checks b h format text (Err _) (Err _) v (of_text f h')
+    (of_cert cert g spelled k') = absurd (faultless format text cert f spelled h')
+text_answers_are_one fail unique certs faults faultless checks b h format text (Err _) (Err _) v
+    (of_cert cert f spelled h') (of_text g k') = absurd (faultless format text cert g spelled k')
+text_answers_are_one fail unique certs faults faultless checks b h format text (Err _) (Err _) v
     (of_cert cert f spelled h') (of_cert other g spelled' k') =
-    let same = (certs k k answers answers text cert other spelled spelled').2 in
+    let same = (certs format format text cert other spelled spelled').1 in
     ap (λ (l : CheckFault). Err (refusal.Check l))
     (checks b h other f g v (subst (λ c. HasCheckFault b h c f) same h') k')

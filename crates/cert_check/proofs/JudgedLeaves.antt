@@ -12,9 +12,9 @@ use Rattle.error_bound.specs.{Boxes.IsBoxOf, Faults.EachLeafIsJudged, Laws.TermE
 use Rattle.error_bound.specs.Leaves.{IsPairFor, rule_at, concludes_some}
 use Rattle.error_bound.specs.{Bounds.bound, TightLaws.EachBoxHasATightCount, Matters.narrowed}
 use Rattle.error_bound.specs.Tight.{IsTightBound, IsTightCount, of_bound, of_none, silent, sure}
-use Rattle.box_tree.specs.declared.{cert.CertKind.CertKind, cert.LeafForm.LeafForm}
+use Rattle.box_tree.specs.declared.{cert.CertKind.CertKind, cert.LeafLine.LeafLine}
 use Rattle.box_tree.specs.declared.cert.CertKind.TheVariants as kind
-use Rattle.box_tree.specs.declared.cert.LeafForm.TheVariants as form
+use Rattle.box_tree.specs.declared.cert.LeafLine.TheVariants as leaf_line
 use Rattle.box_tree.specs.Certificates.{IsLeaf, IsPair}
 use Rattle.cell_bounds.specs.CellBounds.{EachBoxHasACellsBound, cell_count}
 use Rattle.cell_bounds.specs.{declared.claims.Claim.Claim, Claims.HasClaimBound}
@@ -123,13 +123,13 @@ module _ (b : Block) (h : ℕ) (box : List Interval) (valid : IsValid b) (is : I
 -- ---- of a leaf's line
 
 -- what the line says of an output
-record IsSaid (form : LeafForm) (k : ℕ) : Type 0 where
+record IsSaid (stated : LeafLine) (k : ℕ) : Type 0 where
   claim : Claim
-  claim_is : claim_at form k ≡ Some claim
+  claim_is : claim_at stated k ≡ Some claim
   good : IsGood claim
 
-said : (kind : CertKind) (width k : ℕ) (f : LeafForm) → IsLeaf kind width f → k < width → IsSaid f k
-said kind.Named width k (form.Pairs pairs) good few =
+said : (kind : CertKind) (width k : ℕ) (f : LeafLine) → IsLeaf kind width f → k < width → IsSaid f k
+said kind.Named width k (leaf_line.Pairs pairs) good few =
     let count = good.0 in
     let p = some_at pairs.items k (omega (arith, count, few)) in
     record {
@@ -137,12 +137,12 @@ said kind.Named width k (form.Pairs pairs) good few =
       claim_is = ap (option_map (λ (q : ℕ × ℕ). Pair (record { rule = q.0; k = q.1 }))) p.1;
       good = All-slice_get IsPair pairs.items k p.0 good.1 p.1;
     }
-said kind.Tight width k form.Tight good few = record { claim = Tight; claim_is = refl; good = tt }
-said kind.Tight width k form.Cells good few = record { claim = Cells; claim_is = refl; good = tt }
+said kind.Tight width k leaf_line.Tight good few = record { claim = Tight; claim_is = refl; good = tt }
+said kind.Tight width k leaf_line.Cells good few = record { claim = Cells; claim_is = refl; good = tt }
 said k w n f good few = absurd good
 
 module _ (b : Block) (h : ℕ) (kind : CertKind) (p : Part) (valid : IsValid b) (is : IsBoxOf b p.box) (hh : 1 ≤ h)
-    (good : IsLeaf kind (length b.outputs) p.form) (leaves : EachLeafIsJudged) (errors : TermErrorsAre)
+    (good : IsLeaf kind (length b.outputs) p.stated) (leaves : EachLeafIsJudged) (errors : TermErrorsAre)
     (tight : EachBoxHasATightCount) (cells : EachBoxHasACellsBound) where
   -- it has a Bound for each of the first outputs
   abbrev AreBounded : ℕ → Type 0
@@ -162,8 +162,8 @@ module _ (b : Block) (h : ℕ) (kind : CertKind) (p : Part) (valid : IsValid b) 
       let x = some_at b.outputs m (omega (arith, few)) in
       let back : m ≡ suc m - 1 = omega arith in
       let ex : output_at b (suc m) ≡ Some x.0 = subst (λ k. slice_get b.outputs k ≡ Some x.0) back x.1 in
-      let s = said kind (length b.outputs) m p.form good (omega (arith, few)) in
-      let at : claim_at p.form (suc m - 1) ≡ Some s.claim = subst (λ k. claim_at p.form k ≡ Some s.claim) back s.claim_is in
+      let s = said kind (length b.outputs) m p.stated good (omega (arith, few)) in
+      let at : claim_at p.stated (suc m - 1) ≡ Some s.claim = subst (λ k. claim_at p.stated k ≡ Some s.claim) back s.claim_is in
       elim (claim_judged b h p.box valid is hh leaves errors tight cells (suc m) x.0 s.claim ex s.good) [
         | inl (n, allowed, is_bound) ↦
             let here : HasBound b (suc m) x.0 h p n =

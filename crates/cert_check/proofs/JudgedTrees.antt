@@ -9,7 +9,7 @@ use Rattle.fuzzy_meaning.specs.Blocks.{IsValid, output_at}
 use Rattle.error_bound.specs.declared.boxes.Interval.{Interval}
 use Rattle.error_bound.specs.{Boxes.IsBoxOf, Faults.EachLeafIsJudged, Laws.TermErrorsAre}
 use Rattle.error_bound.specs.TightLaws.{EachBoxHasATightCount}
-use Rattle.box_tree.specs.declared.{cert.CertKind.CertKind, cert.LeafForm.LeafForm, cert.Node.Node, cert.Cert.Cert}
+use Rattle.box_tree.specs.declared.{cert.CertKind.CertKind, cert.LeafLine.LeafLine, cert.Node.Node, cert.Cert.Cert}
 use Rattle.box_tree.specs.declared.cert.Node.TheVariants.{Split, Leaf}
 use Rattle.box_tree.specs.{Certificates.IsCert, Certificates.IsNode, Trees.open_from, Laws.EachTextIsJudged}
 use Rattle.cell_bounds.specs.CellBounds.{EachBoxHasACellsBound}
@@ -98,7 +98,7 @@ module _ (b : Block) (h o : ℕ) (x : Output) where
 
 some_leaf : (box : List Interval) (nodes : List Node) (parts : List Part) (rest : List Node) → IsTree box nodes parts rest
     → 0 < length parts
-some_leaf _ _ _ _ (leaf box form rest) = omega arith
+some_leaf _ _ _ _ (leaf box stated rest) = omega arith
 some_leaf _ _ _ _ (split box i c nodes mid rest left right from cut l r) =
     let some = some_leaf (left_of (i - 1) c box) nodes left mid l in
     omega (arith, some, length-append left right)
@@ -190,8 +190,8 @@ module _ (b : Block) (h : ℕ) (kind : CertKind) (valid : IsValid b) (hh : 1 ≤
 
   data IsFaulty (box : List Interval) : List Node → Type 0 where
     of_cut : (i c : ℕ) (rest : List Node) → (IsCut (i - 1) c box → ⊥) → IsFaulty box (Split i c ∷ rest)
-    of_leaf : (form : LeafForm) (rest : List Node)
-        → ((line : ℕ) → (f : CheckFault) × HasPartFault b h (part_of box form) line f) → IsFaulty box (Leaf form ∷ rest)
+    of_leaf : (stated : LeafLine) (rest : List Node)
+        → ((line : ℕ) → (f : CheckFault) × HasPartFault b h (part_of box stated) line f) → IsFaulty box (Leaf stated ∷ rest)
 
   record HasFailed (box : List Interval) (nodes : List Node) : Type 0 where
     found : List Interval
@@ -204,30 +204,30 @@ module _ (b : Block) (h : ℕ) (kind : CertKind) (valid : IsValid b) (hh : 1 ≤
       (n : ℕ) (box : List Interval) (nodes : List Node) → length nodes ≤ room → open_from (suc n) nodes ≡ Some 0
       → All IsGoodNode nodes → IsBoxOf b box → IsWalked n box nodes ⊎ HasFailed box nodes
 
-  leaf_walked : (n : ℕ) (box : List Interval) (form : LeafForm) (nodes : List Node)
-      → open_from n nodes ≡ Some 0 → All IsGoodNode (Leaf form ∷ nodes) → IsBoxOf b box
-      → IsWalked n box (Leaf form ∷ nodes) ⊎ HasFailed box (Leaf form ∷ nodes)
-  leaf_walked n box form nodes opens all is =
-      elim (part_judged b h kind (part_of box form) valid is hh (all 0 (Leaf form) (omega arith)) leaves errors tight
+  leaf_walked : (n : ℕ) (box : List Interval) (stated : LeafLine) (nodes : List Node)
+      → open_from n nodes ≡ Some 0 → All IsGoodNode (Leaf stated ∷ nodes) → IsBoxOf b box
+      → IsWalked n box (Leaf stated ∷ nodes) ⊎ HasFailed box (Leaf stated ∷ nodes)
+  leaf_walked n box stated nodes opens all is =
+      elim (part_judged b h kind (part_of box stated) valid is hh (all 0 (Leaf stated) (omega arith)) leaves errors tight
       cells) [
         | inl (holds, bounds) ↦ inl (record {
-          parts = part_of box form ∷ [];
+          parts = part_of box stated ∷ [];
           mid = nodes;
-          is_tree = leaf box form nodes;
-          good = one_of IsGood (part_of box form) (record {
+          is_tree = leaf box stated nodes;
+          good = one_of IsGood (part_of box stated) (record {
             holds = holds;
             bounds = λ o x from ex.
                 let l = slice_get_within b.outputs (o - 1) x ex in bounds o x from (omega (arith, from, l)) ex;
           });
           opens = opens;
-          good_nodes = All-tail IsGoodNode (Leaf form) nodes all;
+          good_nodes = All-tail IsGoodNode (Leaf stated) nodes all;
           shorter = omega arith;
         })
         | inr faulty ↦ inr (record {
           found = box;
-          rest = Leaf form ∷ nodes;
-          reached = root box (Leaf form ∷ nodes);
-          faulty = of_leaf form nodes faulty;
+          rest = Leaf stated ∷ nodes;
+          reached = root box (Leaf stated ∷ nodes);
+          faulty = of_leaf stated nodes faulty;
         })
       ]
 
@@ -310,7 +310,7 @@ module _ (b : Block) (h : ℕ) (kind : CertKind) (valid : IsValid b) (hh : 1 ≤
   walk zero n box (node ∷ nodes) few opens all is = absurd (omega (arith, few))
   walk (suc room) n box (Split i c ∷ nodes) few opens all is =
       split_walked room (walk room) n i c box nodes (omega (arith, few)) opens all is
-  walk (suc room) n box (Leaf form ∷ nodes) few opens all is = leaf_walked n box form nodes opens all is
+  walk (suc room) n box (Leaf stated ∷ nodes) few opens all is = leaf_walked n box stated nodes opens all is
 
   -- ---- the whole tree
 
@@ -330,9 +330,9 @@ module _ (b : Block) (h : ℕ) (kind : CertKind) (valid : IsValid b) (hh : 1 ≤
         fault.BadCut (line_at cert.nodes (Split i c ∷ rest)),
         tree (fault.BadCut (line_at cert.nodes (Split i c ∷ rest))) count (bad_cut f.found i c rest reached none),
       )
-      by_node _ reached (of_leaf form rest has) =
-          let line = line_at cert.nodes (Leaf form ∷ rest) in
-          inr ((has line).0, tree (has line).0 count (bad_leaf f.found form rest (has line).0 reached (has line).1))
+      by_node _ reached (of_leaf stated rest has) =
+          let line = line_at cert.nodes (Leaf stated ∷ rest) in
+          inr ((has line).0, tree (has line).0 count (bad_leaf f.found stated rest (has line).0 reached (has line).1))
 
   walked : (cert : Cert) → length cert.claims ≡ length b.outputs → IsWalked 0 (whole b) cert.nodes → IsJudged cert
   walked cert count w =
@@ -370,9 +370,9 @@ certs_judged leaves errors tight cells b h kind cert valid hh good =
     judged b h kind valid hh leaves errors tight cells cert good
 
 pub texts_judged : EachTextIsJudged → EachCertIsJudged → EachCertTextIsJudged
-texts_judged texts certs b h kind answers text valid hh = elim (texts kind answers text) [
+texts_judged texts certs b h format text valid hh = elim (texts format text) [
   | inr (f, has) ↦ (Err (refusal.Text f), of_text f has)
-  | inl (cert, spelled) ↦ elim (certs b h kind cert valid hh spelled.good) [
+  | inl (cert, spelled) ↦ elim (certs b h format.kind cert valid hh spelled.good) [
     | inl (errors, accepted) ↦ (Ok errors, record { cert = cert; spelled = spelled; accepted = accepted })
     | inr (f, has) ↦ (Err (refusal.Check f), of_cert cert f spelled has)
   ]

@@ -21,7 +21,7 @@ use Rattle.cert_check.specs.{Acceptance.claim_at, Acceptance.IsAllowed, Acceptan
 use Rattle.cert_check.specs.declared.checker.CheckFault.{CheckFault}
 use Rattle.arrayvec.specs.ArrayVec.{ArrayVec}
 use Rattle.error_bound.specs.declared.boxes.Leaf as the
-use Rattle.box_tree.specs.declared.cert.LeafForm.TheVariants as form
+use Rattle.box_tree.specs.declared.cert.LeafLine.TheVariants as leaf_line
 use Rattle.cert_check.specs.declared.checker.CheckFault.TheVariants as fault
 
 pub IfSome-at : {X : Type 0} (P : X → Type 0) {q : Option X} {x : X} → q ≡ Some x → IfSome q P → P x
@@ -44,7 +44,7 @@ claim_holds b h box o x Cells n out may bound =
     (may, IfSome-from (λ y. (m : ℕ) × CellsAreWithin b box o y h m) out (n, bound.within))
 
 pub bound_holds : (b : Block) (h : ℕ) (p : Part) (o : ℕ) (x : Output) (n : ℕ) (claim : Claim) → output_at b o ≡ Some x
-    → claim_at p.form (o - 1) ≡ Some claim → HasBound b o x h p n → ClaimHolds b h p.box o claim
+    → claim_at p.stated (o - 1) ≡ Some claim → HasBound b o x h p n → ClaimHolds b h p.box o claim
 bound_holds b h p o x n claim out at bound =
     subst (ClaimHolds b h p.box o) (one_claim bound.claim_is at)
     (claim_holds b h p.box o x bound.claim n out bound.allowed bound.bound_is)
@@ -99,7 +99,7 @@ claim_fails fail b h box o x line Cells f out fault holds = cells_fail b h box o
 
 pub bound_fails : FaultyLeavesFail
     → (b : Block) (h : ℕ) (p : Part) (o : ℕ) (x : Output) (n line : ℕ) (claim : Claim) (f : CheckFault)
-    → output_at b o ≡ Some x → claim_at p.form (o - 1) ≡ Some claim → IsClaimFault b h p.box o line claim f
+    → output_at b o ≡ Some x → claim_at p.stated (o - 1) ≡ Some claim → IsClaimFault b h p.box o line claim f
     → HasBound b o x h p n → ⊥
 bound_fails fail b h p o x n line claim f out at fault bound =
     claim_fails fail b h p.box o x line claim f out fault (bound_holds b h p o x n claim out at bound)
@@ -127,7 +127,7 @@ module _ (b : Block) (h : ℕ) (p : Part) (bounds : List ℕ) (k : ℕ)
 
   -- the next is at fault
   pub HasPartFault-next : (line : ℕ) (claim : Claim) (f : CheckFault) → k < length b.outputs
-      → claim_at p.form (k + 1 - 1) ≡ Some claim → IsClaimFault b h p.box (k + 1) line claim f
+      → claim_at p.stated (k + 1 - 1) ≡ Some claim → IsClaimFault b h p.box (k + 1) line claim f
       → HasPartFault b h p line f
   HasPartFault-next line claim f within at is = record {
     output = k + 1;
@@ -154,7 +154,7 @@ module _ (b : Block) (h : ℕ) (box : List Interval) (pairs : ArrayVec (ℕ × �
   abbrev pair_here : Leaf
   pair_here = record { rule = (get_or slice k (0, 0)).0; k = (get_or slice k (0, 0)).1 }
 
-  pub pair_is : claim_at (form.Pairs pairs) (k + 1 - 1) ≡ Some (Pair pair_here)
+  pub pair_is : claim_at (leaf_line.Pairs pairs) (k + 1 - 1) ≡ Some (Pair pair_here)
   pair_is =
       let place : k ≡ k + 1 - 1 = omega arith in
       let there : slice_get pairs.items k ≡ Some (get_or slice k (0, 0)) =
@@ -165,7 +165,7 @@ module _ (b : Block) (h : ℕ) (box : List Interval) (pairs : ArrayVec (ℕ × �
 
   pub has_pair_bound : (n : ℕ) → Holds b box (k + 1) pair_here
       → IfSome (output_at b (k + 1)) (λ x. IsBound b box (k + 1) x h pair_here n) → (x : Output)
-      → slice_get b.outputs k ≡ Some x → IsBoundAt b h (part_of box (form.Pairs pairs)) k x n
+      → slice_get b.outputs k ≡ Some x → IsBoundAt b h (part_of box (leaf_line.Pairs pairs)) k x n
   has_pair_bound n holds bound x e = record {
     claim = Pair pair_here;
     claim_is = pair_is;
@@ -177,7 +177,7 @@ module _ (b : Block) (h : ℕ) (box : List Interval) (pairs : ArrayVec (ℕ × �
 
 pub has_tight_bound : (b : Block) (h : ℕ) (box : List Interval) (k n : ℕ)
     → IfSome (output_at b (k + 1)) (λ x. IsTightBound b box (k + 1) x h n) → (x : Output)
-    → slice_get b.outputs k ≡ Some x → IsBoundAt b h (part_of box form.Tight) k x n
+    → slice_get b.outputs k ≡ Some x → IsBoundAt b h (part_of box leaf_line.Tight) k x n
 has_tight_bound b h box k n bound x e = record {
   claim = Tight;
   claim_is = refl;
@@ -202,7 +202,7 @@ pub has_cells_bounds : (b : Block) (h : ℕ) (box : List Interval) (bounds : Lis
     → cell_count (narrowed b box) ≤ 64 → StandForAll b h box
     → ((k : ℕ) → k < length b.outputs → IfSome (output_at b (k + 1))
     (λ x. IsCellsBound b (narrowed b box) (k + 1) x h (slice_index bounds k)))
-    → AreBounds b h (part_of box form.Cells) bounds
+    → AreBounds b h (part_of box leaf_line.Cells) bounds
 has_cells_bounds b h box bounds few stand are k x e = record {
   claim = Cells;
   claim_is = refl;
@@ -213,7 +213,7 @@ has_cells_bounds b h box bounds few stand are k x e = record {
 }
 
 pub too_many_cells : (b : Block) (h : ℕ) (box : List Interval) (line : ℕ) → 1 ≤ length b.outputs
-    → (cell_count (narrowed b box) ≤ 64 → ⊥) → HasPartFault b h (part_of box form.Cells) line (fault.TooManyCells line)
+    → (cell_count (narrowed b box) ≤ 64 → ⊥) → HasPartFault b h (part_of box leaf_line.Cells) line (fault.TooManyCells line)
 too_many_cells b h box line some many = record {
   output = 1;
   from = omega arith;
@@ -225,7 +225,7 @@ too_many_cells b h box line some many = record {
 }
 
 pub unsure_cell : (b : Block) (h : ℕ) (box : List Interval) (line o : ℕ)
-    → cell_count (narrowed b box) ≤ 64 → IsFirstUnsure b h box o → HasPartFault b h (part_of box form.Cells) line (fault.Unsure line o)
+    → cell_count (narrowed b box) ≤ 64 → IsFirstUnsure b h box o → HasPartFault b h (part_of box leaf_line.Cells) line (fault.Unsure line o)
 unsure_cell b h box line o few first = record {
   output = o;
   from = first.from;

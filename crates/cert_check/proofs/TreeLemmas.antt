@@ -6,7 +6,7 @@ use Rattle.std.specs.Prelude.{slice_get, set, nat_le, if◌then◌else◌, All}
 use Rattle.fuzzy_meaning.specs.{declared.block.Block.Block, declared.block.Input.Input}
 use Rattle.error_bound.specs.{declared.boxes.Interval.Interval, Boxes.IsBox, Boxes.IsBoxOf, Boxes.LieIn}
 use Rattle.cert_check.specs.Trees.{left_of, right_of, IsCut, whole, lies, Part, IsTree, leaf, split, leaves_with}
-use Rattle.cert_check.specs.BoxLaws.{CutsHaveHalves, LeavesAreAround, IsFormOf, IsNodeOf}
+use Rattle.cert_check.specs.BoxLaws.{CutsHaveHalves, LeavesAreAround, IsLineOf, IsNodeOf}
 use Rattle.cert_check.specs.{Laws.OneLeafHasTheBytes, Acceptance.HasBound}
 use Rattle.box_tree.specs.declared.cert.Node.TheVariants.{Split, Leaf}
 use Rattle.box_tree.specs.{declared.cert.CertKind.CertKind, declared.cert.Node.Node}
@@ -152,7 +152,7 @@ cut_num (b ∷ bs) (suc k) c (s ∷ ss) h =
 -- as many leaves hold the bytes as the box does: one, or none
 covers : (bs : List ℕ) (box : List Interval) (nodes rest : List Node) (parts : List Part) → IsTree box nodes parts rest
     → leaves_with bs parts ≡ num (lies bs box)
-covers bs box nodes rest parts (leaf box' form rest') = omega arith
+covers bs box nodes rest parts (leaf box' stated rest') = omega arith
 covers bs box nodes rest parts (split box' i c nodes' mid rest' left right h cut l r) =
     let a = covers bs (left_of (i - 1) c box') nodes' mid left l in
     let b = covers bs (right_of (i - 1) c box') mid rest' right r in
@@ -225,7 +225,7 @@ whole_is b = record { count = map_count b.inputs; intervals = IsBox-whole b.inpu
 
 pub boxes_are : (b : Block) (box : List Interval) (nodes : List Node) (parts : List Part) (rest : List Node)
     → IsTree box nodes parts rest → IsBoxOf b box → All (λ p. IsBoxOf b p.box) parts
-boxes_are b _ _ _ _ (leaf box form rest) is = one_of (λ p. IsBoxOf b p.box) (record { box = box; form = form }) is
+boxes_are b _ _ _ _ (leaf box stated rest) is = one_of (λ p. IsBoxOf b p.box) (record { box = box; stated = stated }) is
 boxes_are b _ _ _ _ (split box i c nodes mid rest left right from cut l r) is =
     All-append (λ p. IsBoxOf b p.box) left right
     (boxes_are b (left_of (i - 1) c box) nodes left mid l
@@ -246,19 +246,19 @@ pub All-tail : {X : Type 0} (P : X → Type 0) (x : X) (xs : List X) → All P (
 All-tail P x xs all k d l = all (suc k) d (omega arith)
 
 leaves_are : (P : Node → Type 0) (box : List Interval) (nodes : List Node) (parts : List Part) (rest : List Node)
-    → IsTree box nodes parts rest → All P nodes → All (λ p. P (Leaf p.form)) parts × All P rest
-leaves_are P _ _ _ _ (leaf box form rest) all = (
-  one_of (λ (p : Part). P (Leaf p.form)) (record { box = box; form = form }) (all 0 (Leaf form) (omega arith)),
-  All-tail P (Leaf form) rest all,
+    → IsTree box nodes parts rest → All P nodes → All (λ p. P (Leaf p.stated)) parts × All P rest
+leaves_are P _ _ _ _ (leaf box stated rest) all = (
+  one_of (λ (p : Part). P (Leaf p.stated)) (record { box = box; stated = stated }) (all 0 (Leaf stated) (omega arith)),
+  All-tail P (Leaf stated) rest all,
 )
 leaves_are P _ _ _ _ (split box i c nodes mid rest left right from cut l r) all =
     let lower = leaves_are P (left_of (i - 1) c box) nodes left mid l (All-tail P (Split i c) nodes all) in
     let upper = leaves_are P (right_of (i - 1) c box) mid right rest r lower.1 in
-    (All-append (λ (p : Part). P (Leaf p.form)) left right lower.0 upper.0, upper.1)
+    (All-append (λ (p : Part). P (Leaf p.stated)) left right lower.0 upper.0, upper.1)
 
-pub forms_are : (P : Node → Type 0) (box : List Interval) (nodes : List Node) (parts : List Part) (rest : List Node)
-    → IsTree box nodes parts rest → All P nodes → All (λ p. P (Leaf p.form)) parts
-forms_are P box nodes parts rest tree all = (leaves_are P box nodes parts rest tree all).0
+pub lines_are : (P : Node → Type 0) (box : List Interval) (nodes : List Node) (parts : List Part) (rest : List Node)
+    → IsTree box nodes parts rest → All P nodes → All (λ p. P (Leaf p.stated)) parts
+lines_are P box nodes parts rest tree all = (leaves_are P box nodes parts rest tree all).0
 
 -- ---- the halves of a box, and the leaf around a list of bytes
 
@@ -290,7 +290,7 @@ leaf_around b h cert errors o x e bytes a from ex ee count small =
     let l = lies_whole b.inputs bytes count small in
     let one = one_leaf (whole b) cert.nodes [] a.parts bytes a.tree l in
     let P : Part → Type 0 = λ p. IsBoxOf b p.box
-    × (((k : CertKind) → All (IsNodeOf k) cert.nodes → IsFormOf k p.form)
+    × (((k : CertKind) → All (IsNodeOf k) cert.nodes → IsLineOf k p.stated)
     × ((n : ℕ) × HasBound b o x h p n × (n ≤ e))) in
     let boxes = boxes_are b (whole b) cert.nodes a.parts [] a.tree (whole_is b) in
     let each = (a.greatest o x e from ex ee).each in
@@ -298,7 +298,7 @@ leaf_around b h cert errors o x e bytes a from ex ee count small =
       boxes k d l,
       (
         λ kind all.
-            forms_are (IsNodeOf kind) (whole b) cert.nodes a.parts [] a.tree all k d l,
+            lines_are (IsNodeOf kind) (whole b) cert.nodes a.parts [] a.tree all k d l,
         each k d l,
       ),
     )) in
@@ -306,7 +306,7 @@ leaf_around b h cert errors o x e bytes a from ex ee count small =
     let around = LieIn-lies bytes p.0.box p.1 in
     record {
       box = p.0.box;
-      form = p.0.form;
+      stated = p.0.stated;
       claim = bound.claim;
       bound = p.2.1.1.0;
       count = sym around.count ∙ count;

@@ -11,7 +11,7 @@ use Rattle.fuzzy_meaning.specs.{declared.block.Output.Output, declared.block.Blo
 use Rattle.error_bound.specs.{declared.boxes.Interval.Interval, declared.boxes.ByteBox.ByteBox, Boxes.IsBoxOf}
 use Rattle.box_tree.specs.Certificates.{IsLeaf, IsNode, IsCut as IsNodeCut}
 use Rattle.box_tree.specs.declared.cert.Node.TheVariants.{Split, Leaf}
-use Rattle.box_tree.specs.{declared.cert.LeafForm.LeafForm, declared.cert.CertKind.CertKind, declared.cert.Node.Node}
+use Rattle.box_tree.specs.{declared.cert.LeafLine.LeafLine, declared.cert.CertKind.CertKind, declared.cert.Node.Node}
 use Rattle.box_tree.specs.{Trees.open_from, Trees.leaf_count, Laws.OpenBoxesGoOn}
 use Rattle.cert_check.specs.Faults.{AllHold, HasPartFault, AreClaimed, HasCheckFault, Reaches, line_at, root, in_left}
 use Rattle.cert_check.specs.Walks.{stack_of, Raises, cuts_of, AreCutOut, AreTrees, AreReached, IsGreatestSoFar}
@@ -61,11 +61,11 @@ reached_split b h box boxes i c nodes found rest some cut (inr (ps, mid, t, hold
       more,
     )
 
-reached_leaf : (b : Block) (h : ℕ) (box : List Interval) (boxes : List (List Interval)) (form : LeafForm)
-    (nodes : List Node) (found : List Interval) (rest : List Node) → AllHold b h (part_of box form)
-    → AreReached b h boxes nodes found rest → AreReached b h (box ∷ boxes) (Leaf form ∷ nodes) found rest
-reached_leaf b h box boxes form nodes found rest hold more = inr
-    (part_of box form ∷ [], nodes, leaf box form nodes, one_of (AllHold b h) (part_of box form) hold, more)
+reached_leaf : (b : Block) (h : ℕ) (box : List Interval) (boxes : List (List Interval)) (stated : LeafLine)
+    (nodes : List Node) (found : List Interval) (rest : List Node) → AllHold b h (part_of box stated)
+    → AreReached b h boxes nodes found rest → AreReached b h (box ∷ boxes) (Leaf stated ∷ nodes) found rest
+reached_leaf b h box boxes stated nodes found rest hold more = inr
+    (part_of box stated ∷ [], nodes, leaf box stated nodes, one_of (AllHold b h) (part_of box stated) hold, more)
 
 Any-left : {X : Type 0} (P : X → Type 0) (xs ys : List X) → Any P xs → Any P (xs ++ ys)
 Any-left P [] ys (k, x, l, e, p) = absurd (omega arith)
@@ -193,24 +193,24 @@ walked_split b h nodes box boxes errors i c goes_on some cut w =
     }
 
 pub walked_leaf : (b : Block) (h : ℕ) (nodes : List Node) (box : List Interval) (boxes : List (List Interval))
-    (errors new : List ℕ) (form : LeafForm) → OpenBoxesGoOn → Raises b h (part_of box form) errors new
-    → HasWalked b h nodes (box ∷ boxes) errors → HasWalked b h (nodes ++ Leaf form ∷ []) boxes new
-walked_leaf b h nodes box boxes errors new form goes_on raises w =
-    let p = part_of box form in
+    (errors new : List ℕ) (stated : LeafLine) → OpenBoxesGoOn → Raises b h (part_of box stated) errors new
+    → HasWalked b h nodes (box ∷ boxes) errors → HasWalked b h (nodes ++ Leaf stated ∷ []) boxes new
+walked_leaf b h nodes box boxes errors new stated goes_on raises w =
+    let p = part_of box stated in
     let hold = bounds_hold b h p raises.bounds raises.are_bounds in
     record {
       are_boxes = All-tail (IsBoxOf b) box boxes w.are_boxes;
       cut_out = w.cut_out.1;
-      open_count = goes_on 1 (length (box ∷ boxes)) nodes (Leaf form ∷ []) w.open_count;
+      open_count = goes_on 1 (length (box ∷ boxes)) nodes (Leaf stated ∷ []) w.open_count;
       parts = w.parts ++ p ∷ [];
       trees = λ rest ps t. subst (λ ns. AreTrees (whole b ∷ []) ns ((w.parts ++ p ∷ []) ++ ps) [])
-          (sym (append_assoc nodes (Leaf form ∷ []) rest))
-          (subst (λ xs. AreTrees (whole b ∷ []) (nodes ++ Leaf form ∷ rest) xs [])
+          (sym (append_assoc nodes (Leaf stated ∷ []) rest))
+          (subst (λ xs. AreTrees (whole b ∷ []) (nodes ++ Leaf stated ∷ rest) xs [])
           (sym (append_assoc w.parts (p ∷ []) ps))
-          (w.trees (Leaf form ∷ rest) (p ∷ ps) (p ∷ [], ps, rest, leaf box form rest, t, refl)));
+          (w.trees (Leaf stated ∷ rest) (p ∷ ps) (p ∷ [], ps, rest, leaf box stated rest, t, refl)));
       reached = λ rest found after r. subst (λ ns. AreReached b h (whole b ∷ []) ns found after)
-          (sym (append_assoc nodes (Leaf form ∷ []) rest))
-          (w.reached (Leaf form ∷ rest) found after (reached_leaf b h box boxes form rest found after hold r));
+          (sym (append_assoc nodes (Leaf stated ∷ []) rest))
+          (w.reached (Leaf stated ∷ rest) found after (reached_leaf b h box boxes stated rest found after hold r));
       count = raises.raised.count ∙ w.count;
       greatest = λ k x e.
           let within = slice_get_within b.outputs k x e in
@@ -223,7 +223,7 @@ walked_leaf b h nodes box boxes errors new form goes_on raises w =
 
 tree_some : (box : List Interval) (nodes rest : List Node) (parts : List Part) → IsTree box nodes parts rest
     → 1 ≤ length parts
-tree_some box nodes rest parts (leaf x form r) = omega arith
+tree_some box nodes rest parts (leaf x stated r) = omega arith
 tree_some box nodes rest parts (split x i c n m r left right some cut tl tr) =
     let l = tree_some (left_of (i - 1) c x) n m
     left tl in some_more left right l
@@ -295,19 +295,19 @@ module _ (b : Block) (h : ℕ) (claims : List ℕ) (nodes : List Node) (box : Li
       (tree (fault.BadCut (line_at (nodes ++ Split i c ∷ rest) (Split i c ∷ rest))) count
       (bad_cut box i c rest (walked_to b h nodes box boxes errors (Split i c ∷ rest) w) none))
 
-  pub leaf_fault : (form : LeafForm) (f : CheckFault) → HasPartFault b h (part_of box form) line f
-      → HasCheckFault b h (record { claims = claims; nodes = nodes ++ Leaf form ∷ rest }) f
-  leaf_fault form f part =
-      let same = at ∙ sym (line-here nodes rest (Leaf form)) in
-      tree f count (bad_leaf box form rest f (walked_to b h nodes box boxes errors (Leaf form ∷ rest) w)
-      (subst (λ n. HasPartFault b h (part_of box form) n f) same part))
+  pub leaf_fault : (stated : LeafLine) (f : CheckFault) → HasPartFault b h (part_of box stated) line f
+      → HasCheckFault b h (record { claims = claims; nodes = nodes ++ Leaf stated ∷ rest }) f
+  leaf_fault stated f part =
+      let same = at ∙ sym (line-here nodes rest (Leaf stated)) in
+      tree f count (bad_leaf box stated rest f (walked_to b h nodes box boxes errors (Leaf stated ∷ rest) w)
+      (subst (λ n. HasPartFault b h (part_of box stated) n f) same part))
 
 -- as many nodes as leaves and boxes ask for
 nodes_count : (n m : ℕ) (nodes : List Node) → open_from n nodes ≡ Some m → length nodes + n ≡ 2 * leaf_count nodes + m
 nodes_count n m [] e = let s : n ≡ m = cc in omega arith
 nodes_count zero m (node ∷ nodes) e = absurd (let z : ⊥ = cc in z)
 nodes_count (suc n) m (Split i c ∷ nodes) e = let r = nodes_count (suc (suc n)) m nodes e in omega (arith, r)
-nodes_count (suc n) m (Leaf form ∷ nodes) e = let r = nodes_count n m nodes e in omega (arith, r)
+nodes_count (suc n) m (Leaf stated ∷ nodes) e = let r = nodes_count n m nodes e in omega (arith, r)
 
 stack-last : (boxes : List ByteBox) (x : ByteBox) → stack_of (boxes ++ x ∷ []) ≡ x.0.items ∷ stack_of boxes
 stack-last boxes x = ap (λ (xs : List ByteBox). map (λ (y : ByteBox). y.0.items) xs) (reverse-append boxes (x ∷ []))
@@ -319,7 +319,7 @@ stack-pop boxes left x popped = ap stack_of popped ∙ stack-last left x
 pub leaves-front : (nodes more : List Node) → leaf_count nodes ≤ leaf_count (nodes ++ more)
 leaves-front [] more = omega arith
 leaves-front (Split i c ∷ nodes) more = leaves-front nodes more
-leaves-front (Leaf form ∷ nodes) more = let l = leaves-front nodes more in omega (arith, l)
+leaves-front (Leaf stated ∷ nodes) more = let l = leaves-front nodes more in omega (arith, l)
 
 -- the lines of a walk that has met no fault are few
 pub few_lines : (b : Block) (h : ℕ) (nodes more : List Node) (boxes : List (List Interval)) (errors : List ℕ)
@@ -404,40 +404,40 @@ module _ (w : Walk) (bytes : ByteBox) (left : Vec ByteBox) (popped : w.boxes.ite
         (cut_fault w.block.now w.parts w.claims.now nodes bytes.0.items (stack_of left.items) w.errors.items w.line rest
         behind.claims_count behind.line (at_box nodes behind) i c h.1))
 
-  module _ (form : LeafForm) (node : Node) (is : node ≡ Leaf form) where
-    pub form_is_good : (nodes : List Node) → IsBehind nodes w → AreFirst (length w.claims.now) (nodes ++ node ∷ [])
-        → (kind : CertKind) × IsLeaf kind (length w.block.now.outputs) form
-    form_is_good nodes behind first =
+  module _ (stated : LeafLine) (node : Node) (is : node ≡ Leaf stated) where
+    pub line_is_good : (nodes : List Node) → IsBehind nodes w → AreFirst (length w.claims.now) (nodes ++ node ∷ [])
+        → (kind : CertKind) × IsLeaf kind (length w.block.now.outputs) stated
+    line_is_good nodes behind first =
         let good = last_good (length w.claims.now) nodes node first in (
           good.0,
-          subst (λ n. IsLeaf good.0 n form) behind.claims_count
+          subst (λ n. IsLeaf good.0 n stated) behind.claims_count
               (subst (IsNode good.0 (length w.claims.now)) is good.1),
         )
 
     pub leaf_behind : {A : Type 0} (old errors : List ℕ) (r : Result A CheckFault) → OpenBoxesGoOn
         → old ≡ w.errors.items
-        → OnOk r (Raises w.block.now w.parts (part_of bytes.0.items form) old errors)
+        → OnOk r (Raises w.block.now w.parts (part_of bytes.0.items stated) old errors)
         → vec_capacity left ≡ vec_capacity w.boxes
         → OnOk r ((nodes : List Node) → IsBehind nodes w → AreFirst (length w.claims.now) (nodes ++ node ∷ [])
         → IsBehind (nodes ++ node ∷ [])
         (record w { boxes = left; errors = with_items w.errors errors; line = w.line + 1 }))
     leaf_behind old errors (Err f) goes_on held raises room = tt
     leaf_behind old errors (Ok u) goes_on held raises room = λ nodes behind first.
-        let raised : Raises w.block.now w.parts (part_of bytes.0.items form) w.errors.items errors =
-        subst (λ es. Raises w.block.now w.parts (part_of bytes.0.items form) es errors) held raises in
+        let raised : Raises w.block.now w.parts (part_of bytes.0.items stated) w.errors.items errors =
+        subst (λ es. Raises w.block.now w.parts (part_of bytes.0.items stated) es errors) held raises in
         record {
           claims_count = behind.claims_count;
           walked = subst (λ es. HasWalked w.block.now w.parts (nodes ++ node ∷ []) (stack_of left.items) es)
               (sym (with_items_is w.errors errors (raised.raised.count ∙ sym w.errors.ok.0)))
               (subst (λ n. HasWalked w.block.now w.parts (nodes ++ n ∷ []) (stack_of left.items) errors) (sym is)
-              (walked_leaf w.block.now w.parts nodes bytes.0.items (stack_of left.items) w.errors.items errors form
+              (walked_leaf w.block.now w.parts nodes bytes.0.items (stack_of left.items) w.errors.items errors stated
               goes_on raised (at_box nodes behind)));
           line = line_more nodes node w.line behind.line;
           room = let r = behind.room in omega (arith, r, room);
         }
 
     pub fault_met : {A : Type 0} (r : Result A CheckFault)
-        → IfErr r (HasPartFault w.block.now w.parts (part_of bytes.0.items form) w.line)
+        → IfErr r (HasPartFault w.block.now w.parts (part_of bytes.0.items stated) w.line)
         → IfErr r (λ f. (nodes rest : List Node) → IsBehind nodes w
         → AreFirst (length w.claims.now) (nodes ++ node ∷ [])
         → HasCheckFault w.block.now w.parts (cert_over w (nodes ++ node ∷ rest)) f)
@@ -445,7 +445,7 @@ module _ (w : Walk) (bytes : ByteBox) (left : Vec ByteBox) (popped : w.boxes.ite
     fault_met (Err f) h = λ nodes rest behind first.
         subst (λ n. HasCheckFault w.block.now w.parts (cert_over w (nodes ++ n ∷ rest)) f) (sym is)
         (leaf_fault w.block.now w.parts w.claims.now nodes bytes.0.items (stack_of left.items) w.errors.items w.line
-        rest behind.claims_count behind.line (at_box nodes behind) form f h)
+        rest behind.claims_count behind.line (at_box nodes behind) stated f h)
 
 -- where a node may follow, the stack is not empty
 pub none_popped : (w : Walk) (nodes : List Node) (node : Node) → OpenBoxesGoOn → w.boxes.items ≡ [] → IsBehind nodes w

@@ -3,8 +3,8 @@
 use Rattle.std.specs.Prelude.{◌≡◌, ℕ, ◌-◌, ◌<◌, ◌≤◌, List, length, set, All, Some, slice_get}
 use Rattle.fuzzy_meaning.specs.{declared.block.Block.Block, declared.block.Output.Output, Blocks.output_at}
 use Rattle.error_bound.specs.{declared.boxes.Interval.Interval, Boxes.IsBox, Boxes.LieIn}
-use Rattle.box_tree.specs.declared.{cert.Cert.Cert, cert.LeafForm.LeafForm, cert.CertKind.CertKind}
-use Rattle.box_tree.specs.declared.cert.LeafForm.TheVariants.{Pairs, Tight, Cells}
+use Rattle.box_tree.specs.declared.{cert.Cert.Cert, cert.LeafLine.LeafLine, cert.CertKind.CertKind}
+use Rattle.box_tree.specs.declared.cert.LeafLine.TheVariants.{Pairs, Tight, Cells}
 use Rattle.box_tree.specs.declared.cert.CertKind.TheVariants as kind
 use Rattle.box_tree.specs.declared.{cert.Node.Node, cert.Node.TheVariants.Split, cert.Node.TheVariants.Leaf}
 use Rattle.cell_bounds.specs.{declared.claims.Claim.Claim, Claims.HasClaimBound}
@@ -24,29 +24,29 @@ CutsHaveHalves =
     → HasHalves box k c v
 
 -- the lines of leaves in certificates of a kind
-abbrev pub IsFormOf : CertKind → LeafForm → Type 0
-IsFormOf kind.Named (Pairs pairs) = Unit {0}
-IsFormOf kind.Tight Tight = Unit {0}
-IsFormOf kind.Tight Cells = Unit {0}
-IsFormOf k form = ⊥
+abbrev pub IsLineOf : CertKind → LeafLine → Type 0
+IsLineOf kind.Named (Pairs pairs) = Unit {0}
+IsLineOf kind.Tight Tight = Unit {0}
+IsLineOf kind.Tight Cells = Unit {0}
+IsLineOf k stated = ⊥
 
 -- and the nodes
 abbrev pub IsNodeOf : CertKind → Node → Type 0
 IsNodeOf k (Split input cut) = Unit {0}
-IsNodeOf k (Leaf form) = IsFormOf k form
+IsNodeOf k (Leaf stated) = IsLineOf k stated
 
 -- one of the leaves is around the bytes: what it says of output o holds, with a Bound of at most e
 pub record IsLeafAround (b : Block) (h : ℕ) (nodes : List Node) (bytes : List ℕ) (o : ℕ) (x : Output) (e : ℕ) : Type 0
   where
     pub box : List Interval
-    pub form : LeafForm
+    pub stated : LeafLine
     pub claim : Claim
     pub bound : ℕ
     pub count : length box ≡ length b.inputs
     pub is_box : IsBox box
     pub around : LieIn box bytes
-    pub of_kind : (k : CertKind) → All (IsNodeOf k) nodes → IsFormOf k form
-    pub claim_is : claim_at form (o - 1) ≡ Some claim
+    pub of_kind : (k : CertKind) → All (IsNodeOf k) nodes → IsLineOf k stated
+    pub claim_is : claim_at stated (o - 1) ≡ Some claim
     pub bound_is : HasClaimBound b box o x h claim bound
     pub within : bound ≤ e
 

@@ -2,7 +2,7 @@
 -- Beside the promise.
 use Rattle.std.specs.Prelude.{ℕ, [], ◌∷◌}
 use Rattle.fuzzy_meaning.specs.Examples.{heater, latch}
-use Rattle.box_tree.specs.declared.{cert.Cert.Cert, cert.LeafForm.TheVariants.Pairs, cert.Node.Node}
+use Rattle.box_tree.specs.declared.{cert.Cert.Cert, cert.LeafLine.TheVariants.Pairs, cert.Node.Node}
 use Rattle.box_tree.specs.declared.cert.Node.TheVariants.{Split, Leaf}
 use Rattle.cert_check.specs.Acceptance.{IsAccepted}
 

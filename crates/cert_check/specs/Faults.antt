@@ -7,7 +7,7 @@ use Rattle.error_bound.specs.declared.boxes.Leaf as the
 use Rattle.error_bound.specs.declared.boxes.LeafFault.{LeafFault}
 use Rattle.error_bound.specs.{Leaves.Holds, Leaves.IsPairFor, Faults.HasLeafFault, Tight.IsTightBound}
 use Rattle.error_bound.specs.Matters.{narrowed}
-use Rattle.box_tree.specs.declared.{cert.LeafForm.LeafForm, cert.Node.Node, cert.Cert.Cert}
+use Rattle.box_tree.specs.declared.{cert.LeafLine.LeafLine, cert.Node.Node, cert.Cert.Cert}
 use Rattle.box_tree.specs.declared.cert.Node.TheVariants.{Split, Leaf}
 use Rattle.cell_bounds.specs.declared.claims.Claim.{Claim}
 use Rattle.cell_bounds.specs.declared.claims.Claim.TheVariants.{Pair, Tight, Cells}
@@ -27,7 +27,7 @@ ClaimHolds b h box o Cells =
 -- what a leaf says of the outputs before number o holds
 abbrev pub HoldBefore : Block → ℕ → Part → ℕ → Type 0
 HoldBefore b h p o =
-    (n : ℕ) (claim : Claim) → 1 ≤ n → n < o → claim_at p.form (n - 1) ≡ Some claim → ClaimHolds b h p.box n claim
+    (n : ℕ) (claim : Claim) → 1 ≤ n → n < o → claim_at p.stated (n - 1) ≡ Some claim → ClaimHolds b h p.box n claim
 
 abbrev pub AllHold : Block → ℕ → Part → Type 0
 AllHold b h p = HoldBefore b h p (length b.outputs + 1)
@@ -73,7 +73,7 @@ pub record HasPartFault (b : Block) (h : ℕ) (p : Part) (line : ℕ) (f : Check
   pub from : 1 ≤ output
   pub to : output ≤ length b.outputs
   pub claim : Claim
-  pub claim_is : claim_at p.form (output - 1) ≡ Some claim
+  pub claim_is : claim_at p.stated (output - 1) ≡ Some claim
   pub before : HoldBefore b h p output
   pub is : IsClaimFault b h p.box output line claim f
 
@@ -82,9 +82,9 @@ pub data HasTreeFault (b : Block) (h : ℕ) (nodes : List Node) : CheckFault →
   bad_cut : (box : List Interval) (i c : ℕ) (rest : List Node) → Reaches b h (whole b) nodes box (Split i c ∷ rest)
       → (IsCut (i - 1) c box → ⊥)
       → HasTreeFault b h nodes (fault.BadCut (line_at nodes (Split i c ∷ rest)))
-  bad_leaf : (box : List Interval) (form : LeafForm) (rest : List Node) (f : CheckFault)
-      → Reaches b h (whole b) nodes box (Leaf form ∷ rest)
-      → HasPartFault b h (part_of box form) (line_at nodes (Leaf form ∷ rest)) f
+  bad_leaf : (box : List Interval) (stated : LeafLine) (rest : List Node) (f : CheckFault)
+      → Reaches b h (whole b) nodes box (Leaf stated ∷ rest)
+      → HasPartFault b h (part_of box stated) (line_at nodes (Leaf stated ∷ rest)) f
       → HasTreeFault b h nodes f
 
 -- no error is greater than its claim

@@ -1,6 +1,7 @@
 -- What an accepted certificate says.
 -- Beside the promise.
-use Rattle.std.specs.Prelude.{◌≡◌, ◌≢◌, ◌⊎◌, ℕ, ◌-◌, ◌≤◌, true, List, [], ◌++◌, map, fold, All, Some, slice_get, Result, Ok}
+use Rattle.std.specs.Prelude.{◌≡◌, ◌≢◌, ◌⊎◌, ℕ, ◌-◌, ◌≤◌, true, List, [], ◌++◌, map, fold, All, Some, slice_get, Result}
+use Rattle.std.specs.Prelude.{Ok}
 use Rattle.std.specs.Prelude.{Err, None}
 use Rattle.fz_num.specs.{declared.dec.Dec.Dec, Decimals.distance, Fractions.IsClose}
 use Rattle.fuzzy_meaning.specs.declared.{block.Block.Block, block.Output.Output}
@@ -8,13 +9,13 @@ use Rattle.fuzzy_meaning.specs.{Blocks.IsValid, Blocks.AreInputs, Blocks.output_
 use Rattle.byte_scaling.specs.Cells.{bytes_of, value_in}
 use Rattle.point_slope.specs.Bytes.{answer_in}
 use Rattle.error_bound.specs.declared.boxes.Interval.{Interval}
-use Rattle.box_tree.specs.declared.cert.CertKind.{CertKind}
+use Rattle.box_tree.specs.declared.{cert.CertFormat.CertFormat, cert.CertKind.CertKind}
 use Rattle.box_tree.specs.declared.cert.CertKind.TheVariants as kind
 use Rattle.byte_scaling.specs.declared.{width.Width.Width, width.Width.TheVariants.Byte, width.Width.TheVariants.Word}
-use Rattle.box_tree.specs.declared.{cert.LeafForm.LeafForm, cert.Node.Node}
-use Rattle.box_tree.specs.declared.cert.LeafForm.TheVariants.{Pairs, Tight, Cells}
+use Rattle.box_tree.specs.declared.{cert.LeafLine.LeafLine, cert.Node.Node}
+use Rattle.box_tree.specs.declared.cert.LeafLine.TheVariants.{Pairs, Tight, Cells}
 use Rattle.box_tree.specs.declared.{cert.Node.TheVariants.Split, cert.Node.TheVariants.Leaf, cert.Cert.Cert}
-use Rattle.box_tree.specs.{Certificates.IsCert, Texts.version_line, Texts.lines_of}
+use Rattle.box_tree.specs.{Certificates.IsCert, Texts.format_of, Texts.lines_of, Texts.version_line}
 use Rattle.cert_check.specs.{Trees.Part, Trees.IsTree, Trees.lies, Trees.leaves_with, Trees.whole}
 use Rattle.cert_check.specs.Acceptance.{HasBound, IsAccepted}
 use Rattle.cert_check.specs.{Faults.HasCheckFault, TextFaults.IsAcceptedText, TextFaults.HasTextFault}
@@ -70,18 +71,19 @@ WideIsAccepted =
 abbrev pub WideTextsAreAccepted : Type 0
 WideTextsAreAccepted =
     (b : Block) (k : CertKind) (rest es : List ℕ) → IsValid b
-    → (a : IsAcceptedText b 1 k Byte (version_line k Byte ++ rest) es) → HasNoCells a.cert
-    → (fs : List ℕ) × IsAcceptedText b 256 k Word (version_line k Word ++ rest) fs × AreNoHigher es fs
+    → (a : IsAcceptedText b 1 (format_of k Byte) (version_line (format_of k Byte) ++ rest) es) → HasNoCells a.cert
+    → (fs : List ℕ) × IsAcceptedText b 256 (format_of k Word) (version_line (format_of k Word) ++ rest) fs
+    × AreNoHigher es fs
 
 -- a leaf that names rules becomes the word alone
-abbrev pub tight_form : LeafForm → LeafForm
-tight_form (Pairs pairs) = Tight
-tight_form Tight = Tight
-tight_form Cells = Cells
+abbrev pub tight_line : LeafLine → LeafLine
+tight_line (Pairs pairs) = Tight
+tight_line Tight = Tight
+tight_line Cells = Cells
 
 abbrev pub tight_node : Node → Node
 tight_node (Split input cut) = Split input cut
-tight_node (Leaf form) = Leaf (tight_form form)
+tight_node (Leaf stated) = Leaf (tight_line stated)
 
 abbrev pub tight_cert : Cert → Cert
 tight_cert cert = record { claims = cert.claims; nodes = map tight_node cert.nodes }
@@ -95,11 +97,10 @@ TightIsAccepted =
 -- and so is the text of one that names rules when the first line is changed, and each leaf becomes the word alone
 abbrev pub TightTextsAreAccepted : Type 0
 TightTextsAreAccepted =
-    (b : Block) (h : ℕ) (answers : Width) (text es : List ℕ) → IsValid b → 1 ≤ h
-    → (a : IsAcceptedText b h kind.Named answers text es)
-    → (fs : List ℕ)
-    × IsAcceptedText b h kind.Tight answers (lines_of kind.Tight answers a.cert.claims (map tight_node a.cert.nodes)) fs
-    × AreNoHigher es fs
+    (b : Block) (h : ℕ) (width : Width) (text es : List ℕ) → IsValid b → 1 ≤ h
+    → (a : IsAcceptedText b h (format_of kind.Named width) text es)
+    → (fs : List ℕ) × IsAcceptedText b h (format_of kind.Tight width)
+    (lines_of (format_of kind.Tight width) a.cert.claims (map tight_node a.cert.nodes)) fs × AreNoHigher es fs
 
 -- a certificate with a fault is not accepted
 abbrev pub FaultyCertsFail : Type 0
@@ -127,18 +128,18 @@ BoundedTreesAreAccepted =
     → (errors : List ℕ) × IsAccepted b h (record { claims = errors; nodes = nodes }) errors
 
 -- the errors that a text is accepted with, or why it is refused
-abbrev pub IsTextAnswer : Block → ℕ → CertKind → Width → List ℕ → Result (List ℕ) TextFault → Type 0
-IsTextAnswer b h k answers text (Ok errors) = IsAcceptedText b h k answers text errors
-IsTextAnswer b h k answers text (Err refusal) = HasTextFault b h k answers text refusal
+abbrev pub IsTextAnswer : Block → ℕ → CertFormat → List ℕ → Result (List ℕ) TextFault → Type 0
+IsTextAnswer b h format text (Ok errors) = IsAcceptedText b h format text errors
+IsTextAnswer b h format text (Err refusal) = HasTextFault b h format text refusal
 
 -- a text has at most one answer
 abbrev pub TextAnswersAreOne : Type 0
 TextAnswersAreOne =
-    (b : Block) (h : ℕ) (k : CertKind) (answers : Width) (text : List ℕ) (x y : Result (List ℕ) TextFault)
-    → IsValid b → IsTextAnswer b h k answers text x → IsTextAnswer b h k answers text y → x ≡ y
+    (b : Block) (h : ℕ) (format : CertFormat) (text : List ℕ) (x y : Result (List ℕ) TextFault)
+    → IsValid b → IsTextAnswer b h format text x → IsTextAnswer b h format text y → x ≡ y
 
 -- and each has one
 abbrev pub EachCertTextIsJudged : Type 0
 EachCertTextIsJudged =
-    (b : Block) (h : ℕ) (k : CertKind) (answers : Width) (text : List ℕ) → IsValid b → 1 ≤ h
-    → (answer : Result (List ℕ) TextFault) × IsTextAnswer b h k answers text answer
+    (b : Block) (h : ℕ) (format : CertFormat) (text : List ℕ) → IsValid b → 1 ≤ h
+    → (answer : Result (List ℕ) TextFault) × IsTextAnswer b h format text answer

@@ -2,25 +2,22 @@
 -- Beside the promise.
 use Rattle.std.specs.Prelude.{ℕ, List}
 use Rattle.fuzzy_meaning.specs.declared.block.Block.{Block}
-use Rattle.byte_scaling.specs.declared.width.Width.{Width}
-use Rattle.box_tree.specs.declared.{cert.CertKind.CertKind, cert.Cert.Cert}
+use Rattle.box_tree.specs.declared.{cert.CertFormat.CertFormat, cert.Cert.Cert}
 use Rattle.box_tree.specs.declared.cert.CertFault.{CertFault}
 use Rattle.box_tree.specs.Certificates.{CertText, HasFault}
 use Rattle.cert_check.specs.declared.{checker.CheckFault.CheckFault, text.TextFault.TextFault}
 use Rattle.cert_check.specs.declared.text.TextFault.TheVariants as refusal
 use Rattle.cert_check.specs.{Acceptance.IsAccepted, Faults.HasCheckFault}
 
--- the text is that of a certificate of this kind that is accepted, with these errors, for answers of this width, in h
--- parts to a byte
-pub record IsAcceptedText (b : Block) (h : ℕ) (kind : CertKind) (answers : Width) (text errors : List ℕ) : Type 0
-  where
-    pub cert : Cert
-    pub spelled : CertText kind answers text cert
-    pub accepted : IsAccepted b h cert errors
+-- the text is that of a certificate in this format that is accepted, with these errors, for answers in h parts to a
+-- byte
+pub record IsAcceptedText (b : Block) (h : ℕ) (format : CertFormat) (text errors : List ℕ) : Type 0 where
+  pub cert : Cert
+  pub spelled : CertText format text cert
+  pub accepted : IsAccepted b h cert errors
 
 -- the text has a first fault, or it is that of a certificate that has one
-pub data HasTextFault (b : Block) (h : ℕ) (kind : CertKind) (answers : Width) (text : List ℕ)
-    : TextFault → Type 0 where
-  of_text : (f : CertFault) → HasFault kind answers text f → HasTextFault b h kind answers text (refusal.Text f)
-  of_cert : (cert : Cert) (f : CheckFault) → CertText kind answers text cert → HasCheckFault b h cert f
-      → HasTextFault b h kind answers text (refusal.Check f)
+pub data HasTextFault (b : Block) (h : ℕ) (format : CertFormat) (text : List ℕ) : TextFault → Type 0 where
+  of_text : (f : CertFault) → HasFault format text f → HasTextFault b h format text (refusal.Text f)
+  of_cert : (cert : Cert) (f : CheckFault) → CertText format text cert → HasCheckFault b h cert f
+      → HasTextFault b h format text (refusal.Check f)

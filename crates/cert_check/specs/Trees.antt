@@ -4,7 +4,7 @@ use Rattle.std.specs.Prelude.{ℕ, zero, suc, ◌+◌, ◌-◌, ◌<◌, ◌≤�
 use Rattle.std.specs.Prelude.{◌&&◌, if◌then◌else◌}
 use Rattle.fuzzy_meaning.specs.declared.block.Block.{Block}
 use Rattle.error_bound.specs.declared.boxes.Interval.{Interval}
-use Rattle.box_tree.specs.declared.{cert.LeafForm.LeafForm, cert.Node.Node}
+use Rattle.box_tree.specs.declared.{cert.LeafLine.LeafLine, cert.Node.Node}
 use Rattle.box_tree.specs.declared.cert.Node.TheVariants.{Split, Leaf}
 
 -- each byte lies in its interval
@@ -37,15 +37,15 @@ IsCut (suc k) c (v ∷ vs) = IsCut k c vs
 -- a leaf: its box, and what its line says
 pub record Part : Type 0 where
   pub box : List Interval
-  pub form : LeafForm
+  pub stated : LeafLine
 
-abbrev pub part_of : List Interval → LeafForm → Part
-part_of box form = record { box = box; form = form }
+abbrev pub part_of : List Interval → LeafLine → Part
+part_of box stated = record { box = box; stated = stated }
 
 -- nodes begin with a tree over the box that has these leaves, from the left; the rest follows it. Inputs count from 1
 pub data IsTree : List Interval → List Node → List Part → List Node → Type 0 where
-  leaf : (box : List Interval) (form : LeafForm) (rest : List Node)
-      → IsTree box (Leaf form ∷ rest) (record { box = box; form = form } ∷ []) rest
+  leaf : (box : List Interval) (stated : LeafLine) (rest : List Node)
+      → IsTree box (Leaf stated ∷ rest) (record { box = box; stated = stated } ∷ []) rest
   split : (box : List Interval) (i c : ℕ) (nodes mid rest : List Node) (left right : List Part) → 1 ≤ i
       → IsCut (i - 1) c box → IsTree (left_of (i - 1) c box) nodes left mid
       → IsTree (right_of (i - 1) c box) mid right rest → IsTree box (Split i c ∷ nodes) (left ++ right) rest

@@ -54,7 +54,7 @@ pub fn check(alloc: Global, block: &Block, cert: &Cert) -> Result<Vec<u32>, Chec
     ensures fault { IfErr result (λ fault.
         fault ≢ CheckFault.Memory → HasCheckFault block.now 1 cert.now fault) }
 {
-    check_for(alloc, block, cert, Width::Byte)
+    check_for(alloc, Width::Byte, block, cert)
 }
 
 /// The same for answers of 16 bits.
@@ -65,23 +65,23 @@ pub fn check16(alloc: Global, block: &Block, cert: &Cert) -> Result<Vec<u32>, Ch
     ensures fault { IfErr result (λ fault.
         fault ≢ CheckFault.Memory → HasCheckFault block.now 256 cert.now fault) }
 {
-    check_for(alloc, block, cert, Width::Word)
+    check_for(alloc, Width::Word, block, cert)
 }
 
 /// The same for a certificate of either kind and answers of this width.
 pub fn check_for(
     alloc: Global,
+    width: Width,
     block: &Block,
     cert: &Cert,
-    answers: Width,
 ) -> Result<Vec<u32>, CheckFault>
     requires block { IsValid block.now }
     requires cert { (kind : TheKind) × IsCert kind cert.now }
-    ensures accepted { IfOk result (λ errors. IsAccepted block.now (parts_of answers) cert.now errors.items) }
+    ensures accepted { IfOk result (λ errors. IsAccepted block.now (parts_of width) cert.now errors.items) }
     ensures fault { IfErr result (λ fault.
-        fault ≢ CheckFault.Memory → HasCheckFault block.now (parts_of answers) cert.now fault) }
+        fault ≢ CheckFault.Memory → HasCheckFault block.now (parts_of width) cert.now fault) }
 {
-    checked(alloc, block, cert, answers.parts())
+    checked(alloc, block, cert, width.parts())
 }
 
 /// The same for answers with `parts` parts to a byte.

@@ -5,14 +5,14 @@ ghost use Rattle.fuzzy_meaning.specs.Blocks.{IsValid, output_at};
 ghost use Rattle.error_bound.specs.{Boxes.IsBoxOf, Leaves.Holds, Bounds.IsBound};
 ghost use Rattle.error_bound.specs.Reaches.{IsBlockTable, IsTable};
 ghost use Rattle.box_tree.specs.declared.cert.CertKind.{CertKind as TheKind};
-ghost use Rattle.box_tree.specs.declared.cert.LeafForm.TheVariants as form;
+ghost use Rattle.box_tree.specs.declared.cert.LeafLine.TheVariants as leaf_line;
 ghost use Rattle.box_tree.specs.Certificates.{IsLeaf};
 ghost use Rattle.cert_check.specs.{Trees.part_of, Faults.IsPairFault, Faults.HasPartFault};
 ghost use Rattle.cert_check.specs.Walks.{AreBounds, AreRaised, Raises};
 
 use crate::checker::CheckFault;
 use arrayvec::ArrayVec;
-use box_tree::LeafForm;
+use box_tree::LeafLine;
 use cell_bounds::laws::narrowed_boxes_stand_for_all;
 use cell_bounds::{has_few_cells, sure_cells_bounds};
 use error_bound::{BlockTable, BoxTable, ByteBox, Leaf, is_pair_for};
@@ -24,21 +24,21 @@ pub(crate) fn raise_errors(
     block: &Block,
     kept: &BlockTable,
     bytes: ByteBox,
-    form: &LeafForm,
+    stated: &LeafLine,
     parts: u16,
     line: u32,
 ) -> Result<(), CheckFault>
     requires block { IsValid block.now }
     requires kept { IsBlockTable block.now kept.now }
     requires bytes { IsBoxOf block.now bytes.0.items }
-    requires form { (kind : TheKind) × IsLeaf kind (length block.now.outputs) form.now }
+    requires stated { (kind : TheKind) × IsLeaf kind (length block.now.outputs) stated.now }
     requires errors { length errors.old ≡ length block.now.outputs }
     requires parts_from { 1 ≤ parts }
     requires parts_to { parts ≤ 256 }
-    ensures raised { OnOk result (Raises block.now parts (part_of bytes.0.items form.now) errors.old errors.new) }
-    ensures fault { IfErr result (HasPartFault block.now parts (part_of bytes.0.items form.now) line) }
+    ensures raised { OnOk result (Raises block.now parts (part_of bytes.0.items stated.now) errors.old errors.new) }
+    ensures fault { IfErr result (HasPartFault block.now parts (part_of bytes.0.items stated.now) line) }
 {
-    let bounds = leaf_bounds(block, kept, bytes, form, parts, line)?;
+    let bounds = leaf_bounds(block, kept, bytes, stated, parts, line)?;
     raise(errors, &bounds);
     Ok(())
 }
@@ -58,23 +58,23 @@ fn leaf_bounds(
     block: &Block,
     kept: &BlockTable,
     bytes: ByteBox,
-    form: &LeafForm,
+    stated: &LeafLine,
     parts: u16,
     line: u32,
 ) -> Result<[u32; 4], CheckFault>
     requires block { IsValid block.now }
     requires kept { IsBlockTable block.now kept.now }
     requires bytes { IsBoxOf block.now bytes.0.items }
-    requires form { (kind : TheKind) × IsLeaf kind (length block.now.outputs) form.now }
+    requires stated { (kind : TheKind) × IsLeaf kind (length block.now.outputs) stated.now }
     requires parts_from { 1 ≤ parts }
     requires parts_to { parts ≤ 256 }
-    ensures bounds { IfOk result (AreBounds block.now parts (part_of bytes.0.items form.now)) }
-    ensures fault { IfErr result (HasPartFault block.now parts (part_of bytes.0.items form.now) line) }
+    ensures bounds { IfOk result (AreBounds block.now parts (part_of bytes.0.items stated.now)) }
+    ensures fault { IfErr result (HasPartFault block.now parts (part_of bytes.0.items stated.now) line) }
 {
-    match form {
-        LeafForm::Pairs(pairs) => pair_bounds(block, kept, bytes, pairs, parts, line),
-        LeafForm::Tight => tight_bounds(block, kept, bytes, parts, line),
-        LeafForm::Cells => cells_bounds(block, kept, bytes, parts, line),
+    match stated {
+        LeafLine::Pairs(pairs) => pair_bounds(block, kept, bytes, pairs, parts, line),
+        LeafLine::Tight => tight_bounds(block, kept, bytes, parts, line),
+        LeafLine::Cells => cells_bounds(block, kept, bytes, parts, line),
     }
 }
 
@@ -91,8 +91,8 @@ fn cells_bounds(
     requires bytes { IsBoxOf block.now bytes.0.items }
     requires parts_from { 1 ≤ parts }
     requires parts_to { parts ≤ 256 }
-    ensures bounds { IfOk result (AreBounds block.now parts (part_of bytes.0.items form.Cells)) }
-    ensures fault { IfErr result (HasPartFault block.now parts (part_of bytes.0.items form.Cells) line) }
+    ensures bounds { IfOk result (AreBounds block.now parts (part_of bytes.0.items leaf_line.Cells)) }
+    ensures fault { IfErr result (HasPartFault block.now parts (part_of bytes.0.items leaf_line.Cells) line) }
 {
     narrowed_boxes_stand_for_all();
     let narrow = BoxTable::over(block, kept, bytes).narrowed(block);
@@ -118,8 +118,8 @@ fn tight_bounds(
     requires bytes { IsBoxOf block.now bytes.0.items }
     requires parts_from { 1 ≤ parts }
     requires parts_to { parts ≤ 256 }
-    ensures bounds { IfOk result (AreBounds block.now parts (part_of bytes.0.items form.Tight)) }
-    ensures fault { IfErr result (HasPartFault block.now parts (part_of bytes.0.items form.Tight) line) }
+    ensures bounds { IfOk result (AreBounds block.now parts (part_of bytes.0.items leaf_line.Tight)) }
+    ensures fault { IfErr result (HasPartFault block.now parts (part_of bytes.0.items leaf_line.Tight) line) }
 {
     let table = BoxTable::over(block, kept, bytes);
     let mut bounds = [0; 4];
@@ -148,9 +148,9 @@ fn pair_bounds(
     requires pairs { length pairs.now.items ≡ length block.now.outputs }
     requires parts_from { 1 ≤ parts }
     requires parts_to { parts ≤ 256 }
-    ensures bounds { IfOk result (AreBounds block.now parts (part_of bytes.0.items (form.Pairs pairs.now))) }
+    ensures bounds { IfOk result (AreBounds block.now parts (part_of bytes.0.items (leaf_line.Pairs pairs.now))) }
     ensures fault { IfErr result
-        (HasPartFault block.now parts (part_of bytes.0.items (form.Pairs pairs.now)) line) }
+        (HasPartFault block.now parts (part_of bytes.0.items (leaf_line.Pairs pairs.now)) line) }
 {
     let named = pairs.as_slice();
     let table = BoxTable::over(block, kept, bytes);

@@ -1,16 +1,14 @@
 //! Checks a certificate while its text is read, node by node.
 ghost use Rattle.std.specs.Prelude.{◌≢◌, ◌≤◌, ℕ, List as Items, [], length, IfOk, IfErr};
 ghost use Rattle.fuzzy_meaning.specs.Blocks.{IsValid};
-ghost use Rattle.byte_scaling.specs.{declared.width.Width.Width as TheWidth, Widths.parts as parts_of};
-ghost use Rattle.byte_scaling.specs.declared.width.Width.TheVariants.{Byte, Word};
-ghost use Rattle.box_tree.specs.declared.{cert.CertKind.CertKind as TheKind, cert.CertKind.TheVariants.Named};
+ghost use Rattle.byte_scaling.specs.Widths.{parts as parts_of};
+ghost use Rattle.box_tree.specs.declared.cert.CertFormat.{CertFormat as TheFormat};
 ghost use Rattle.box_tree.specs.Reading.{HasRead};
 ghost use Rattle.cert_check.specs.TextFaults.{IsAcceptedText, HasTextFault};
 
 use crate::checker::CheckFault;
 use crate::walk::Walk;
-use box_tree::{CertFault, CertKind, Lines};
-use byte_scaling::Width;
+use box_tree::{CertFault, CertFormat, Lines};
 use fuzzy_meaning::Block;
 use std::alloc::Global;
 use thiserror::Error;
@@ -36,41 +34,40 @@ pub enum TextFault {
 pub fn check_text(alloc: Global, block: &Block, text: &[u8]) -> Result<Vec<u32>, TextFault>
     requires block { IsValid block.now }
     requires text { length text.now ≤ 1048576 }
-    ensures accepted { IfOk result (λ errors. IsAcceptedText block.now 1 Named Byte text.now errors.items) }
+    ensures accepted { IfOk result (λ errors. IsAcceptedText block.now 1 CertFormat.NAMED text.now errors.items) }
     ensures refused { IfErr result (λ refusal. refusal ≢ TextFault.Memory
-        → HasTextFault block.now 1 Named Byte text.now refusal) }
+        → HasTextFault block.now 1 CertFormat.NAMED text.now refusal) }
 {
-    check_text_for(alloc, block, text, CertKind::Named, Width::Byte)
+    check_text_for(alloc, CertFormat::NAMED, block, text)
 }
 
 /// The same for answers of 16 bits, and texts of version 2.
 pub fn check_text16(alloc: Global, block: &Block, text: &[u8]) -> Result<Vec<u32>, TextFault>
     requires block { IsValid block.now }
     requires text { length text.now ≤ 1048576 }
-    ensures accepted { IfOk result (λ errors. IsAcceptedText block.now 256 Named Word text.now errors.items) }
+    ensures accepted { IfOk result (λ errors. IsAcceptedText block.now 256 CertFormat.NAMED16 text.now errors.items) }
     ensures refused { IfErr result (λ refusal. refusal ≢ TextFault.Memory
-        → HasTextFault block.now 256 Named Word text.now refusal) }
+        → HasTextFault block.now 256 CertFormat.NAMED16 text.now refusal) }
 {
-    check_text_for(alloc, block, text, CertKind::Named, Width::Word)
+    check_text_for(alloc, CertFormat::NAMED16, block, text)
 }
 
-/// The same for a certificate of this kind and answers of this width.
+/// The same for a certificate of this format.
 pub fn check_text_for(
     alloc: Global,
+    format: CertFormat,
     block: &Block,
     text: &[u8],
-    kind: CertKind,
-    answers: Width,
 ) -> Result<Vec<u32>, TextFault>
     requires block { IsValid block.now }
     requires text { length text.now ≤ 1048576 }
     ensures accepted { IfOk result
-        (λ errors. IsAcceptedText block.now (parts_of answers) kind answers text.now errors.items) }
+        (λ errors. IsAcceptedText block.now (parts_of format.width) format text.now errors.items) }
     ensures refused { IfErr result (λ refusal. refusal ≢ TextFault.Memory
-        → HasTextFault block.now (parts_of answers) kind answers text.now refusal) }
+        → HasTextFault block.now (parts_of format.width) format text.now refusal) }
 {
-    match Lines::of(text, kind, answers) {
-        Ok(lines) => errors_of(alloc, block, lines, answers.parts()),
+    match Lines::of(format, text) {
+        Ok(lines) => errors_of(alloc, block, lines, format.width.parts()),
         Err(fault) => Err(TextFault::Text(fault)),
     }
 }
@@ -84,16 +81,14 @@ fn errors_of(
     parts: u16,
 ) -> Result<Vec<u32>, TextFault>
     requires block { IsValid block.now }
-    requires lines { (kind : TheKind) × (answers : TheWidth) × (text : Items ℕ) × HasRead kind answers text [] lines }
+    requires lines { (format : TheFormat) × (text : Items ℕ) × HasRead format text [] lines }
     requires parts_from { 1 ≤ parts }
     requires parts_to { parts ≤ 256 }
-    ensures accepted { (kind : TheKind) (answers : TheWidth) (text : Items ℕ)
-        → HasRead kind answers text [] lines.entry
-        → IfOk result (λ errors. IsAcceptedText block.now parts kind answers text errors.items) }
-    ensures refused { (kind : TheKind) (answers : TheWidth) (text : Items ℕ)
-        → HasRead kind answers text [] lines.entry
+    ensures accepted { (format : TheFormat) (text : Items ℕ) → HasRead format text [] lines.entry
+        → IfOk result (λ errors. IsAcceptedText block.now parts format text errors.items) }
+    ensures refused { (format : TheFormat) (text : Items ℕ) → HasRead format text [] lines.entry
         → IfErr result (λ refusal. refusal ≢ TextFault.Memory
-        → HasTextFault block.now parts kind answers text refusal) }
+        → HasTextFault block.now parts format text refusal) }
 {
     let claims = lines.claims();
     let mut walk = match Walk::new(alloc, block, claims.as_slice(), parts) {

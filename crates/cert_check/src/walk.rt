@@ -119,12 +119,12 @@ impl<'a> Walk<'a> {
             Node::Split(input, cut) => {
                 push_halves(&mut self.boxes, bytes, *input, *cut, self.line)
             }
-            Node::Leaf(form) => raise_errors(
+            Node::Leaf(stated) => raise_errors(
                 &mut self.errors,
                 self.block,
                 &self.table,
                 bytes,
-                form,
+                stated,
                 self.parts,
                 self.line,
             ),

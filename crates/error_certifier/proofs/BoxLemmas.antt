@@ -268,9 +268,9 @@ module _ (kind : CertKind) (b : Block) (h : ℕ) (targets : List ℕ) (box : Lis
     (leaf_is : IsFoundLeaf kind b h targets box found) where
   raised_one : (k : ℕ) (x : Output) (old new : ℕ) → slice_get b.outputs k ≡ Some x
       → new ≡ max old (slice_index found.bounds k)
-      → RisesTo b h (slice_index targets k) (k + 1) x (part_of box found.form ∷ []) old new
+      → RisesTo b h (slice_index targets k) (k + 1) x (part_of box found.stated ∷ []) old new
   raised_one k x old new ex e =
-      let part = part_of box found.form in
+      let part = part_of box found.stated in
       let n = slice_index found.bounds k in
       let has : HasBound b (k + 1) x h part n = leaf_is.bounds k x ex in
       let to = leaf_is.within k (slice_get_within b.outputs k x ex) in
@@ -290,18 +290,18 @@ module _ (kind : CertKind) (b : Block) (h : ℕ) (targets : List ℕ) (box : Lis
 
   -- by a leaf
   pub grows_leaf : (old new : Tree) → length old.errors.items ≡ length b.outputs
-      → new.nodes.items ≡ old.nodes.items ++ Leaf found.form ∷ []
+      → new.nodes.items ≡ old.nodes.items ++ Leaf found.stated ∷ []
       → AreRaised found.bounds old.errors.items new.errors.items → new.leaves ≡ old.leaves + 1
       → old.leaves < 4096
       → Grows kind b h targets box old new
   grows_leaf old new count nodes raised more few = record {
-    added = Leaf found.form ∷ [];
-    parts = part_of box found.form ∷ [];
+    added = Leaf found.stated ∷ [];
+    parts = part_of box found.stated ∷ [];
     nodes = nodes;
-    halves = subst (λ m. Halves kind b h targets box old.leaves (Leaf found.form ∷ []) m) (sym more)
-        (halved_leaf box old.leaves found.form leaf_is.settled few);
-    tree = λ rest. leaf box found.form rest;
-    good = All-one (IsNode kind (length b.outputs)) (Leaf found.form) leaf_is.good;
+    halves = subst (λ m. Halves kind b h targets box old.leaves (Leaf found.stated ∷ []) m) (sym more)
+        (halved_leaf box old.leaves found.stated leaf_is.settled few);
+    tree = λ rest. leaf box found.stated rest;
+    good = All-one (IsNode kind (length b.outputs)) (Leaf found.stated) leaf_is.good;
     count = raised.count;
     errors = λ k x e.
         let inside : k < length old.errors.items =

@@ -24,12 +24,12 @@ use Rattle.error_certifier.specs.Halving.{Halves, leaf as halved_leaf, split as 
 leaf_count-append : (xs ys : List Node) → leaf_count (xs ++ ys) ≡ leaf_count xs + leaf_count ys
 leaf_count-append [] ys = omega arith
 leaf_count-append (Split i c ∷ xs) ys = leaf_count-append xs ys
-leaf_count-append (Leaf form ∷ xs) ys = let r = leaf_count-append xs ys in omega arith
+leaf_count-append (Leaf stated ∷ xs) ys = let r = leaf_count-append xs ys in omega arith
 
 pub halved_open : OpenBoxesGoOn
     → (kind : CertKind) (b : Block) (h : ℕ) (targets : List ℕ) (box : List Interval) (n m : ℕ) (nodes : List Node)
     → Halves kind b h targets box n nodes m → (i : ℕ) → open_from (suc i) nodes ≡ Some i
-halved_open on kind b h targets _ _ _ _ (halved_leaf box n form w few) i = refl
+halved_open on kind b h targets _ _ _ _ (halved_leaf box n stated w few) i = refl
 halved_open on kind b h targets _ _ _ _ (halved_split box k c n m r left right cut l t) i =
     on (suc (suc i)) (suc i) left right (halved_open on kind b h targets _ n m left l (suc i))
     ∙ halved_open on kind b h targets _ m r right t i
@@ -37,7 +37,7 @@ halved_open on kind b h targets _ _ _ _ (halved_split box k c n m r left right c
 pub halved_leaves : (kind : CertKind) (b : Block) (h : ℕ) (targets : List ℕ) (box : List Interval) (n m : ℕ) (nodes : List Node)
     → Halves kind b h targets box n nodes m
     → (leaf_count nodes + n ≡ m) × (m ≤ 4096)
-halved_leaves kind b h targets _ _ _ _ (halved_leaf box n form w few) = (omega arith, omega arith)
+halved_leaves kind b h targets _ _ _ _ (halved_leaf box n stated w few) = (omega arith, omega arith)
 halved_leaves kind b h targets _ _ _ _ (halved_split box k c n m r left right cut l t) =
     let p = halved_leaves kind b h targets _ n m left l in
     let q = halved_leaves kind b h targets _ m r right t in
@@ -48,7 +48,7 @@ halved_leaves kind b h targets _ _ _ _ (halved_split box k c n m r left right cu
 
 some_part : (box : List Interval) (nodes rest : List Node) (parts : List Part) → IsTree box nodes parts rest
     → 0 < length parts
-some_part _ _ _ _ (leaf box form rest) = omega arith
+some_part _ _ _ _ (leaf box stated rest) = omega arith
 some_part _ _ _ _ (split box i c nodes mid rest left right from cut l r) =
     let some = some_part _ nodes mid left l in
     omega (arith, length-append left right)

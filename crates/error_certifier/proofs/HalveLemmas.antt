@@ -15,14 +15,14 @@ use Rattle.error_bound.specs.{Tight.IsTightBound, Tight.IsTightCount, Tight.of_b
 use Rattle.error_bound.specs.{Best.IsBest, Best.silent, Best.strong, Boxes.IsBoxOf, Boxes.IsBox, Boxes.LieIn}
 use Rattle.box_tree.specs.declared.cert.CertKind.TheVariants.{Named, Tight}
 use Rattle.box_tree.specs.declared.cert.Node.TheVariants.{Split, Leaf}
-use Rattle.box_tree.specs.{declared.cert.LeafForm.TheVariants.Pairs, declared.cert.CertKind.CertKind}
-use Rattle.box_tree.specs.{declared.cert.LeafForm.LeafForm, declared.cert.Node.Node, declared.cert.Cert.Cert}
+use Rattle.box_tree.specs.{declared.cert.LeafLine.TheVariants.Pairs, declared.cert.CertKind.CertKind}
+use Rattle.box_tree.specs.{declared.cert.LeafLine.LeafLine, declared.cert.Node.Node, declared.cert.Cert.Cert}
 use Rattle.box_tree.specs.Certificates.{IsPair}
 use Rattle.cell_bounds.specs.CellBounds.{IsCellsBound, IsFirstCellAbove, cell_count, IsCellCount, StandForAll}
 use Rattle.error_bound.specs.Matters.{narrowed}
 use Rattle.cell_bounds.specs.{Claims.CountsAreLeast, Claims.IsCountAt, Claims.IsCompared, declared.claims.Claim.Claim}
 use Rattle.cell_bounds.specs.{declared.claims.Claim.TheVariants.Pair, Walks.AreAtMost, Cells.cell_of}
-use Rattle.cert_check.specs.BoxLaws.{CutsHaveHalves, LeavesAreAround, IsFormOf, IsNodeOf}
+use Rattle.cert_check.specs.BoxLaws.{CutsHaveHalves, LeavesAreAround, IsLineOf, IsNodeOf}
 use Rattle.cert_check.specs.{Trees.part_of, Trees.whole, Trees.left_of, Trees.right_of, Walks.cuts_of, Walks.AreRaised}
 use Rattle.cert_check.specs.Acceptance.{HasBound, claim_at}
 use Rattle.error_certifier.specs.Halving.{IsWithinTarget, IsFirstAbove, IsAbove, IsWidest, IsHalvedAt, middle_of}
@@ -36,7 +36,7 @@ use Rattle.error_certifier.specs.{declared.halving.Tree.Tree, Trees.Grows, Targe
 use Rattle.error_certifier.proofs.BoxLemmas.{whole_box, left_box, right_box, halves_fewer, middle_inside, cell_is}
 use Rattle.error_certifier.proofs.BoxLemmas.{narrowed_at, one_cell, grows_leaf, grows_split, bytes_count, cell_small}
 use Rattle.error_bound.specs.declared.boxes.Leaf as the
-use Rattle.box_tree.specs.declared.cert.LeafForm.TheVariants as form
+use Rattle.box_tree.specs.declared.cert.LeafLine.TheVariants as leaf_line
 use Rattle.cell_bounds.specs.declared.claims.Claim.TheVariants as claim
 
 -- a best leaf is a pair of a certificate
@@ -175,7 +175,7 @@ module _ (b : Block) (h : ℕ) (targets : List ℕ) (box : List Interval) (bound
 module _ (hold : BestLeavesHold) (b : Block) (h : ℕ) (targets : List ℕ) (box : List Interval) (pairs : ArrayVec (ℕ × ℕ))
     (bounds : List ℕ) (best : AreBestPairs b h targets box pairs.items bounds) where
   pub named_found : IsFoundLeaf Named b h targets box
-      (record { form = Pairs pairs; bounds = bounds })
+      (record { stated = Pairs pairs; bounds = bounds })
   named_found = record {
     settled = record {
       count = best.count;
@@ -239,7 +239,7 @@ interval-place {b} {box} {k} {v} valid is at =
 module _ {kind : CertKind} {b : Block} {h : ℕ} {targets : List ℕ} {box : List Interval} {found : FoundLeaf}
     (leaf_is : IsFoundLeaf kind b h targets box found) where
   pub Grows-leaf : {T : Type 0} (old new : Tree) (r : Result T NotReached) → IsTreeFor b old
-      → OnOk r (new.nodes.items ≡ old.nodes.items ++ Leaf found.form ∷ [])
+      → OnOk r (new.nodes.items ≡ old.nodes.items ++ Leaf found.stated ∷ [])
       → OnOk r (AreRaised found.bounds old.errors.items new.errors.items)
       → OnOk r (new.leaves ≡ old.leaves + 1) → OnOk r (old.leaves < 4096)
       → OnOk r (Grows kind b h targets box old new)
@@ -254,12 +254,12 @@ module _ {kind : CertKind} {b : Block} {h : ℕ} {targets : List ℕ} {box : Lis
       (λ stop f at.
       let p = f at in
       subst (λ (s : NotReached). Stops kind b h targets box n s) (sym p.0)
-      (limit box n found.form leaf_is.settled p.1))
+      (limit box n found.stated leaf_is.settled p.1))
 
 -- a tight one
 pub tight_found : (b : Block) (h : ℕ) (targets : List ℕ) (box : List Interval) (bounds : List ℕ)
     → AreTightBounds b h targets box bounds
-    → IsFoundLeaf Tight b h targets box (record { form = form.Tight; bounds = bounds })
+    → IsFoundLeaf Tight b h targets box (record { stated = leaf_line.Tight; bounds = bounds })
 tight_found b h targets box bounds are = record {
   settled = λ k x e. let at = are k x e in (slice_index bounds k, at.0, at.1);
   good = tt;
@@ -273,7 +273,7 @@ pub cells_found : (b : Block) (h : ℕ) (targets : List ℕ) (box : List Interva
     → IsAbove Tight b h targets box → cell_count (narrowed b box) ≤ 64 → StandForAll b h box
     → ((k : ℕ) → k < length b.outputs → IfSome (output_at b (k + 1))
     (λ x. IsCellsBound b (narrowed b box) (k + 1) x h (slice_index bounds k)))
-    → AreAtMost targets bounds → IsFoundLeaf Tight b h targets box (record { form = form.Cells; bounds = bounds })
+    → AreAtMost targets bounds → IsFoundLeaf Tight b h targets box (record { stated = leaf_line.Cells; bounds = bounds })
 cells_found b h targets box bounds targets_are above few stand are small = record {
   settled = (above, few, λ k x e. (slice_index bounds k, at k x e, within k (slice_get_within b.outputs k x e)));
   good = tt;
@@ -447,10 +447,10 @@ pair_compared (Some p) c e =
     let same : claim.Pair (record { rule = p.0; k = p.1 }) ≡ c = cc in
     subst (IsCompared Named) same tt
 
-named_compared : (f : LeafForm) (k : ℕ) (c : Claim) → IsFormOf Named f → claim_at f k ≡ Some c → IsCompared Named c
-named_compared (form.Pairs pairs) k c named at = pair_compared (slice_get pairs.items k) c at
-named_compared form.Tight k c named at = absurd named
-named_compared form.Cells k c named at = absurd named
+named_compared : (f : LeafLine) (k : ℕ) (c : Claim) → IsLineOf Named f → claim_at f k ≡ Some c → IsCompared Named c
+named_compared (leaf_line.Pairs pairs) k c named at = pair_compared (slice_get pairs.items k) c at
+named_compared leaf_line.Tight k c named at = absurd named
+named_compared leaf_line.Cells k c named at = absurd named
 
 -- the bytes of a box are bytes
 pub lies_small : (box : List Interval) (bytes : List ℕ) → IsBox box → LieIn box bytes → All (λ n. n ≤ 255) bytes
@@ -466,8 +466,8 @@ lies_small box bytes is lie k d l =
 
 module _ (around : LeavesAreAround) (least : CountsAreLeast) (cuts : CutsHaveHalves) (b : Block) (h : ℕ) (targets : List ℕ)
     (valid : IsValid b) (parts : 1 ≤ h) where
-  compared : (k : CertKind) (cert : Cert) (f : LeafForm) (j : ℕ) (c : Claim) → IsComparable k cert
-      → ((i : CertKind) → All (IsNodeOf i) cert.nodes → IsFormOf i f) → claim_at f j ≡ Some c → IsCompared k c
+  compared : (k : CertKind) (cert : Cert) (f : LeafLine) (j : ℕ) (c : Claim) → IsComparable k cert
+      → ((i : CertKind) → All (IsNodeOf i) cert.nodes → IsLineOf i f) → claim_at f j ≡ Some c → IsCompared k c
   compared Named cert f j c comparable of_kind at = named_compared f j c (of_kind Named comparable) at
   compared Tight cert f j c comparable of_kind at = tt
 
@@ -477,7 +477,7 @@ module _ (around : LeavesAreAround) (least : CountsAreLeast) (cuts : CutsHaveHal
       → IsLeastError k b h o n
   least_error k bytes o x n count small from out at cert errors e comparable accepted error_is =
       let l = around b h cert errors o x e bytes accepted from out error_is count small in
-      let claims = compared k cert l.form (o - 1) l.claim comparable l.of_kind l.claim_is in
+      let claims = compared k cert l.stated (o - 1) l.claim comparable l.of_kind l.claim_is in
       let lower = least k b bytes l.box o x h l.claim n l.bound valid out parts l.count l.is_box l.around claims at
       l.bound_is in
       at_most n l.bound e lower l.within
@@ -510,7 +510,7 @@ module _ (around : LeavesAreAround) (least : CountsAreLeast) (cuts : CutsHaveHal
   out_of_reach : (k : CertKind) (box : List Interval) (n : ℕ) (stop : NotReached) → IsBoxOf b box
       → Stops k b h targets box n stop → SaysOutOfReachFor k b h targets stop
   out_of_reach k _ _ _ is (cell box n bytes o above stuck) = stuck_least k box bytes.items o above is stuck
-  out_of_reach k _ _ _ is (limit box n form w many) = tt
+  out_of_reach k _ _ _ is (limit box n stated w many) = tt
   out_of_reach k _ _ _ is (in_left box i c n stop cut inner) =
       out_of_reach k (left_of i c box) n stop (left_box cuts b box i c cut.halved is) inner
   out_of_reach k _ _ _ is (in_right box i c n m left stop cut l inner) =

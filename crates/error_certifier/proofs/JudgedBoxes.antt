@@ -9,9 +9,9 @@ use Rattle.fuzzy_meaning.specs.Blocks.{IsValid, output_at}
 use Rattle.error_bound.specs.{declared.boxes.Interval.Interval, Boxes.IsBoxOf, Matters.narrowed, Matters.narrowed_from}
 use Rattle.error_bound.specs.BestLeaves.{IsBestBound, of_leaf, of_none}
 use Rattle.error_bound.specs.Tight.{IsTightBound, IsTightCount, of_bound as tight_of, of_none as none_tight}
-use Rattle.box_tree.specs.declared.{cert.CertKind.CertKind, cert.LeafForm.LeafForm}
+use Rattle.box_tree.specs.declared.{cert.CertKind.CertKind, cert.LeafLine.LeafLine}
 use Rattle.box_tree.specs.declared.cert.CertKind.TheVariants.{Named, Tight}
-use Rattle.box_tree.specs.declared.cert.LeafForm.TheVariants as form
+use Rattle.box_tree.specs.declared.cert.LeafLine.TheVariants as leaf_line
 use Rattle.cell_bounds.specs.{Claims.IsBoxCount, Claims.EachBoxHasACount}
 use Rattle.cell_bounds.specs.CellBounds.{EachBoxIsWithinOrAbove, cell_count}
 use Rattle.error_certifier.specs.Halving.{IsAbove, IsWithinTarget, IsSettled, IsStuck}
@@ -149,7 +149,7 @@ module _ (b : Block) (h : ℕ) (targets : List ℕ) (valid : IsValid b) (hh : 1 
 
   abbrev IsJudged : CertKind → Type 0
   IsJudged kind =
-      ((form : LeafForm) × IsSettled kind b h targets box form)
+      ((stated : LeafLine) × IsSettled kind b h targets box stated)
       ⊎ (((bytes : List ℕ) × (o : ℕ) × (n : ℕ) × IsStuck kind b h targets box bytes o n)
       ⊎ ((k : ℕ) × (c : ℕ) × IsToCut kind b h targets box k c))
 
@@ -163,7 +163,7 @@ module _ (b : Block) (h : ℕ) (targets : List ℕ) (valid : IsValid b) (hh : 1 
       let m = within k x (slice_get_within b.outputs k x e) e in
       best_pair k x m.0 m.1 m.2) in
       inl (
-        form.Pairs (record { items = found.0 }),
+        leaf_line.Pairs (record { items = found.0 }),
         record {
           count = found.1;
           each = λ k x e. (let p = found.2 k x e in (p.0, p.2.0, p.1, p.2.1));
@@ -210,7 +210,7 @@ module _ (b : Block) (h : ℕ) (targets : List ℕ) (valid : IsValid b) (hh : 1 
 
   tight_settled : AreWithin Tight (length b.outputs) → IsJudged Tight
   tight_settled within = inl (
-    form.Tight,
+    leaf_line.Tight,
     λ k x e.
         let m = within k x (slice_get_within b.outputs k x e) e in
         by_count k x m.0 m.1 m.2,
@@ -256,7 +256,7 @@ module _ (b : Block) (h : ℕ) (targets : List ℕ) (valid : IsValid b) (hh : 1 
       elim (cells b h targets 1 (length b.outputs) box valid is hh small) [
         | inr (bytes, o, n, first) ↦ inr (inl (bytes, o, n, (above, few, first)))
         | inl within ↦ inl (
-          form.Cells,
+          leaf_line.Cells,
           (
             above,
             few,

@@ -10,10 +10,10 @@ use Rattle.fuzzy_meaning.specs.Blocks.{IsValid, output_at}
 use Rattle.error_bound.specs.{declared.boxes.Interval.Interval, Boxes.IsBoxOf, BestLeaves.BestLeavesHold}
 use Rattle.error_bound.specs.{BestLeaves.BestPartsAreSmall, Best.IsBest, Bounds.IsBound, Tight.IsTightBound}
 use Rattle.cell_bounds.specs.CellBounds.{IsCellsBound}
-use Rattle.box_tree.specs.declared.{cert.CertKind.CertKind, cert.LeafForm.LeafForm, cert.Node.Node, cert.Cert.Cert}
+use Rattle.box_tree.specs.declared.{cert.CertKind.CertKind, cert.LeafLine.LeafLine, cert.Node.Node, cert.Cert.Cert}
 use Rattle.box_tree.specs.declared.cert.CertKind.TheVariants.{Named, Tight}
 use Rattle.box_tree.specs.declared.cert.Node.TheVariants.{Split, Leaf}
-use Rattle.box_tree.specs.declared.cert.LeafForm.TheVariants as form
+use Rattle.box_tree.specs.declared.cert.LeafLine.TheVariants as leaf_line
 use Rattle.cell_bounds.specs.{Claims.EachBoxHasACount, CellBounds.EachBoxIsWithinOrAbove}
 use Rattle.cell_bounds.specs.declared.claims.Claim.TheVariants as claim
 use Rattle.cert_check.specs.Trees.{Part, part_of, IsTree, leaf, left_of, right_of, whole}
@@ -84,9 +84,9 @@ module _ (kind : CertKind) (b : Block) (h : ℕ) (targets : List ℕ) (valid : I
   -- ---- a halving has Bounds
 
   module _ (hold : BestLeavesHold) (small : BestPartsAreSmall) where
-    settled_bound : (k : CertKind) (box : List Interval) (f : LeafForm) → IsSettled k b h targets box f → (o : ℕ)
+    settled_bound : (k : CertKind) (box : List Interval) (f : LeafLine) → IsSettled k b h targets box f → (o : ℕ)
         (x : Output) → 1 ≤ o → output_at b o ≡ Some x → (n : ℕ) × HasBound b o x h (part_of box f) n
-    settled_bound Named box (form.Pairs pairs) settled o x from ex =
+    settled_bound Named box (leaf_line.Pairs pairs) settled o x from ex =
         let found = settled.each (o - 1) x ex in
         let p = found.0 in
         let within = found.3 in
@@ -105,7 +105,7 @@ module _ (kind : CertKind) (b : Block) (h : ℕ) (targets : List ℕ) (valid : I
             );
           },
         )
-    settled_bound Tight box form.Tight settled o x from ex =
+    settled_bound Tight box leaf_line.Tight settled o x from ex =
         let found = settled (o - 1) x ex in
         let number : o - 1 + 1 ≡ o = omega (arith, from) in (
           found.0,
@@ -116,7 +116,7 @@ module _ (kind : CertKind) (b : Block) (h : ℕ) (targets : List ℕ) (valid : I
             bound_is = subst (λ j. IsTightBound b box j x h found.0) number found.1;
           },
         )
-    settled_bound Tight box form.Cells settled o x from ex =
+    settled_bound Tight box leaf_line.Cells settled o x from ex =
         let found = settled.2 (o - 1) x ex in
         let number : o - 1 + 1 ≡ o = omega (arith, from) in (
           found.0,

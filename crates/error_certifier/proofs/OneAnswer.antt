@@ -11,7 +11,7 @@ use Rattle.error_bound.specs.{BestLeaves.of_leaf, BestLeaves.BestLeavesAreOne, d
 use Rattle.error_bound.specs.{Tight.of_bound, Boxes.IsBoxOf}
 use Rattle.box_tree.specs.declared.cert.CertKind.TheVariants.{Named, Tight}
 use Rattle.box_tree.specs.declared.cert.Node.TheVariants.{Split, Leaf}
-use Rattle.box_tree.specs.{declared.cert.CertKind.CertKind, declared.cert.LeafForm.LeafForm, declared.cert.Node.Node}
+use Rattle.box_tree.specs.{declared.cert.CertKind.CertKind, declared.cert.LeafLine.LeafLine, declared.cert.Node.Node}
 use Rattle.box_tree.specs.declared.cert.Cert.{Cert}
 use Rattle.cell_bounds.specs.CellBounds.{IsBefore, IsCellCount, IsCellWithin, IsFirstCellAbove, CellCountsAreOne}
 use Rattle.cell_bounds.specs.{CellBounds.of_none, CellBounds.of_bound as of_cell_bound, Cells.cell_of}
@@ -27,7 +27,7 @@ use Rattle.error_certifier.specs.{declared.certifier.NotReached.NotReached, Laws
 use Rattle.error_certifier.proofs.BoxLemmas.{same_items, left_box, right_box, whole_box, one_halving, cell_bytes}
 use Rattle.error_certifier.proofs.{BoxLemmas.cell_not_halved, HalveLemmas.IfSome-at}
 use Rattle.error_bound.specs.declared.boxes.Leaf as the
-use Rattle.box_tree.specs.declared.cert.LeafForm.TheVariants as form
+use Rattle.box_tree.specs.declared.cert.LeafLine.TheVariants as leaf_line
 
 abbrev lows : List Interval → List ℕ
 lows box = map (λ (v : Interval). v.from) box
@@ -219,45 +219,45 @@ module _ (best_one : BestLeavesAreOne) (counts_one : BoxCountsAreOne) (cells_one
       f)
       (ordered ms ns (a.inside.count ∙ sym c.inside.count))
 
-  -- ---- a box is a leaf of one form, stuck at one cell, or cut
+  -- ---- a box is a leaf that states one thing, stuck at one cell, or cut
 
-  one_form : (kind : CertKind) (box : List Interval) (f g : LeafForm) → IsBoxOf b box
+  one_line : (kind : CertKind) (box : List Interval) (f g : LeafLine) → IsBoxOf b box
       → IsSettled kind b h targets box f → IsSettled kind b h targets box g → f ≡ g
-  one_form Named box (form.Pairs ps) (form.Pairs qs) is w v =
-      ap (λ (p : ArrayVec (ℕ × ℕ)). form.Pairs p) (same_vector ps qs (one_list box ps.items qs.items w v))
-  one_form Named box (form.Pairs ps) form.Tight is w v = absurd v
-  one_form Named box (form.Pairs ps) form.Cells is w v = absurd v
-  one_form Named box form.Tight g is w v = absurd w
-  one_form Named box form.Cells g is w v = absurd w
-  one_form Tight box (form.Pairs ps) g is w v = absurd w
-  one_form Tight box form.Tight (form.Pairs qs) is w v = absurd v
-  one_form Tight box form.Tight form.Tight is w v = refl
-  one_form Tight box form.Tight form.Cells is w v = absurd (tight_not_above box is w v.0)
-  one_form Tight box form.Cells (form.Pairs qs) is w v = absurd v
-  one_form Tight box form.Cells form.Tight is w v = absurd (tight_not_above box is v w.0)
-  one_form Tight box form.Cells form.Cells is w v = refl
+  one_line Named box (leaf_line.Pairs ps) (leaf_line.Pairs qs) is w v =
+      ap (λ (p : ArrayVec (ℕ × ℕ)). leaf_line.Pairs p) (same_vector ps qs (one_list box ps.items qs.items w v))
+  one_line Named box (leaf_line.Pairs ps) leaf_line.Tight is w v = absurd v
+  one_line Named box (leaf_line.Pairs ps) leaf_line.Cells is w v = absurd v
+  one_line Named box leaf_line.Tight g is w v = absurd w
+  one_line Named box leaf_line.Cells g is w v = absurd w
+  one_line Tight box (leaf_line.Pairs ps) g is w v = absurd w
+  one_line Tight box leaf_line.Tight (leaf_line.Pairs qs) is w v = absurd v
+  one_line Tight box leaf_line.Tight leaf_line.Tight is w v = refl
+  one_line Tight box leaf_line.Tight leaf_line.Cells is w v = absurd (tight_not_above box is w v.0)
+  one_line Tight box leaf_line.Cells (leaf_line.Pairs qs) is w v = absurd v
+  one_line Tight box leaf_line.Cells leaf_line.Tight is w v = absurd (tight_not_above box is v w.0)
+  one_line Tight box leaf_line.Cells leaf_line.Cells is w v = refl
 
-  settled_not_cut : (kind : CertKind) (box : List Interval) (f : LeafForm) (k c : ℕ) → IsBoxOf b box
+  settled_not_cut : (kind : CertKind) (box : List Interval) (f : LeafLine) (k c : ℕ) → IsBoxOf b box
       → IsSettled kind b h targets box f → IsToCut kind b h targets box k c → ⊥
-  settled_not_cut Named box (form.Pairs ps) k c is w cut = pairs_not_above box ps.items is w cut.above
-  settled_not_cut Named box form.Tight k c is w cut = w
-  settled_not_cut Named box form.Cells k c is w cut = w
-  settled_not_cut Tight box (form.Pairs ps) k c is w cut = w
-  settled_not_cut Tight box form.Tight k c is w cut = tight_not_above box is w cut.above
-  settled_not_cut Tight box form.Cells k c is w cut =
+  settled_not_cut Named box (leaf_line.Pairs ps) k c is w cut = pairs_not_above box ps.items is w cut.above
+  settled_not_cut Named box leaf_line.Tight k c is w cut = w
+  settled_not_cut Named box leaf_line.Cells k c is w cut = w
+  settled_not_cut Tight box (leaf_line.Pairs ps) k c is w cut = w
+  settled_not_cut Tight box leaf_line.Tight k c is w cut = tight_not_above box is w cut.above
+  settled_not_cut Tight box leaf_line.Cells k c is w cut =
       let few = w.1 in
       let many = cut.large in
       absurd (omega arith)
 
-  settled_not_stuck : (kind : CertKind) (box : List Interval) (f : LeafForm) (bytes : List ℕ) (o n : ℕ) → IsBoxOf b box
+  settled_not_stuck : (kind : CertKind) (box : List Interval) (f : LeafLine) (bytes : List ℕ) (o n : ℕ) → IsBoxOf b box
       → IsSettled kind b h targets box f → IsStuck kind b h targets box bytes o n → ⊥
-  settled_not_stuck Named box (form.Pairs ps) bytes o n is w (single, k, number, a) =
+  settled_not_stuck Named box (leaf_line.Pairs ps) bytes o n is w (single, k, number, a) =
       pairs_not_above box ps.items is w (k, n, a)
-  settled_not_stuck Named box form.Tight bytes o n is w stuck = w
-  settled_not_stuck Named box form.Cells bytes o n is w stuck = w
-  settled_not_stuck Tight box (form.Pairs ps) bytes o n is w stuck = w
-  settled_not_stuck Tight box form.Tight bytes o n is w stuck = tight_not_above box is w stuck.0
-  settled_not_stuck Tight box form.Cells bytes o n is w stuck = cells_not_above box w.2 bytes o n stuck.2
+  settled_not_stuck Named box leaf_line.Tight bytes o n is w stuck = w
+  settled_not_stuck Named box leaf_line.Cells bytes o n is w stuck = w
+  settled_not_stuck Tight box (leaf_line.Pairs ps) bytes o n is w stuck = w
+  settled_not_stuck Tight box leaf_line.Tight bytes o n is w stuck = tight_not_above box is w stuck.0
+  settled_not_stuck Tight box leaf_line.Cells bytes o n is w stuck = cells_not_above box w.2 bytes o n stuck.2
 
   stuck_not_cut : (kind : CertKind) (box : List Interval) (bytes : List ℕ) (o n k c : ℕ)
       → IsStuck kind b h targets box bytes o n → IsToCut kind b h targets box k c → ⊥
@@ -292,7 +292,7 @@ module _ (best_one : BestLeavesAreOne) (counts_one : BoxCountsAreOne) (cells_one
   same_split k j c d ls ks rs ts e f g i = cc
 
   module _ (cuts : CutsHaveHalves) (kind : CertKind) where
-    moved_settled : (box other : List Interval) (f : LeafForm) → box ≡ other → IsSettled kind b h targets other f
+    moved_settled : (box other : List Interval) (f : LeafLine) → box ≡ other → IsSettled kind b h targets other f
         → IsSettled kind b h targets box f
     moved_settled box other f e w = subst (λ (x : List Interval). IsSettled kind b h targets x f) (sym e) w
 
@@ -314,8 +314,8 @@ module _ (best_one : BestLeavesAreOne) (counts_one : BoxCountsAreOne) (cells_one
         → Halves kind b h targets other o ks r
         → box ≡ other → n ≡ o → (ns ≡ ks) × (m ≡ r)
     one_tree _ _ _ _ _ _ _ _ is (leaf box n p w few) (leaf other o q v also) e f =
-        let same = one_form kind box p q is w (moved_settled box other q e v) in
-        (ap (λ (x : LeafForm). let y : List Node = Leaf x ∷ [] in y) same, ap (λ x. x + 1) f)
+        let same = one_line kind box p q is w (moved_settled box other q e v) in
+        (ap (λ (x : LeafLine). let y : List Node = Leaf x ∷ [] in y) same, ap (λ x. x + 1) f)
     one_tree _ _ _ _ _ _ _ _ is (leaf box n p w few) (split other j d o m' r' left right cut l t) e f =
         absurd (settled_not_cut kind box p j d is w (moved_cut box other j d e cut))
     one_tree _ _ _ _ _ _ _ _ is (split box k c n m r left right cut l t) (leaf other o q v few) e f =

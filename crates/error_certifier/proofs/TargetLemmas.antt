@@ -13,7 +13,7 @@ use Rattle.fuzzy_meaning.specs.declared.{block.Block.Block, block.Output.Output}
 use Rattle.fuzzy_meaning.specs.Blocks.{IsValid}
 use Rattle.error_bound.specs.{declared.boxes.Interval.Interval, Boxes.IsBoxOf}
 use Rattle.error_bound.specs.{Leaves.Holds, Leaves.strong, Leaves.silent}
-use Rattle.box_tree.specs.declared.{cert.CertKind.CertKind, cert.LeafForm.LeafForm, cert.Node.Node, cert.Cert.Cert}
+use Rattle.box_tree.specs.declared.{cert.CertKind.CertKind, cert.LeafLine.LeafLine, cert.Node.Node, cert.Cert.Cert}
 use Rattle.box_tree.specs.declared.cert.CertKind.TheVariants.{Named, Tight}
 use Rattle.box_tree.specs.declared.cert.Node.TheVariants.{Split, Leaf}
 use Rattle.box_tree.specs.{Certificates.IsNode, Certificates.IsLeaf, Certificates.IsPair, Certificates.IsCert}
@@ -27,7 +27,7 @@ use Rattle.error_certifier.specs.Laws.{AreWithin}
 use Rattle.error_certifier.proofs.BoxLemmas.{whole_box, left_box, right_box, split_node, middle_inside}
 use Rattle.error_certifier.proofs.CertLemmas.{halved_open, halved_leaves}
 use Rattle.error_bound.specs.declared.boxes.Leaf as the
-use Rattle.box_tree.specs.declared.cert.LeafForm.TheVariants as form
+use Rattle.box_tree.specs.declared.cert.LeafLine.TheVariants as leaf_line
 use Rattle.cell_bounds.specs.declared.claims.Claim.TheVariants as claim
 
 -- ---- leaves
@@ -53,12 +53,12 @@ claim_of pairs k p c at is =
 -- what a leaf on a box says of each output, with its Bounds
 abbrev HasBounds : Block → ℕ → Part → Type 0
 HasBounds b h p = (k : ℕ) (x : Output) → slice_get b.outputs k ≡ Some x
-    → (c : Claim) × (n : ℕ) × (claim_at p.form k ≡ Some c) × HasClaimBound b p.box (k + 1) x h c n
+    → (c : Claim) × (n : ℕ) × (claim_at p.stated k ≡ Some c) × HasClaimBound b p.box (k + 1) x h c n
 
-leaf_good : (kind : CertKind) (b : Block) (h : ℕ) (targets : List ℕ) (box : List Interval) (f : LeafForm) → IsValid b
-    → IsSettled kind b h targets box f → HasBounds b h (record { box = box; form = f })
+leaf_good : (kind : CertKind) (b : Block) (h : ℕ) (targets : List ℕ) (box : List Interval) (f : LeafLine) → IsValid b
+    → IsSettled kind b h targets box f → HasBounds b h (record { box = box; stated = f })
     → IsLeaf kind (length b.outputs) f
-leaf_good Named b h targets box (form.Pairs pairs) valid settled bounds = (
+leaf_good Named b h targets box (leaf_line.Pairs pairs) valid settled bounds = (
   settled.count,
   λ k d l.
       let count = settled.count in
@@ -70,11 +70,11 @@ leaf_good Named b h targets box (form.Pairs pairs) valid settled bounds = (
       subst (λ (c : Claim). HasClaimBound b box (k + 1) x.0 h c said.1) same said.3 in
       pair_held b box (k + 1) (record { rule = p.0; k = p.1 }) valid named.0,
 )
-leaf_good Named b h targets box form.Tight valid settled bounds = absurd settled
-leaf_good Named b h targets box form.Cells valid settled bounds = absurd settled
-leaf_good Tight b h targets box (form.Pairs pairs) valid settled bounds = absurd settled
-leaf_good Tight b h targets box form.Tight valid settled bounds = tt
-leaf_good Tight b h targets box form.Cells valid settled bounds = tt
+leaf_good Named b h targets box leaf_line.Tight valid settled bounds = absurd settled
+leaf_good Named b h targets box leaf_line.Cells valid settled bounds = absurd settled
+leaf_good Tight b h targets box (leaf_line.Pairs pairs) valid settled bounds = absurd settled
+leaf_good Tight b h targets box leaf_line.Tight valid settled bounds = tt
+leaf_good Tight b h targets box leaf_line.Cells valid settled bounds = tt
 
 module _ (one : ClaimBoundsAreOne) (b : Block) (h : ℕ) (targets : List ℕ) (valid : IsValid b) where
   -- of one claim
@@ -87,11 +87,11 @@ module _ (one : ClaimBoundsAreOne) (b : Block) (h : ℕ) (targets : List ℕ) (v
       omega (arith, again, within)
 
   -- the Bound of what a settled leaf says
-  leaf_within : (kind : CertKind) (box : List Interval) (f : LeafForm) → IsBoxOf b box
+  leaf_within : (kind : CertKind) (box : List Interval) (f : LeafLine) → IsBoxOf b box
       → IsSettled kind b h targets box f
       → (k : ℕ) (x : Output) → slice_get b.outputs k ≡ Some x → (c : Claim) (e : ℕ) → claim_at f k ≡ Some c
       → HasClaimBound b box (k + 1) x h c e → e ≤ slice_index targets k
-  leaf_within Named box (form.Pairs pairs) is settled k x out c e at has =
+  leaf_within Named box (leaf_line.Pairs pairs) is settled k x out c e at has =
       let best = settled.each k x out in
       let leaf_is : the.Leaf = record { rule = best.0.0; k = best.0.1 } in
       let same = claim_of pairs.items k best.0 c best.2 at in
@@ -99,14 +99,14 @@ module _ (one : ClaimBoundsAreOne) (b : Block) (h : ℕ) (targets : List ℕ) (v
       subst (λ (y : Claim). HasClaimBound b box (k + 1) x h y e) same has in
       let again = one b box (k + 1) x h (claim.Pair leaf_is) best.1 e valid is.count (here.0, best.3.bound) here in
       omega (arith, again, best.3.within)
-  leaf_within Named box form.Tight is settled k x out c e at has = absurd settled
-  leaf_within Named box form.Cells is settled k x out c e at has = absurd settled
-  leaf_within Tight box (form.Pairs pairs) is settled k x out c e at has = absurd settled
-  leaf_within Tight box form.Tight is settled k x out c e at has =
+  leaf_within Named box leaf_line.Tight is settled k x out c e at has = absurd settled
+  leaf_within Named box leaf_line.Cells is settled k x out c e at has = absurd settled
+  leaf_within Tight box (leaf_line.Pairs pairs) is settled k x out c e at has = absurd settled
+  leaf_within Tight box leaf_line.Tight is settled k x out c e at has =
       let best = settled k x out in
       let same : c ≡ claim.Tight = cc in
       one_within box (k + 1) x claim.Tight c best.0 e (slice_index targets k) is.count best.1 best.2 has same
-  leaf_within Tight box form.Cells is settled k x out c e at has =
+  leaf_within Tight box leaf_line.Cells is settled k x out c e at has =
       let best = settled.2 k x out in
       let same : c ≡ claim.Cells = cc in
       one_within box (k + 1) x claim.Cells c best.0 e (slice_index targets k) is.count best.1 best.2 has same
@@ -123,7 +123,7 @@ back P (x ∷ xs) ys all = back P xs ys all.1
 
 module _ (cuts : CutsHaveHalves) (kind : CertKind) (b : Block) (h : ℕ) (targets : List ℕ) (valid : IsValid b) where
   abbrev IsGood : Part → Type 0
-  IsGood p = IsBoxOf b p.box × IsSettled kind b h targets p.box p.form
+  IsGood p = IsBoxOf b p.box × IsSettled kind b h targets p.box p.stated
 
   abbrev IsGoodNode : Node → Type 0
   IsGoodNode = IsNode kind (length b.outputs)
@@ -136,15 +136,15 @@ module _ (cuts : CutsHaveHalves) (kind : CertKind) (b : Block) (h : ℕ) (target
       → IsBoxOf b box → AllByRecursion (HasBounds b h) parts
       → AreGood parts rest more nodes
   told _ _ _ _ _ _ more _ _ (halved_leaf box n f settled few) (leaf around g rest) same nodes is bounds =
-      let form_is : g ≡ f = cc in
+      let line_is : g ≡ f = cc in
       let rest_is : rest ≡ more = cc in
       let there : IsSettled kind b h targets around g =
       subst (λ (y : List Interval). IsSettled kind b h targets y g) (sym same)
-      (subst (λ (y : LeafForm). IsSettled kind b h targets box y) (sym form_is) settled) in
+      (subst (λ (y : LeafLine). IsSettled kind b h targets box y) (sym line_is) settled) in
       let good : IsLeaf kind (length b.outputs) f =
-      subst (λ (y : LeafForm). IsLeaf kind (length b.outputs) y) form_is
+      subst (λ (y : LeafLine). IsLeaf kind (length b.outputs) y) line_is
       (leaf_good kind b h targets around g valid there bounds.0) in (
-        All-from_recursion IsGood (record { box = around; form = g } ∷ [])
+        All-from_recursion IsGood (record { box = around; stated = g } ∷ [])
             ((subst (IsBoxOf b) (sym same) is, there), tt),
         rest_is,
         All-from_recursion IsGoodNode (Leaf f ∷ []) (good, tt),
@@ -205,7 +205,7 @@ module _ (cuts : CutsHaveHalves) (one : ClaimBoundsAreOne) (open_on : OpenBoxesG
         let place : k + 1 - 1 ≡ k = omega arith in (
           has.claim,
           bound_is.0,
-          subst (λ j. claim_at (get_or accepted.parts i d).form j ≡ Some has.claim) place has.claim_is,
+          subst (λ j. claim_at (get_or accepted.parts i d).stated j ≡ Some has.claim) place has.claim_is,
           has.bound_is,
         )
 
@@ -225,8 +225,8 @@ module _ (cuts : CutsHaveHalves) (one : ClaimBoundsAreOne) (open_on : OpenBoxesG
         subst (IsGood cuts kind b h targets valid) some.3 (all.0 at part some.2) in
         let has = some.4 in
         let place : k + 1 - 1 ≡ k = omega arith in
-        let within = leaf_within one b h targets valid kind part.box part.form good.0 good.1 k x out has.claim
-        found.0 (subst (λ j. claim_at part.form j ≡ Some has.claim) place has.claim_is) has.bound_is in
+        let within = leaf_within one b h targets valid kind part.box part.stated good.0 good.1 k x out has.claim
+        found.0 (subst (λ j. claim_at part.stated j ≡ Some has.claim) place has.claim_is) has.bound_is in
         (found.0, found.2, within)
 
     claims_within : AreWithin targets cert.claims

@@ -10,8 +10,8 @@ use Rattle.error_bound.specs.declared.boxes.Leaf as the
 use Rattle.error_bound.specs.{Best.IsBest, Bounds.IsBound, Tight.IsTightBound, Matters.narrowed}
 use Rattle.box_tree.specs.declared.cert.CertKind.{CertKind}
 use Rattle.box_tree.specs.declared.cert.CertKind.TheVariants as kind
-use Rattle.box_tree.specs.declared.{cert.LeafForm.LeafForm, cert.Node.Node, cert.Cert.Cert}
-use Rattle.box_tree.specs.declared.cert.LeafForm.TheVariants.{Pairs, Tight, Cells}
+use Rattle.box_tree.specs.declared.{cert.LeafLine.LeafLine, cert.Node.Node, cert.Cert.Cert}
+use Rattle.box_tree.specs.declared.cert.LeafLine.TheVariants.{Pairs, Tight, Cells}
 use Rattle.box_tree.specs.declared.cert.Node.TheVariants.{Split, Leaf}
 use Rattle.cell_bounds.specs.{Cells.cell_of, Claims.IsBoxCount}
 use Rattle.cell_bounds.specs.CellBounds.{IsCellsBound, IsFirstCellAbove, cell_count}
@@ -66,12 +66,12 @@ AreCellsWithin b h targets box =
 
 -- the box is a leaf with this line: a tight one is one of cells only where it has few, and its tight Bounds are too
 -- high
-abbrev pub IsSettled : CertKind → Block → ℕ → List ℕ → List Interval → LeafForm → Type 0
+abbrev pub IsSettled : CertKind → Block → ℕ → List ℕ → List Interval → LeafLine → Type 0
 IsSettled kind.Named b h targets box (Pairs pairs) = AreWithinTarget b h targets box pairs.items
 IsSettled kind.Tight b h targets box Tight = IsTightWithin b h targets box
 IsSettled kind.Tight b h targets box Cells =
     IsAbove kind.Tight b h targets box × (cell_count (narrowed b box) ≤ 64) × AreCellsWithin b h targets box
-IsSettled kind b h targets box form = ⊥
+IsSettled kind b h targets box stated = ⊥
 
 -- no leaf of the box serves: this cell is the first, and o the first output there, whose count n is above its target
 abbrev pub IsStuck : CertKind → Block → ℕ → List ℕ → List Interval → List ℕ → ℕ → ℕ → Type 0
@@ -122,8 +122,8 @@ pub record IsToCut (kind : CertKind) (b : Block) (h : ℕ) (targets : List ℕ) 
 -- where n leaves stand, the box comes to these nodes, and then m leaves stand
 pub data Halves (kind : CertKind) (b : Block) (h : ℕ) (targets : List ℕ) : List Interval → ℕ → List Node → ℕ
     → Type 0 where
-  leaf : (box : List Interval) (n : ℕ) (form : LeafForm) → IsSettled kind b h targets box form → n < 4096
-      → Halves kind b h targets box n (Leaf form ∷ []) (n + 1)
+  leaf : (box : List Interval) (n : ℕ) (stated : LeafLine) → IsSettled kind b h targets box stated → n < 4096
+      → Halves kind b h targets box n (Leaf stated ∷ []) (n + 1)
   split : (box : List Interval) (k c n m r : ℕ) (left right : List Node) → IsToCut kind b h targets box k c
       → Halves kind b h targets (left_of k c box) n left m → Halves kind b h targets (right_of k c box) m right r
       → Halves kind b h targets box n (Split (k + 1) c ∷ (left ++ right)) r
@@ -133,7 +133,7 @@ pub data Stops (kind : CertKind) (b : Block) (h : ℕ) (targets : List ℕ) : Li
   cell : (box : List Interval) (n : ℕ) (bytes : ArrayVec ℕ) (output above : ℕ)
       → IsStuck kind b h targets box bytes.items output above
       → Stops kind b h targets box n (Cell bytes output above)
-  limit : (box : List Interval) (n : ℕ) (form : LeafForm) → IsSettled kind b h targets box form → 4096 ≤ n
+  limit : (box : List Interval) (n : ℕ) (stated : LeafLine) → IsSettled kind b h targets box stated → 4096 ≤ n
       → Stops kind b h targets box n LeafLimit
   in_left : (box : List Interval) (k c n : ℕ) (stop : NotReached) → IsToCut kind b h targets box k c
       → Stops kind b h targets (left_of k c box) n stop → Stops kind b h targets box n stop

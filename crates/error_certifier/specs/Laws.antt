@@ -64,8 +64,8 @@ SaysOutOfReachFor k b h targets (Outputs given outputs) = Unit {0}
 
 abbrev pub CellsAreOutOfReach : Type 0
 CellsAreOutOfReach =
-    (k : CertKind) (b : Block) (h : ℕ) (targets : List ℕ) (stop : NotReached) → IsValid b → 1 ≤ h → StopsFor k b h targets stop
-    → SaysOutOfReachFor k b h targets stop
+    (k : CertKind) (b : Block) (h : ℕ) (targets : List ℕ) (stop : NotReached) → IsValid b → 1 ≤ h
+    → StopsFor k b h targets stop → SaysOutOfReachFor k b h targets stop
 
 -- ---- tight halving of one or two inputs
 
@@ -88,21 +88,6 @@ TightHalvingDecides =
     → AreTargets b targets → IsAccepted b h cert errors → AreWithin targets errors
     → (found : Cert) × IsHalvingFor kind.Tight b h targets found
 
--- ---- with one target for all outputs
-
+-- the same with one target for all outputs
 abbrev pub SaysOutOfReach : CertKind → Block → ℕ → ℕ → NotReached → Type 0
 SaysOutOfReach k b h target stop = SaysOutOfReachFor k b h (one_for_all b target) stop
-
-abbrev pub IsAnswer : CertKind → Block → ℕ → ℕ → Result Cert NotReached → Type 0
-IsAnswer k b h target answer = IsAnswerFor k b h (one_for_all b target) answer
-
-abbrev pub AnswersAreOne : Type 0
-AnswersAreOne =
-    (k : CertKind) (b : Block) (h target : ℕ) (x y : Result Cert NotReached) → IsValid b
-    → IsAnswer k b h target x → IsAnswer k b h target y → x ≡ y
-
--- the certificate of a halving is one of its kind, and claims no error above the target
-abbrev pub HalvingsAreWithinTheirTarget : Type 0
-HalvingsAreWithinTheirTarget =
-    (k : CertKind) (b : Block) (h target : ℕ) (cert : Cert) → IsValid b → IsHalving k b h target cert
-    → IsCert k cert × All (λ error. error ≤ target) cert.claims

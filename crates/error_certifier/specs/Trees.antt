@@ -35,12 +35,12 @@ AreTightBounds b h targets box bounds =
     (k : ℕ) (x : Output) → slice_get b.outputs k ≡ Some x
     → IsTightBound b box (k + 1) x h (slice_index bounds k) × (slice_index bounds k ≤ slice_index targets k)
 
--- the box is a leaf of this form, with these Bounds, each within its target
+-- the box is a leaf that states this, with these Bounds, each within its target
 pub record IsFoundLeaf (kind : CertKind) (b : Block) (h : ℕ) (targets : List ℕ) (box : List Interval)
     (found : FoundLeaf) : Type 0 where
-  pub settled : IsSettled kind b h targets box found.form
-  pub good : IsLeaf kind (length b.outputs) found.form
-  pub bounds : AreBounds b h (part_of box found.form) found.bounds
+  pub settled : IsSettled kind b h targets box found.stated
+  pub good : IsLeaf kind (length b.outputs) found.stated
+  pub bounds : AreBounds b h (part_of box found.stated) found.bounds
   pub within : (k : ℕ) → k < length b.outputs → slice_index found.bounds k ≤ slice_index targets k
 
 -- or it is to be cut in the interval v, which is at place k

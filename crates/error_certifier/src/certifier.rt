@@ -12,8 +12,7 @@ use crate::laws::cells_are_out_of_reach;
 use crate::targets::Targets;
 use arrayvec::ArrayVec;
 use box_tree::laws::open_boxes_go_on;
-use box_tree::{Cert, CertKind};
-use byte_scaling::Width;
+use box_tree::{Cert, CertFormat, CertKind};
 use cert_check::whole_box;
 use error_bound::BoxTable;
 use fuzzy_meaning::Block;
@@ -50,7 +49,7 @@ pub fn certify(alloc: Global, block: &Block, target: u32) -> Result<Cert, NotRea
     ensures stops { IfErr result (λ stop. stop ≢ NotReached.Memory → StopsAt Named block.now 1 target stop) }
     ensures out_of_reach { IfErr result (SaysOutOfReach Named block.now 1 target) }
 {
-    certify_for(alloc, block, target, CertKind::Named, Width::Byte)
+    certify_for(alloc, CertFormat::NAMED, block, target)
 }
 
 /// The same for answers of 16 bits.
@@ -63,52 +62,51 @@ pub fn certify16(alloc: Global, block: &Block, target: u32) -> Result<Cert, NotR
     ensures stops { IfErr result (λ stop. stop ≢ NotReached.Memory → StopsAt Named block.now 256 target stop) }
     ensures out_of_reach { IfErr result (SaysOutOfReach Named block.now 256 target) }
 {
-    certify_for(alloc, block, target, CertKind::Named, Width::Word)
+    certify_for(alloc, CertFormat::NAMED16, block, target)
 }
 
-/// The certificate of this kind that halving gives for one target for all outputs, for answers of this width.
+/// The certificate of this format that halving gives for one target for all outputs.
 pub fn certify_for(
     alloc: Global,
+    format: CertFormat,
     block: &Block,
     target: u32,
-    kind: CertKind,
-    answers: Width,
 ) -> Result<Cert, NotReached>
     requires block { IsValid block.now }
     requires target { target ≤ 1000000 }
-    ensures halved { IfOk result (IsHalving kind block.now (parts_of answers) target) }
+    ensures halved { IfOk result (IsHalving format.kind block.now (parts_of format.width) target) }
     ensures within { IfOk result (λ cert. All (λ error. error ≤ target) cert.claims) }
-    ensures cert { IfOk result (IsCert kind) }
+    ensures cert { IfOk result (IsCert format.kind) }
     ensures stops { IfErr result
-        (λ stop. stop ≢ NotReached.Memory → StopsAt kind block.now (parts_of answers) target stop) }
-    ensures out_of_reach { IfErr result (SaysOutOfReach kind block.now (parts_of answers) target) }
+        (λ stop. stop ≢ NotReached.Memory → StopsAt format.kind block.now (parts_of format.width) target stop) }
+    ensures out_of_reach { IfErr result (SaysOutOfReach format.kind block.now (parts_of format.width) target) }
 {
-    certify_each(alloc, block, &Targets::All(target), kind, answers)
+    certify_each(alloc, format, block, &Targets::All(target))
 }
 
 /// The same with a target for each output.
 pub fn certify_each(
     alloc: Global,
+    format: CertFormat,
     block: &Block,
     targets: &Targets,
-    kind: CertKind,
-    answers: Width,
 ) -> Result<Cert, NotReached>
     requires block { IsValid block.now }
     requires targets { All (λ target. target ≤ 1000000) (targets_of block.now targets.now) }
-    ensures halved { IfOk result (IsHalvingFor kind block.now (parts_of answers) (targets_of block.now targets.now)) }
+    ensures halved { IfOk result
+        (IsHalvingFor format.kind block.now (parts_of format.width) (targets_of block.now targets.now)) }
     ensures within { IfOk result (λ cert. AreWithin (targets_of block.now targets.now) cert.claims) }
-    ensures cert { IfOk result (IsCert kind) }
+    ensures cert { IfOk result (IsCert format.kind) }
     ensures stops { IfErr result (λ stop. stop ≢ NotReached.Memory
-        → StopsFor kind block.now (parts_of answers) (targets_of block.now targets.now) stop) }
+        → StopsFor format.kind block.now (parts_of format.width) (targets_of block.now targets.now) stop) }
     ensures out_of_reach { IfErr result
-        (SaysOutOfReachFor kind block.now (parts_of answers) (targets_of block.now targets.now)) }
+        (SaysOutOfReachFor format.kind block.now (parts_of format.width) (targets_of block.now targets.now)) }
 {
     let numbers = targets.numbers(block.outputs.len());
     if numbers.len() != block.outputs.len() {
         return Err(NotReached::Outputs(numbers.len() as u8, block.outputs.len() as u8));
     }
-    certified(alloc, kind, block, numbers, answers.parts())
+    certified(alloc, format.kind, block, numbers, format.width.parts())
 }
 
 /// The same with a number for each output, for answers with `parts` parts to a byte.

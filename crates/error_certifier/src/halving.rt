@@ -12,7 +12,7 @@ use crate::boxes::{middle, widest};
 use crate::certifier::NotReached;
 use crate::leaves::{FoundLeaf, Piece, best_leaf, tight_bounds};
 use arrayvec::ArrayVec;
-use box_tree::{Cert, CertKind, LeafForm, Node};
+use box_tree::{Cert, CertKind, LeafLine, Node};
 use cell_bounds::laws::narrowed_boxes_stand_for_all;
 use cell_bounds::{cells_bounds, has_few_cells, low_bytes};
 use cert_check::laws::cuts_have_halves;
@@ -160,7 +160,7 @@ impl<'a> Task<'a> {
     {
         match tight_bounds(self.block, table, self.targets.as_slice(), self.parts) {
             Ok(bounds) => Ok(Piece::Leaf(FoundLeaf {
-                form: LeafForm::Tight,
+                stated: LeafLine::Tight,
                 bounds,
             })),
             Err(_above) => self.cells_leaf(table),
@@ -192,7 +192,7 @@ impl<'a> Task<'a> {
             self.targets.as_slice(),
         ) {
             Ok(bounds) => Ok(Piece::Leaf(FoundLeaf {
-                form: LeafForm::Cells,
+                stated: LeafLine::Cells,
                 bounds,
             })),
             Err(above) => Err(NotReached::Cell(above.bytes, above.out, above.bound)),
@@ -218,7 +218,7 @@ impl Tree {
     /// Appends a leaf to the nodes, and raises the errors to at least its Bounds.
     fn push_leaf(&mut self, leaf: FoundLeaf) -> Result<(), NotReached>
         requires { length self.old.errors.items ≤ 4 }
-        ensures nodes { OnOk result (self.new.nodes.items ≡ self.old.nodes.items ++ node.Leaf leaf.form ∷ []) }
+        ensures nodes { OnOk result (self.new.nodes.items ≡ self.old.nodes.items ++ node.Leaf leaf.stated ∷ []) }
         ensures errors { OnOk result (AreRaised leaf.bounds self.old.errors.items self.new.errors.items) }
         ensures leaves { OnOk result (self.new.leaves ≡ self.old.leaves + 1) }
         ensures few { OnOk result (self.old.leaves < 4096) }
@@ -229,8 +229,8 @@ impl Tree {
         if self.leaves >= MOST_LEAVES {
             return Err(NotReached::LeafLimit);
         }
-        let FoundLeaf { form, bounds } = leaf;
-        if self.nodes.push(Node::Leaf(form)).is_err() {
+        let FoundLeaf { stated, bounds } = leaf;
+        if self.nodes.push(Node::Leaf(stated)).is_err() {
             return Err(NotReached::Memory);
         }
         self.leaves += 1;

@@ -1,7 +1,7 @@
 //! Laws of the definitions.
-ghost use Rattle.error_certifier.specs.Laws.{AnswersAreOne, CellsAreOutOfReach, HalvingsAreWithinTheirTarget};
-ghost use Rattle.error_certifier.specs.Laws.{AnswersForTargetsAreOne, EachBlockIsHalved, HalvingsAreWithinTheirTargets};
-ghost use Rattle.error_certifier.specs.Laws.{DefaultsHaveHalvings, SmallBlocksMeetNoLimit, TightHalvingDecides};
+ghost use Rattle.error_certifier.specs.Laws.{AnswersForTargetsAreOne, CellsAreOutOfReach, DefaultsHaveHalvings};
+ghost use Rattle.error_certifier.specs.Laws.{EachBlockIsHalved, HalvingsAreWithinTheirTargets, SmallBlocksMeetNoLimit};
+ghost use Rattle.error_certifier.specs.Laws.{TightHalvingDecides};
 
 use box_tree::laws::open_boxes_go_on;
 use cell_bounds::laws::{
@@ -43,20 +43,6 @@ pub fn halvings_are_within_their_targets()
     cuts_have_halves();
     claim_bounds_are_one();
     open_boxes_go_on();
-}
-
-/// The same for one target for all outputs.
-pub fn answers_are_one()
-    ensures { AnswersAreOne }
-{
-    answers_for_targets_are_one();
-}
-
-/// The certificate of a halving for one target is of its kind, and claims no error above the target.
-pub fn halvings_are_within_their_target()
-    ensures { HalvingsAreWithinTheirTarget }
-{
-    halvings_are_within_their_targets();
 }
 
 /// If halving stops at a cell, no accepted certificate of the block has a smaller error for that output

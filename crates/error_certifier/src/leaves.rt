@@ -8,7 +8,7 @@ ghost use Rattle.error_certifier.specs.Halving.{IsWithinTarget, IsFirstAbove};
 ghost use Rattle.error_certifier.specs.Trees.{AreTightBounds, IsFoundLeaf};
 
 use arrayvec::ArrayVec;
-use box_tree::LeafForm;
+use box_tree::LeafLine;
 use error_bound::laws::{best_leaves_hold, faulty_leaves_fail};
 use error_bound::{BoxTable, Interval, Leaf};
 use fuzzy_meaning::Block;
@@ -16,7 +16,7 @@ use fuzzy_meaning::Block;
 /// A leaf within the targets: what its line states, and its Bound for each output, at its index.
 #[derive(Drop)]
 pub(crate) struct FoundLeaf {
-    pub(crate) form: LeafForm,
+    pub(crate) stated: LeafLine,
     pub(crate) bounds: [u32; 4],
 }
 
@@ -71,7 +71,7 @@ pub(crate) fn best_leaf(
         }
     }
     Ok(FoundLeaf {
-        form: LeafForm::Pairs(pairs),
+        stated: LeafLine::Pairs(pairs),
         bounds,
     })
 }

@@ -2,7 +2,7 @@
 use Rattle.rule_layout.proofs.Words.{[], ◌*◌, ◌++◌, ◌+◌, ◌-◌, ◌<◌, ◌||◌, ◌∙◌, ◌∷◌, ◌≡◌, ◌≤◌, add-one, All, All-append}
 use Rattle.rule_layout.proofs.Words.{All-cons, All-head, All-map, All-nil, All-tail, ap, arith, Block, Bool}
 use Rattle.rule_layout.proofs.Words.{Complement, complement_slot, conjunction_of, conjunctions_of, false, false≢true}
-use Rattle.rule_layout.proofs.Words.{filter, Flat, flat_map, flat_of, form_by, form_of, get_or, input_terms}
+use Rattle.rule_layout.proofs.Words.{filter, Flat, flat_map, flat_of, instruction_by, instruction_of, get_or, input_terms}
 use Rattle.rule_layout.proofs.Words.{is_complemented, is_same_slot, IsValid, length, length-append, length-map, List}
 use Rattle.rule_layout.proofs.Words.{list_any, Literal, map, map-append, nat_le, nat_tests, None, number_in, Option}
 use Rattle.rule_layout.proofs.Words.{Out, out_slot, output_terms, place_of, range_with_len, refl, Rev, Revw, Rule}
@@ -18,7 +18,7 @@ use Rattle.fz_num.specs.declared.dec.Dec.{Dec}
 use Rattle.rule_layout.specs.Layouts.{FlatHasParts}
 use Rattle.rule_layout.proofs.{SpreadLemmas.some_conjunction, NumberLemmas.slot_from_same}
 use Rattle.rule_layout.proofs.BlockLemmas.{rule_fits, few_terms, few_singletons}
-use Rattle.rule_layout.proofs.LayoutLemmas.{few_slots, numbers_in_range, form_by_rev}
+use Rattle.rule_layout.proofs.LayoutLemmas.{few_slots, numbers_in_range, instruction_by_rev}
 
 -- the slots' places in the tables rise, from m on and below n
 abbrev Rise : ℕ → ℕ → List Slot → Type 0
@@ -206,9 +206,9 @@ unscaled_rules (r ∷ rs) h e =
     (unscaled_weight r.weight (or_false_left _ _ e) (All-head (λ q. IfSome q.weight IsWeight) r rs h)))
     (unscaled_rules rs (All-tail (λ q. IfSome q.weight IsWeight) r rs h) (or_false_right _ _ e))
 
-form_by_unscaled : (n : ℕ) (rules : List Rule) → form_by n rules ≡ Rev
+instruction_by_unscaled : (n : ℕ) (rules : List Rule) → instruction_by n rules ≡ Rev
     → list_any (λ r. is_below_one r.weight) rules ≡ false
-form_by_unscaled n rules e = by_tests (nat_le n 254) (list_any (λ r. is_below_one r.weight) rules) refl refl
+instruction_by_unscaled n rules e = by_tests (nat_le n 254) (list_any (λ r. is_below_one r.weight) rules) refl refl
   where
     by_tests : (s t : Bool) → nat_le n 254 ≡ s → list_any (λ r. is_below_one r.weight) rules ≡ t
         → list_any (λ r. is_below_one r.weight) rules ≡ false
@@ -217,7 +217,7 @@ form_by_unscaled n rules e = by_tests (nat_le n 254) (list_any (λ r. is_below_o
     by_tests false true h k = let never : Revw ≡ Rev = rw h at e in cc
 
 pub laid_out_made : (b : Block) (f : Flat) → IsValid b → f ≡ flat_of b → IsLaidOut f
-unfolding flat_of form_of weights_of conjunctions_of
+unfolding flat_of instruction_of weights_of conjunctions_of
 laid_out_made b f v same =
     let weighed = flat_maps_alike rule_weights (rule_conjunctions (slots_of b)) b.rules
     (λ r. length-map (rule_spread r) (λ (_ : List Literal). weight_byte_of r.weight)
@@ -231,14 +231,14 @@ laid_out_made b f v same =
     )) in
     let made : IsLaidOut (flat_of b) = record {
       few_slots = few_slots b v;
-      few_for_rev = λ e. form_by_rev (length (slots_of b)) b.rules e;
+      few_for_rev = λ e. instruction_by_rev (length (slots_of b)) b.rules e;
       apart = λ k s lt. number_in-get_or 0 300 k (slots_of b) s (slots_rise b v) lt;
       in_range = numbers_in_range b v;
       some_conjunction = some;
       weighed = weighed;
       weight_bytes = weights_le b.rules (λ k d lt. (v.rules k d lt).weight);
       unscaled = λ e. unscaled_rules b.rules (λ k d lt. (v.rules k d lt).weight)
-          (form_by_unscaled (length (slots_of b)) b.rules e);
+          (instruction_by_unscaled (length (slots_of b)) b.rules e);
     } in
     subst IsLaidOut (sym same) made
 
@@ -256,5 +256,5 @@ flat_has_parts flat b e = record {
   slots = ap (λ (f : Flat). f.slots) e;
   conjunctions = ap (λ (f : Flat). f.conjunctions) e;
   weights = ap (λ (f : Flat). f.weights) e;
-  form = ap (λ (f : Flat). f.form) e;
+  instruction = ap (λ (f : Flat). f.instruction) e;
 }

@@ -2,7 +2,7 @@
 use Rattle.rule_layout.proofs.Words.{[], ◌*◌, ◌++◌, ◌+◌, ◌<◌, ◌∙◌, ◌∷◌, ◌≡◌, ◌≤◌, All, All-append, All-head, All-map}
 use Rattle.rule_layout.proofs.Words.{All-nil, All-tail, ap, ap₂, arith, Block, Bool, complement_slot}
 use Rattle.rule_layout.proofs.Words.{conclusion_number, Conjunction, conjunction_count, conjunction_of}
-use Rattle.rule_layout.proofs.Words.{conjunctions_of, entry_count, filter, Flat, flat_map, flat_of, form_by, form_of}
+use Rattle.rule_layout.proofs.Words.{conjunctions_of, entry_count, filter, Flat, flat_map, flat_of, instruction_by, instruction_of}
 use Rattle.rule_layout.proofs.Words.{get_or, input_terms, is_complemented, IsBelow, IsCountable, IsInTable}
 use Rattle.rule_layout.proofs.Words.{IsNumbering, IsSizeOfRules, IsSpreadable, IsValid, length, length-append}
 use Rattle.rule_layout.proofs.Words.{length-map, List, Literal, literal_number, map, marked, mul-le-mul_right, nat_le}
@@ -16,7 +16,7 @@ use Rattle.std.specs.{Prelude.Ok, Prelude.true, Prelude.false}
 use Rattle.std.proofs.{lemmas.List.Sums.length-filter, lemmas.List.Sums.count_by-le-length}
 use Rattle.std.proofs.{lemmas.List.Sums.get_or-le-sum_by, lemmas.List.Elements.All-filter}
 use Rattle.fuzzy_meaning.specs.{Blocks.rule_size}
-use Rattle.rule_layout.specs.{declared.flat.Form.Form}
+use Rattle.rule_layout.specs.{declared.flat.RuleInstruction.RuleInstruction}
 use Rattle.std.proofs.lemmas.List.FromFn.{length-range_with_len}
 use Rattle.rule_layout.proofs.BlockLemmas.{input_terms_in_grid, output_terms_in_table, few_terms, few_singletons}
 use Rattle.rule_layout.proofs.BlockLemmas.{rule_fits}
@@ -198,7 +198,7 @@ rules_spreadable b v = λ k d lt.
     } in
     made
 
-width_le : (f : Form) → element_width f ≤ 2
+width_le : (f : RuleInstruction) → element_width f ≤ 2
 width_le Rev = omega arith
 width_le Revw = omega arith
 
@@ -207,7 +207,7 @@ entries_fit : (rules : List Rule) (s : Size) → All IsCountable rules → IsSiz
 entries_fit rules s h k = omega (arith, k.0, k.1, k.2, entry_count_le rules h)
 
 -- the bytes of a valid block's list can be counted
-pub bytes_fit : {b : Block} {rules : List Rule} {s : Size} (f : Form) (w : ℕ) → IsValid b → rules ≡ b.rules
+pub bytes_fit : {b : Block} {rules : List Rule} {s : Size} (f : RuleInstruction) (w : ℕ) → IsValid b → rules ≡ b.rules
     → IsSizeOfRules rules (Ok s) → w ≡ element_width f → w * s.entries ≤ 2147483648
 bytes_fit {b} {rules} {s} f w v all size h =
     let small = entries_fit rules s (subst (All IsCountable) (sym all) (rules_countable b v)) size in
@@ -216,26 +216,26 @@ bytes_fit {b} {rules} {s} f w v all size h =
     let wide : w * s.entries ≤ 2 * s.entries = mul-le-mul_right s.entries few in
     omega (arith, wide, small)
 
--- the form that is found by what is read of the slots and the rules
-pub form_found : (b : Block) {f : Form} {n : ℕ} {ss : List Slot} {rules : List Rule} → f ≡ form_by n rules
-    → n ≡ length ss → ss ≡ slots_of b → rules ≡ b.rules → f ≡ form_of b
-unfolding form_of
-form_found b found size same all =
-    found ∙ ap₂ (λ (m : ℕ) (w : List Rule). form_by m w) (size ∙ ap (λ (w : List Slot). length w) same) all
+-- the instruction that is found by what is read of the slots and the rules
+pub instruction_found : (b : Block) {f : RuleInstruction} {n : ℕ} {ss : List Slot} {rules : List Rule} → f ≡ instruction_by n rules
+    → n ≡ length ss → ss ≡ slots_of b → rules ≡ b.rules → f ≡ instruction_of b
+unfolding instruction_of
+instruction_found b found size same all =
+    found ∙ ap₂ (λ (m : ℕ) (w : List Rule). instruction_by m w) (size ∙ ap (λ (w : List Slot). length w) same) all
 
 -- the size of the list that is found by that of the rules
 pub record IsListSize (b : Block) (n : ℕ) : Type 0 where
   pub few_conjunctions : conjunction_count b.rules ≤ 512
   pub bytes : n ≡ list_size b
 
-pub IsListSize-found : (b : Block) {f : Form} {w : ℕ} {rules : List Rule} {s : Size} → rules ≡ b.rules
-    → IsSizeOfRules rules (Ok s) → f ≡ form_of b → w ≡ element_width f → IsListSize b (w * s.entries)
+pub IsListSize-found : (b : Block) {f : RuleInstruction} {w : ℕ} {rules : List Rule} {s : Size} → rules ≡ b.rules
+    → IsSizeOfRules rules (Ok s) → f ≡ instruction_of b → w ≡ element_width f → IsListSize b (w * s.entries)
 unfolding list_size
-IsListSize-found b {f} {w} {rules} {s} all size form width =
+IsListSize-found b {f} {w} {rules} {s} all size instruction width =
     let here = subst (λ (r : List Rule). IsSizeOfRules r (Ok s)) all size in
     record {
       few_conjunctions = here.0;
-      bytes = ap₂ (λ (v n : ℕ). v * n) (width ∙ ap element_width form) (here.2 ∙ sym (length-list b));
+      bytes = ap₂ (λ (v n : ℕ). v * n) (width ∙ ap element_width instruction) (here.2 ∙ sym (length-list b));
     }
 
 pub IsTooLong-found : {b : Block} {n : ℕ} → IsListSize b n → 9984 < n → IsTooLong b n
@@ -246,19 +246,19 @@ IsWithinLimits-found size short =
     record { few_conjunctions = size.few_conjunctions; short_list = rw (← size.bytes) short }
 
 pub flat_made : (b : Block) (f : Flat) → f.slots ≡ slots_of b → f.conjunctions ≡ conjunctions_of b
-    → f.weights ≡ weights_of b → f.form ≡ form_of b → f ≡ flat_of b
+    → f.weights ≡ weights_of b → f.instruction ≡ instruction_of b → f ≡ flat_of b
 unfolding flat_of
-flat_made b f slots conjunctions weights form =
-    (joined f.slots f.conjunctions f.weights f.form slots conjunctions weights form)
+flat_made b f slots conjunctions weights instruction =
+    (joined f.slots f.conjunctions f.weights f.instruction slots conjunctions weights instruction)
   where
-    joined : (ss : List Slot) (cs : List Conjunction) (ws : List ℕ) (g : Form) → ss ≡ slots_of b
-        → cs ≡ conjunctions_of b → ws ≡ weights_of b → g ≡ form_of b →
-        ◌≡◌ {A = Flat} (record { slots = ss; conjunctions = cs; weights = ws; form = g })
-        (record { slots = slots_of b; conjunctions = conjunctions_of b; weights = weights_of b; form = form_of b })
+    joined : (ss : List Slot) (cs : List Conjunction) (ws : List ℕ) (g : RuleInstruction) → ss ≡ slots_of b
+        → cs ≡ conjunctions_of b → ws ≡ weights_of b → g ≡ instruction_of b →
+        ◌≡◌ {A = Flat} (record { slots = ss; conjunctions = cs; weights = ws; instruction = g })
+        (record { slots = slots_of b; conjunctions = conjunctions_of b; weights = weights_of b; instruction = instruction_of b })
     joined ss cs ws g p q r s = cc
 
-pub form_by_rev : (n : ℕ) (rules : List Rule) → form_by n rules ≡ Rev → n ≤ 254
-form_by_rev n rules e = by_test (nat_le n 254) refl
+pub instruction_by_rev : (n : ℕ) (rules : List Rule) → instruction_by n rules ≡ Rev → n ≤ 254
+instruction_by_rev n rules e = by_test (nat_le n 254) refl
   where
     by_test : (t : Bool) → nat_le n 254 ≡ t → n ≤ 254
     by_test true h = grind (arith, nat_tests)

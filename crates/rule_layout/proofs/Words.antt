@@ -2,7 +2,7 @@
 pub use Rattle.fuzzy_meaning.proofs.Algebra.{IsMonoid, evaluate_pushed_parts-take, part_falls, parts_fall}
 pub use Rattle.fuzzy_meaning.specs.Conditions.{Condition, Conditions, all, also, any, conditions, end, is, negation}
 pub use Rattle.fuzzy_meaning.specs.Conditions.{nodes, total_nodes}
-pub use Rattle.rule_layout.specs.Layouts.{IsBelow, conjunction_count, conjunction_of, form_by, rule_conjunctions}
+pub use Rattle.rule_layout.specs.Layouts.{IsBelow, conjunction_count, conjunction_of, instruction_by, rule_conjunctions}
 pub use Rattle.rule_layout.specs.Layouts.{rule_spread, rule_weights}
 pub use Rattle.rule_layout.specs.Sizes.{IsCountable, IsSizeOf, IsSizeOfRules, IsSmall, entry_count, rule_entries}
 pub use Rattle.rule_layout.specs.Slots.{complement_slot, conclusion_number, has_complement, input_terms}
@@ -29,12 +29,12 @@ pub use Rattle.fuzzy_meaning.specs.{declared.condition.Node.TheVariants.Or}
 pub use Rattle.rule_layout.specs.{Grid.AllFitGrid, Grid.FitsGrid, Grid.IsInGrid, Lists.at_address, Lists.marked}
 pub use Rattle.rule_layout.specs.{Truths.greatest_conjunction, Truths.least_literal}
 pub use Rattle.rule_layout.specs.{declared.flat.Conjunction.Conjunction, declared.flat.Flat.Flat}
-pub use Rattle.rule_layout.specs.{declared.flat.Form.TheVariants.Rev, declared.flat.Form.TheVariants.Revw}
+pub use Rattle.rule_layout.specs.{declared.flat.RuleInstruction.TheVariants.Rev, declared.flat.RuleInstruction.TheVariants.Revw}
 pub use Rattle.rule_layout.specs.{declared.flat.Slot.Slot, declared.flat.Slot.TheVariants.Complement}
 pub use Rattle.rule_layout.specs.{declared.flat.Slot.TheVariants.Out, declared.flat.Slot.TheVariants.Term}
 pub use Rattle.rule_layout.specs.{declared.sizes.Size.Size}
 pub use Rattle.std.proofs.{Math.Nat.mul-le-mul_left, Math.Nat.mul-le-mul_right, lemmas.Bool.Decides.nat_tests}
 pub use Rattle.std.proofs.{lemmas.Bool.false≢true, lemmas.List.Sums.sum_by-append, lemmas.List.Sums.sum_by-cons}
 pub use Rattle.std.specs.{List.list_any, List.range_with_len}
-unfoldable pub use Rattle.rule_layout.specs.Layouts.{conjunctions_of, flat_of, form_of, weights_of}
+unfoldable pub use Rattle.rule_layout.specs.Layouts.{conjunctions_of, flat_of, instruction_of, weights_of}
 unfoldable pub use Rattle.rule_layout.specs.{Slots.slots_of}

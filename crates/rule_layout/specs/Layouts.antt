@@ -5,8 +5,9 @@ use Rattle.std.specs.Prelude.{take, sum_by, flat_map, All, Option, Some, None, p
 use Rattle.std.specs.List.{list_any}
 use Rattle.fz_num.specs.declared.dec.Dec.{Dec}
 use Rattle.fuzzy_meaning.specs.{declared.block.Block.Block, declared.block.Rule.Rule, Blocks.IsValid}
-use Rattle.rule_layout.specs.declared.{flat.Slot.Slot, flat.Conjunction.Conjunction, flat.Form.Form, flat.Flat.Flat}
-use Rattle.rule_layout.specs.declared.flat.Form.TheVariants.{Rev, Revw}
+use Rattle.rule_layout.specs.declared.{flat.Slot.Slot, flat.Conjunction.Conjunction}
+use Rattle.rule_layout.specs.declared.{flat.RuleInstruction.RuleInstruction, flat.Flat.Flat}
+use Rattle.rule_layout.specs.declared.flat.RuleInstruction.TheVariants.{Rev, Revw}
 use Rattle.rule_layout.specs.declared.flat.LayoutFault.{LayoutFault}
 use Rattle.rule_layout.specs.declared.flat.LayoutFault.TheVariants.{TooManyRules, ListTooLong, Memory}
 use Rattle.rule_layout.specs.{Spreading.Literal, Spreading.spread_of, Lists.marked}
@@ -42,27 +43,32 @@ is_below_one None = false
 is_below_one (Some w) = int_lt w.0 (pos 10000)
 
 -- REV, where bytes can number the slots and no rule has a weight below 1
-abbrev pub form_by : ℕ → List Rule → Form
-form_by slots rules = if nat_le slots 254 && not (list_any (λ r. is_below_one r.weight) rules) then Rev else Revw
+abbrev pub instruction_by : ℕ → List Rule → RuleInstruction
+instruction_by slots rules = if nat_le slots 254 && not (list_any (λ r. is_below_one r.weight) rules) then Rev else Revw
 
-unfoldable pub form_of : Block → Form
-form_of b = form_by (length (slots_of b)) b.rules
+unfoldable pub instruction_of : Block → RuleInstruction
+instruction_of b = instruction_by (length (slots_of b)) b.rules
 
 unfoldable pub flat_of : Block → Flat
-flat_of b = record { slots = slots_of b; conjunctions = conjunctions_of b; weights = weights_of b; form = form_of b }
+flat_of b = record {
+  slots = slots_of b;
+  conjunctions = conjunctions_of b;
+  weights = weights_of b;
+  instruction = instruction_of b;
+}
 
 -- how many conjunctions the rules have in all
 abbrev pub conjunction_count : List Rule → ℕ
 conjunction_count rules = sum_by (λ r. length (rule_spread r)) rules
 
 -- how many bytes an element of the list has
-abbrev pub element_width : Form → ℕ
+abbrev pub element_width : RuleInstruction → ℕ
 element_width Rev = 1
 element_width Revw = 2
 
 -- how many bytes the list has
 unfoldable pub list_size : Block → ℕ
-list_size b = element_width (form_of b) * length (marked 0xFE 0xFF (conjunctions_of b))
+list_size b = element_width (instruction_of b) * length (marked 0xFE 0xFF (conjunctions_of b))
 
 -- the limits of a layout
 pub record IsWithinLimits (b : Block) : Type 0 where
@@ -85,13 +91,13 @@ pub record IsBelow (n : ℕ) (c : Conjunction) : Type 0 where
 -- that no mark of a list is one; each conjunction has a weight byte, which for REV scales nothing
 pub record IsLaidOut (f : Flat) : Type 0 where
   pub few_slots : length f.slots ≤ 300
-  pub few_for_rev : f.form ≡ Rev → length f.slots ≤ 254
+  pub few_for_rev : f.instruction ≡ Rev → length f.slots ≤ 254
   pub apart : (k : ℕ) (s : Slot) → k < length f.slots → number_in f.slots (get_or f.slots k s) ≡ k
   pub in_range : All (IsBelow (length f.slots)) f.conjunctions
   pub some_conjunction : 1 ≤ length f.conjunctions
   pub weighed : length f.weights ≡ length f.conjunctions
   pub weight_bytes : All (λ w. w ≤ 255) f.weights
-  pub unscaled : f.form ≡ Rev → All (λ w. w ≡ 255) f.weights
+  pub unscaled : f.instruction ≡ Rev → All (λ w. w ≡ 255) f.weights
 
 -- the list is too long by its number of bytes, and the conjunctions are not too many
 pub record IsTooLong (b : Block) (n : ℕ) : Type 0 where
@@ -114,7 +120,7 @@ pub record HasPartsOf (flat : Flat) (b : Block) : Type 0 where
   pub slots : flat.slots ≡ slots_of b
   pub conjunctions : flat.conjunctions ≡ conjunctions_of b
   pub weights : flat.weights ≡ weights_of b
-  pub form : flat.form ≡ form_of b
+  pub instruction : flat.instruction ≡ instruction_of b
 
 -- the layout of a block does
 abbrev pub FlatHasParts : Type 0

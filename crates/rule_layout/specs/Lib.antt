@@ -10,3 +10,4 @@ pub mod Truths
 pub mod Masses
 pub mod Steps
 pub mod Numbers
+pub mod Props

@@ -22,7 +22,7 @@ pub struct Conjunction {
 
 /// The instruction that evaluates the rules (CPU12 Reference Manual).
 #[derive(Clone, Copy, PartialEq, Eq)]
-pub enum Form {
+pub enum RuleInstruction {
     /// Rules without weights over slots that a byte can number.
     Rev,
     /// Rules with weights over slots by their addresses.
@@ -38,7 +38,7 @@ pub struct Flat {
     pub conjunctions: List<Conjunction>,
     /// A byte for each conjunction, 255 for a weight of 1.
     pub weights: List<u8>,
-    pub form: Form,
+    pub instruction: RuleInstruction,
 }
 
 /// Why rules cannot be laid out.

@@ -2,15 +2,18 @@
 ghost use Rattle.std.specs.Prelude.{◌≡◌, ◌*◌, ◌<◌, ◌≤◌, ◌++◌, nat_le, ◌&&◌, not, map, replicate, flat_map, length, All};
 ghost use Rattle.std.specs.Prelude.{IfOk, IfErr, OnOk, IfSome, sum_by, true, false};
 ghost use Rattle.std.specs.List.{list_any};
+ghost use Rattle.std.specs.Coded.{Coded-set};
+ghost use Rattle.std.proofs.Props.{props};
 ghost use Rattle.fuzzy_meaning.specs.Blocks.{IsValid, IsWeight, rule_size};
 ghost use Rattle.rule_layout.specs.declared.flat.LayoutFault.TheVariants.{Memory};
-ghost use Rattle.rule_layout.specs.{Slots.out_slot, Tables.IsInTable, Tables.table_number};
+ghost use Rattle.rule_layout.specs.{Props.HasLiterals-prop, Slots.out_slot, Slots.slots_of, Tables.IsInTable};
+ghost use Rattle.rule_layout.specs.{Tables.table_number};
 ghost use Rattle.rule_layout.specs.Sizes.{IsCountable, IsSizeOfRule, IsSizeOfRules};
 ghost use Rattle.rule_layout.specs.Layouts.{flat_of, IsWithinLimits, IsFaultOf, IsLaidOut, rule_spread, rule_weights};
-ghost use Rattle.rule_layout.specs.Layouts.{is_below_one, form_by, element_width};
+ghost use Rattle.rule_layout.specs.Layouts.{is_below_one, instruction_by, instruction_of, element_width};
 ghost use Rattle.rule_layout.specs.Steps.{table_conjunctions, IsSpreadable, with_conclusions};
 
-use crate::flat::{Conjunction, Flat, Form, LayoutFault, Slot};
+use crate::flat::{Conjunction, Flat, LayoutFault, RuleInstruction, Slot};
 use crate::sizes::{Size, size_of};
 use crate::slots::{SlotNumbers, slots};
 use crate::spreading::conjunctions;
@@ -34,33 +37,69 @@ impl From<AllocError> for LayoutFault {
     }
 }
 
-/// A block's rules laid out. The number of conjunctions and the length of the list are computed before anything is
-/// spread, and so are `TooManyRules` and, if that does not apply, `ListTooLong`.
-pub fn spread(alloc: Global, block: &Block) -> Result<Flat, LayoutFault>
-    requires { IsValid block.now }
-    ensures value { IfOk result (λ f. f ≡ flat_of block.now) }
-    ensures limits { OnOk result (IsWithinLimits block.now) }
-    ensures fault { IfErr result (IsFaultOf block.now) }
+/// A block with its rules laid out.
+#[derive(Drop)]
+pub struct LaidOut<'a> {
+    pub block: &'a Block,
+    pub flat: Flat,
+    pub ghost valid: { IsValid block.now } by { Prim.hlevel (props, HasLiterals-prop) },
+    pub ghost limits: { IsWithinLimits block.now },
+    pub ghost flat_is: { flat ≡ flat_of block.now } by { Coded-set flat-code flat (flat_of block.now) },
 
     // What `Flat::bytes` and `Flat::words` ask for.
-    ensures laid_out { IfOk result IsLaidOut }
+    pub ghost laid_out: { IsLaidOut flat } by { Prim.hlevel props },
+}
+
+/// A block's rules laid out. Where they are over a limit, nothing is spread.
+pub fn spread<'a>(alloc: Global, block: &'a Block) -> Result<LaidOut<'a>, LayoutFault>
+    requires { IsValid block.now }
+    ensures block { IfOk result (λ l. l.block.now ≡ block.now) }
+    ensures limits { OnOk result (IsWithinLimits block.now) }
+    ensures fault { IfErr result (IsFaultOf block.now) }
+{
+    let (slots, instruction) = slots_within_limits(alloc, block)?;
+    let numbers = SlotNumbers::new(&slots);
+    let (conjunctions, weights) = spread_rules(alloc, &numbers, block.rules.as_slice())?;
+    let flat = Flat {
+        slots: List::new(slots),
+        conjunctions: List::new(conjunctions),
+        weights: List::new(weights),
+        instruction,
+    };
+    Ok(LaidOut { block, flat })
+}
+
+/// Checks that `spread` lays out a block's rules, and spreads nothing.
+pub fn require_limits(alloc: Global, block: &Block) -> Result<(), LayoutFault>
+    requires { IsValid block.now }
+    ensures limits { OnOk result (IsWithinLimits block.now) }
+    ensures fault { IfErr result (IsFaultOf block.now) }
+{
+    let _ = slots_within_limits(alloc, block)?;
+    Ok(())
+}
+
+/// The slots of a block and the instruction of its list, if its rules are within the limits. `TooManyRules` comes
+/// before `ListTooLong`.
+fn slots_within_limits(
+    alloc: Global,
+    block: &Block,
+) -> Result<(Vec<Slot>, RuleInstruction), LayoutFault>
+    requires { IsValid block.now }
+    ensures slots { IfOk result (λ p. p.0.items ≡ slots_of block.now) }
+    ensures instruction { IfOk result (λ p. p.1 ≡ instruction_of block.now) }
+    ensures limits { OnOk result (IsWithinLimits block.now) }
+    ensures fault { IfErr result (IsFaultOf block.now) }
 {
     let rules = block.rules.as_slice();
     let size = size_of_rules(rules)?;
     let slots = slots(alloc, block)?;
-    let form = form_of(slots.len(), rules);
-    let bytes = element_width(form) * size.entries;
+    let instruction = instruction_of(slots.len(), rules);
+    let bytes = element_width(instruction) * size.entries;
     if bytes > MOST_LIST_BYTES {
         return Err(LayoutFault::ListTooLong(bytes));
     }
-    let numbers = SlotNumbers::new(&slots);
-    let (conjunctions, weights) = spread_rules(alloc, &numbers, rules)?;
-    Ok(Flat {
-        slots: List::new(slots),
-        conjunctions: List::new(conjunctions),
-        weights: List::new(weights),
-        form,
-    })
+    Ok((slots, instruction))
 }
 
 /// The number of conjunctions that rules spread into and the number of elements of their list.
@@ -97,13 +136,13 @@ fn size_of_rule(rule: &Rule) -> Option<Size>
     })
 }
 
-pub(crate) fn form_of(slots: usize, rules: &[Rule]) -> Form
-    ensures { result ≡ form_by slots rules.now }
+pub(crate) fn instruction_of(slots: usize, rules: &[Rule]) -> RuleInstruction
+    ensures { result ≡ instruction_by slots rules.now }
 {
     if slots <= MOST_BYTE_SLOTS && !is_weighted(rules) {
-        Form::Rev
+        RuleInstruction::Rev
     } else {
-        Form::Revw
+        RuleInstruction::Revw
     }
 }
 
@@ -124,12 +163,12 @@ fn is_below_one(weight: Option<Dec>) -> bool
 }
 
 /// The bytes of an element of the list.
-fn element_width(form: Form) -> u32
-    ensures { result ≡ element_width form }
+fn element_width(instruction: RuleInstruction) -> u32
+    ensures { result ≡ element_width instruction }
 {
-    match form {
-        Form::Rev => 1,
-        Form::Revw => 2,
+    match instruction {
+        RuleInstruction::Rev => 1,
+        RuleInstruction::Revw => 2,
     }
 }
 

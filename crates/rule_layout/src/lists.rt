@@ -1,7 +1,7 @@
 //! Rule lists.
 ghost use Rattle.std.specs.Prelude.{◌≡◌, ◌+◌, ◌<◌, ◌≤◌, ◌++◌, map, IfOk, OnOk, All};
 ghost use Rattle.rule_layout.specs.Lists.{marked, at_address, list_bytes, list_words};
-ghost use Rattle.rule_layout.specs.{Layouts.IsLaidOut, Layouts.IsBelow, declared.flat.Form.TheVariants.Rev};
+ghost use Rattle.rule_layout.specs.{Layouts.IsLaidOut, Layouts.IsBelow, declared.flat.RuleInstruction.TheVariants.Rev};
 
 use crate::flat::{Conjunction, Flat};
 use std::alloc::{AllocError, Global};
@@ -14,7 +14,7 @@ impl Flat {
     /// conclusions, and `$FE`, or `$FF` after the last.
     pub fn bytes(&self, alloc: Global) -> Result<Vec<u8>, AllocError>
         requires laid_out { IsLaidOut self.now }
-        requires form { self.now.form ≡ Rev }
+        requires instruction { self.now.instruction ≡ Rev }
         ensures { IfOk result (λ v. v.items ≡ list_bytes self.now.conjunctions) }
     {
         let list = marked(alloc, self.conjunctions.as_slice(), 0, 0xFE, 0xFF)?;

@@ -3,9 +3,7 @@
 ghost use Rattle.std.specs.Prelude.{◌≤◌, length};
 
 use box_tree::CertFault::{BadLine, Early, Late};
-use box_tree::CertKind::Tight;
-use box_tree::{CertFault, Lines, read, read_for, read16, write, write_for, write16};
-use byte_scaling::Width::{Byte, Word};
+use box_tree::{CertFault, CertFormat, Lines, read, read_for, read16, write, write_for, write16};
 use std::alloc::{AllocError, Global};
 use std::test::Fail;
 
@@ -83,12 +81,18 @@ fn written_again(
             Ok(cert) => Ok(Ok((cert.nodes.len(), write16(alloc, &cert)?))),
             Err(fault) => Ok(Err(fault)),
         },
-        3 => match read_for(alloc, text, Tight, Byte) {
-            Ok(cert) => Ok(Ok((cert.nodes.len(), write_for(alloc, &cert, Tight, Byte)?))),
+        3 => match read_for(alloc, CertFormat::TIGHT, text) {
+            Ok(cert) => Ok(Ok((
+                cert.nodes.len(),
+                write_for(alloc, CertFormat::TIGHT, &cert)?,
+            ))),
             Err(fault) => Ok(Err(fault)),
         },
-        _ => match read_for(alloc, text, Tight, Word) {
-            Ok(cert) => Ok(Ok((cert.nodes.len(), write_for(alloc, &cert, Tight, Word)?))),
+        _ => match read_for(alloc, CertFormat::TIGHT16, text) {
+            Ok(cert) => Ok(Ok((
+                cert.nodes.len(),
+                write_for(alloc, CertFormat::TIGHT16, &cert)?,
+            ))),
             Err(fault) => Ok(Err(fault)),
         },
     }
@@ -121,8 +125,8 @@ fn begun(version: u8, text: &[u8]) -> Result<Lines<'_>, CertFault>
     match version {
         1 => Lines::new(text),
         2 => Lines::new16(text),
-        3 => Lines::of(text, Tight, Byte),
-        _ => Lines::of(text, Tight, Word),
+        3 => Lines::of(CertFormat::TIGHT, text),
+        _ => Lines::of(CertFormat::TIGHT16, text),
     }
 }
 

@@ -4,9 +4,7 @@ ghost use Rattle.fuzzy_meaning.specs.Blocks.{IsValid};
 
 use super::blocks::block_of;
 use arrayvec::ArrayVec;
-use box_tree::Cert;
-use box_tree::CertKind::Tight;
-use byte_scaling::Width::Byte;
+use box_tree::{Cert, CertFormat};
 use error_certifier::{NotReached, Targets, certify_each, certify_for};
 use fuzzy_meaning::Block;
 use std::alloc::Global;
@@ -46,13 +44,15 @@ fn halved(alloc: Global, block: &Block, targets: &[u32]) -> Result<Result<Cert, 
     requires { IsValid block.now }
 {
     match targets {
-        [target] if *target <= 1_000_000 => { Ok(certify_for(alloc, block, *target, Tight, Byte)) }
+        [target] if *target <= 1_000_000 => {
+            Ok(certify_for(alloc, CertFormat::TIGHT, block, *target))
+        }
         [first, second] if *first <= 1_000_000 && *second <= 1_000_000 => {
             let mut each = ArrayVec::new();
             each.push(*first);
             each.push(*second);
             let targets = Targets::Each(each);
-            Ok(certify_each(alloc, block, &targets, Tight, Byte))
+            Ok(certify_each(alloc, CertFormat::TIGHT, block, &targets))
         }
         _ => Err(Fail::new("no target")),
     }

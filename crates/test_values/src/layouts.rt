@@ -1,11 +1,10 @@
 //! Slots and rule lists of blocks that texts spell.
 ghost use Rattle.std.specs.Prelude.{IfOk};
 ghost use Rattle.fuzzy_meaning.specs.Blocks.{IsValid};
-ghost use Rattle.rule_layout.specs.Layouts.{IsLaidOut};
 
 use super::blocks::block_of;
 use fuzzy_meaning::Block;
-use rule_layout::{Flat, Form, LayoutFault, Slot, spread};
+use rule_layout::{LaidOut, LayoutFault, RuleInstruction, Slot, require_limits, spread};
 use std::alloc::{AllocError, Global};
 use std::process::Abort;
 use std::test::Fail;
@@ -39,20 +38,18 @@ fn ruled(alloc: Global, condition: &[u8], times: u32, weight: &[u8]) -> Result<B
 fn list_is(
     rt: &impl Abort,
     alloc: Global,
-    flat: &Flat,
+    laid_out: &LaidOut<'_>,
     length: usize,
     ends: (&[u8], &[u8]),
-) -> Result<(), Fail>
-    requires { IsLaidOut flat.now }
-{
-    match flat.form {
-        Form::Rev => {
-            let bytes = flat.bytes(alloc)?;
+) -> Result<(), Fail> {
+    match laid_out.flat.instruction {
+        RuleInstruction::Rev => {
+            let bytes = laid_out.flat.bytes(alloc)?;
             assert!(rt; bytes.len() == length);
             assert!(rt; bytes.starts_with(ends.0));
             assert!(rt; bytes.ends_with(ends.1));
         }
-        Form::Revw => panic!(rt; "a list of words"),
+        RuleInstruction::Revw => panic!(rt; "a list of words"),
     }
     Ok(())
 }
@@ -63,7 +60,7 @@ struct Laid {
     slots: &'static [Slot],
     weights: &'static [u8],
     words: &'static [u16],
-    /// The list in bytes, if the form has one.
+    /// The list in bytes, if the instruction has one.
     bytes: Option<&'static [u8]>,
 }
 
@@ -101,16 +98,20 @@ static LAID: [Laid; 2] = [
 ];
 
 /// Fails if the rules are laid out otherwise.
-fn is_laid(rt: &impl Abort, alloc: Global, flat: &Flat, laid: &Laid) -> Result<(), Fail>
-    requires { IsLaidOut flat.now }
-{
+fn is_laid(
+    rt: &impl Abort,
+    alloc: Global,
+    laid_out: &LaidOut<'_>,
+    laid: &Laid,
+) -> Result<(), Fail> {
+    let flat = &laid_out.flat;
     assert!(rt; flat.slots.as_slice() == laid.slots);
     assert!(rt; flat.weights.as_slice() == laid.weights);
     assert!(rt; flat.words(alloc)?.as_slice() == laid.words);
     match laid.bytes {
-        Some(bytes) => list_is(rt, alloc, flat, bytes.len(), (bytes, bytes)),
+        Some(bytes) => list_is(rt, alloc, laid_out, bytes.len(), (bytes, bytes)),
         None => {
-            assert!(rt; flat.form == Form::Revw);
+            assert!(rt; flat.instruction == RuleInstruction::Revw);
             Ok(())
         }
     }
@@ -121,10 +122,10 @@ fn rules_are_laid_out(rt: HostRuntime) -> Result<(), Fail> {
     let alloc = rt.alloc();
     for laid in LAID.iter() {
         let block = block_of(alloc, joined(alloc, laid.fcl)?.as_bytes())?;
-        let Ok(flat) = spread(alloc, &block) else {
+        let Ok(laid_out) = spread(alloc, &block) else {
             panic!(rt; "a fault");
         };
-        is_laid(&rt, alloc, &flat, laid)?;
+        is_laid(&rt, alloc, &laid_out, laid)?;
     }
     Ok(())
 }
@@ -134,24 +135,28 @@ const EITHER: &[u8] = b"(x IS a OR x IS b)";
 #[test]
 fn spreads_nine_factors(rt: HostRuntime) -> Result<(), Fail> {
     let alloc = rt.alloc();
-    let Ok(flat) = spread(alloc, &ruled(alloc, EITHER, 9, b"")?) else {
+    let block = ruled(alloc, EITHER, 9, b"")?;
+    let Ok(laid_out) = spread(alloc, &block) else {
         panic!(rt; "a fault");
     };
-    assert!(rt; flat.conjunctions.len() == 512);
+    assert!(rt; laid_out.flat.conjunctions.len() == 512);
     let first = [
         0, 0, 0, 0, 0, 0, 0, 0, 0, 0xFE, 3, 0xFE, 0, 0, 0, 0, 0, 0, 0, 0, 1,
     ];
     let last = [1, 1, 1, 1, 1, 1, 1, 1, 1, 0xFE, 3, 0xFF];
-    list_is(&rt, alloc, &flat, 6144, (first.as_slice(), last.as_slice()))
+    let ends = (first.as_slice(), last.as_slice());
+    list_is(&rt, alloc, &laid_out, 6144, ends)
 }
 
 #[test]
 fn spreads_no_more_than_nine_factors(rt: HostRuntime) -> Result<(), Fail> {
     let alloc = rt.alloc();
-    let too_long = spread(alloc, &ruled(alloc, EITHER, 9, b"WITH 0.5")?).err();
-    assert!(rt; too_long == Some(LayoutFault::ListTooLong(12288)));
-    let too_many = spread(alloc, &ruled(alloc, EITHER, 10, b"")?).err();
-    assert!(rt; too_many == Some(LayoutFault::TooManyRules(1)));
+    let long = ruled(alloc, EITHER, 9, b"WITH 0.5")?;
+    let too_long = Some(LayoutFault::ListTooLong(12288));
+    assert!(rt; spread(alloc, &long).err() == too_long);
+    assert!(rt; require_limits(alloc, &long).err() == too_long);
+    let many = ruled(alloc, EITHER, 10, b"")?;
+    assert!(rt; spread(alloc, &many).err() == Some(LayoutFault::TooManyRules(1)));
     Ok(())
 }
 
@@ -240,24 +245,28 @@ fn in_order(rt: &impl Abort, slots: &[Slot], last: u8) {
 #[test]
 fn bytes_number_254_slots(rt: HostRuntime) -> Result<(), Fail> {
     let alloc = rt.alloc();
-    let Ok(flat) = spread(alloc, &widest(alloc, 14)?) else {
+    let block = widest(alloc, 14)?;
+    let Ok(laid_out) = spread(alloc, &block) else {
         panic!(rt; "a fault");
     };
-    in_order(&rt, flat.slots.as_slice(), 14);
+    in_order(&rt, laid_out.flat.slots.as_slice(), 14);
     let first = [120, 0xFE, 253, 0xFE, 121];
     let last = [239, 0xFE, 253, 0xFF];
-    list_is(&rt, alloc, &flat, 480, (first.as_slice(), last.as_slice()))
+    let ends = (first.as_slice(), last.as_slice());
+    list_is(&rt, alloc, &laid_out, 480, ends)
 }
 
 // In words the output's last term is the slot of number 254.
 #[test]
 fn words_number_255_slots(rt: HostRuntime) -> Result<(), Fail> {
     let alloc = rt.alloc();
-    let Ok(flat) = spread(alloc, &widest(alloc, 15)?) else {
+    let block = widest(alloc, 15)?;
+    let Ok(laid_out) = spread(alloc, &block) else {
         panic!(rt; "a fault");
     };
+    let flat = &laid_out.flat;
     in_order(&rt, flat.slots.as_slice(), 15);
-    assert!(rt; flat.form == Form::Revw);
+    assert!(rt; flat.instruction == RuleInstruction::Revw);
     let words = flat.words(alloc)?;
     assert!(rt; words.len() == 480);
     assert!(rt; words.starts_with(&[0x1178, 0xFFFE, 0x11FE, 0xFFFE, 0x1179]));

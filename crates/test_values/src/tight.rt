@@ -1,7 +1,5 @@
 //! The heater's tight certificates.
-use box_tree::CertKind::Tight;
-use box_tree::write_for;
-use byte_scaling::Width::{Byte, Word};
+use box_tree::{CertFormat, write_for};
 use cert_check::{CheckFault, TextFault, check_text_for};
 use error_certifier::{NotReached, certify_for};
 use fuzzy_meaning::heater;
@@ -26,13 +24,13 @@ fn a_heater_is_halved_to_tight_leaves(rt: HostRuntime) -> Result<(), Fail> {
     let block = heater(alloc)?;
     for (target, text) in HALVED.iter() {
         assert!(rt; *target <= 1_000_000);
-        let cert = certify_for(alloc, &block, *target, Tight, Byte)?;
-        assert!(rt; write_for(alloc, &cert, Tight, Byte)?.as_slice() == *text);
+        let cert = certify_for(alloc, CertFormat::TIGHT, &block, *target)?;
+        assert!(rt; write_for(alloc, CertFormat::TIGHT, &cert)?.as_slice() == *text);
     }
-    let cert = certify_for(alloc, &block, 20_000, Tight, Word)?;
+    let cert = certify_for(alloc, CertFormat::TIGHT16, &block, 20_000)?;
     let text = b"FZC 4\nclaim 7828\nsplit 1 128\nleaf\nleaf\n";
-    assert!(rt; write_for(alloc, &cert, Tight, Word)?.as_slice() == text.as_slice());
-    let errors = check_text_for(alloc, &block, text, Tight, Word)?;
+    assert!(rt; write_for(alloc, CertFormat::TIGHT16, &cert)?.as_slice() == text.as_slice());
+    let errors = check_text_for(alloc, CertFormat::TIGHT16, &block, text)?;
     assert!(rt; errors.as_slice() == [7828].as_slice());
     Ok(())
 }
@@ -40,7 +38,7 @@ fn a_heater_is_halved_to_tight_leaves(rt: HostRuntime) -> Result<(), Fail> {
 #[test]
 fn a_cell_is_out_of_reach_for_all(rt: HostRuntime) -> Result<(), Fail> {
     let block = heater(rt.alloc())?;
-    match certify_for(rt.alloc(), &block, 3_906, Tight, Byte) {
+    match certify_for(rt.alloc(), CertFormat::TIGHT, &block, 3_906) {
         Err(NotReached::Cell(bytes, output, bound)) => {
             assert!(rt; bytes.as_slice() == [0].as_slice());
             assert!(rt; output == 1 && bound == 3_907);
@@ -65,7 +63,7 @@ fn tight_certificates_are_refused(rt: HostRuntime) -> Result<(), Fail> {
     let block = heater(rt.alloc())?;
     for (text, fault) in REFUSED.iter() {
         assert!(rt; text.len() <= 1_048_576);
-        let refused = check_text_for(rt.alloc(), &block, text, Tight, Byte).err();
+        let refused = check_text_for(rt.alloc(), CertFormat::TIGHT, &block, text).err();
         assert!(rt; refused == Some(TextFault::Check(*fault)));
     }
     Ok(())

@@ -3,7 +3,7 @@ use Rattle.std.proofs.lemmas.List.{length-set}
 use Rattle.std.proofs.lemmas.Result.{err_from_is_err_and}
 use Rattle.fz_list.proofs.Algebra.{AreFilled-more}
 use Rattle.error_bound.specs.declared.boxes.ByteBox.{ByteBox}
-use Rattle.box_tree.specs.declared.cert.LeafForm.TheVariants.{Pairs}
+use Rattle.box_tree.specs.declared.cert.LeafLine.TheVariants.{Pairs}
 use Rattle.cert_check.specs.{Trees.part_of, Faults.HasPartFault, Walks.AreBounds}
 use Rattle.cert_check.proofs.LeafLemmas.{IsBoundAt, HasPartFault-next, AreBounds-all, pair_is, has_pair_bound}
 use Rattle.cert_check.proofs.leaves.pair_bounds.Goals as goal

@@ -1,6 +1,6 @@
 use Rattle.std.proofs.Common.{◌≡◌, length}
 use Rattle.fz_list.proofs.Algebra.{AreFilled}
-use Rattle.box_tree.specs.declared.cert.LeafForm.TheVariants.{Pairs}
+use Rattle.box_tree.specs.declared.cert.LeafLine.TheVariants.{Pairs}
 use Rattle.cert_check.specs.Trees.{part_of}
 use Rattle.cert_check.proofs.LeafLemmas.{IsBoundAt}
 use Rattle.cert_check.proofs.leaves.pair_bounds.Given as goal

@@ -2,7 +2,7 @@ use Rattle.std.proofs.Common.{◌+◌, refl, arith, subst}
 use Rattle.std.proofs.lemmas.List.{length-set}
 use Rattle.fz_list.proofs.Algebra.{AreFilled-more}
 use Rattle.error_bound.specs.declared.boxes.ByteBox.{ByteBox}
-use Rattle.box_tree.specs.declared.cert.LeafForm.TheVariants as form
+use Rattle.box_tree.specs.declared.cert.LeafLine.TheVariants as leaf_line
 use Rattle.cell_bounds.specs.declared.claims.Claim.TheVariants.{Tight}
 use Rattle.cert_check.specs.declared.checker.CheckFault.TheVariants as told
 use Rattle.cert_check.specs.{Trees.part_of, Faults.HasPartFault, Walks.AreBounds}
@@ -16,10 +16,10 @@ returns-in-None-clause-fault c =
     let o = c.loop-o.o in
     let none = c.in-None.ensures in
     let f = told.Unsure c.args.line (o + 1) in
-    let fault = HasPartFault-next b c.args.parts (part_of box form.Tight) c.loop-o.bounds o c.loop-o.invariant.filled
+    let fault = HasPartFault-next b c.args.parts (part_of box leaf_line.Tight) c.loop-o.bounds o c.loop-o.invariant.filled
     c.args.line Tight f (omega (arith, c.loop-o-test.true, c.len-o-end.ensures)) refl
     (tight_fault b c.args.parts box (o + 1) c.args.line none.loud none.unsure) in
-    subst (λ (x : ByteBox). HasPartFault b c.args.parts (part_of x.0.items form.Tight) c.args.line f)
+    subst (λ (x : ByteBox). HasPartFault b c.args.parts (part_of x.0.items leaf_line.Tight) c.args.line f)
     c.over-table.ensures.same fault
 
 pub loop-o-preserved : goal.loop-o-preserved
@@ -33,7 +33,7 @@ loop-o-preserved c =
     let count = i.count in
     record {
       count = omega (arith, length-set c.loop-o.bounds o c.in-Some.bound, count);
-      filled = AreFilled-more (IsBoundAt b c.args.parts (part_of box form.Tight)) b.outputs c.loop-o.bounds o
+      filled = AreFilled-more (IsBoundAt b c.args.parts (part_of box leaf_line.Tight)) b.outputs c.loop-o.bounds o
           c.in-Some.bound (omega (arith, to, c.len-o-end.ensures, few, count)) i.filled
           (has_tight_bound b c.args.parts box o c.in-Some.bound c.in-Some.ensures.bound);
     }
@@ -41,7 +41,7 @@ loop-o-preserved c =
 pub returns-clause-bounds : goal.returns-clause-bounds
 returns-clause-bounds c =
     let b = c.args.block.now in
-    let all = AreBounds-all b c.args.parts (part_of c.over-table.result.bytes.0.items form.Tight) c.loop-o.bounds
+    let all = AreBounds-all b c.args.parts (part_of c.over-table.result.bytes.0.items leaf_line.Tight) c.loop-o.bounds
     c.loop-o.o c.loop-o.invariant.filled (omega (arith, c.loop-o-test.false, c.len-o-end.ensures)) in
-    subst (λ (x : ByteBox). AreBounds b c.args.parts (part_of x.0.items form.Tight) c.loop-o.bounds)
+    subst (λ (x : ByteBox). AreBounds b c.args.parts (part_of x.0.items leaf_line.Tight) c.loop-o.bounds)
     c.over-table.ensures.same all

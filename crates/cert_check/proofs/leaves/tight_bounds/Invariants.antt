@@ -1,6 +1,6 @@
 use Rattle.std.proofs.Common.{◌≡◌, length}
 use Rattle.fz_list.proofs.Algebra.{AreFilled}
-use Rattle.box_tree.specs.declared.cert.LeafForm.TheVariants.{Tight}
+use Rattle.box_tree.specs.declared.cert.LeafLine.TheVariants.{Tight}
 use Rattle.cert_check.specs.Trees.{part_of}
 use Rattle.cert_check.proofs.LeafLemmas.{IsBoundAt}
 use Rattle.cert_check.proofs.leaves.tight_bounds.Given as goal

@@ -11,22 +11,22 @@ returns-then-self-eq0-clause-node c = (is_nothing c.args.self.now.rest.now c.if-
 
 pub returns-else-self-eq0-clause-fault : goal.returns-else-self-eq0-clause-fault
 returns-else-self-eq0-clause-fault c =
-    λ kind answers text nodes h. is_early kind answers text nodes c.args.self.now h
+    λ format text nodes h. is_early format text nodes c.args.self.now h
     (is_nothing c.args.self.now.rest.now c.if-is_empty.ensures) c.if-self-eq0.false
 
 pub returns-in-None-clause-fault : goal.returns-in-None-clause-fault
 returns-in-None-clause-fault c =
-    λ kind answers text nodes h. is_bad kind answers text nodes c.args.self.now h c.len.result c.len.ensures.value
+    λ format text nodes h. is_bad format text nodes c.args.self.now h c.len.result c.len.ensures.value
     (is_something c.args.self.now.rest.now c.if-is_empty.ensures) c.in-None.ensures.node
 
 pub returns-then-self-eq0-2-clause-fault : goal.returns-then-self-eq0-2-clause-fault
-returns-then-self-eq0-2-clause-fault c = λ kind answers text nodes h.
-    is_late kind answers text nodes c.args.self.now h c.len.result c.len.ensures.value c.in-Some.found.0
+returns-then-self-eq0-2-clause-fault c = λ format text nodes h.
+    is_late format text nodes c.args.self.now h c.len.result c.len.ensures.value c.in-Some.found.0
     c.in-Some.found.1.now c.in-Some.ensures.node.1 c.in-Some.ensures.node.0 c.if-self-eq0-2.true
 
 pub returns-in-Leaf-clause-fault : goal.returns-in-Leaf-clause-fault
-returns-in-Leaf-clause-fault c = λ kind answers text nodes h.
-    has_many_leaves kind answers text nodes c.args.self.now h c.len.result c.len.ensures.value c.in-Some.found.0
+returns-in-Leaf-clause-fault c = λ format text nodes h.
+    has_many_leaves format text nodes c.args.self.now h c.len.result c.len.ensures.value c.in-Some.found.0
     c.in-Leaf.field-0 c.in-Some.found.1.now c.in-Some.ensures.node.1 c.in-Some.ensures.node.0 c.in-Leaf.is
     c.if-self-eq0-2.false c.if-self-eq-MOST_LEAVES.true
 

@@ -14,7 +14,7 @@ returns-in-None-clause-fault c = bad_version (is_something c.args.text.now c.if-
 pub returns-then-is_empty-2-clause-fault : goal.returns-then-is_empty-2-clause-fault
 returns-then-is_empty-2-clause-fault c =
     no_claims (c.in-Some.ensures.line
-    ∙ ap (λ (t : List ℕ). version_line c.args.kind c.args.answers ++ t)
+    ∙ ap (λ (t : List ℕ). version_line c.args.format ++ t)
     (is_nothing c.in-Some.rest.now c.if-is_empty-2.ensures)
     ∙ append-nil _)
 

@@ -1,5 +1,5 @@
 use Rattle.std.proofs.{lemmas.List.nil_from_length, Common.sym, Common.◌∙◌}
-use Rattle.cert_check.proofs.WalkLemmas.{next_box, split_behind, split_fault, form_is_good, leaf_behind, fault_met}
+use Rattle.cert_check.proofs.WalkLemmas.{next_box, split_behind, split_fault, line_is_good, leaf_behind, fault_met}
 use Rattle.cert_check.proofs.WalkLemmas.{none_popped}
 use Rattle.cert_check.proofs.walk.Walk.visit.Goals as goal
 
@@ -18,9 +18,9 @@ pub raise_errors-requires-clause-bytes : goal.raise_errors-requires-clause-bytes
 raise_errors-requires-clause-bytes c =
     next_box c.args.self.now c.in-Some.bytes c.pop.new.self c.in-Some.ensures.items c.requires.0 c.requires.2
 
-pub raise_errors-requires-clause-form : goal.raise_errors-requires-clause-form
-raise_errors-requires-clause-form c =
-    form_is_good c.args.self.now c.in-Some.bytes c.pop.new.self c.in-Some.ensures.items c.in-Leaf.form c.args.node.now
+pub raise_errors-requires-clause-stated : goal.raise_errors-requires-clause-stated
+raise_errors-requires-clause-stated c =
+    line_is_good c.args.self.now c.in-Some.bytes c.pop.new.self c.in-Some.ensures.items c.in-Leaf.stated c.args.node.now
     c.in-Leaf.is c.requires.0 c.requires.2 c.requires.3
 
 pub returns-in-Split-clause-behind : goal.returns-in-Split-clause-behind
@@ -36,11 +36,11 @@ returns-in-Split-clause-fault c =
 
 pub returns-in-Leaf-clause-behind : goal.returns-in-Leaf-clause-behind
 returns-in-Leaf-clause-behind c =
-    leaf_behind c.args.self.now c.in-Some.bytes c.pop.new.self c.in-Some.ensures.items c.in-Leaf.form c.args.node.now
+    leaf_behind c.args.self.now c.in-Some.bytes c.pop.new.self c.in-Some.ensures.items c.in-Leaf.stated c.args.node.now
     c.in-Leaf.is _ c.raise_errors.new.errors c.raise_errors.result c.open_boxes_go_on.ensures c.deref_mut.ensures.value
     c.raise_errors.ensures.raised c.pop.ensures.capacity
 
 pub returns-in-Leaf-clause-fault : goal.returns-in-Leaf-clause-fault
 returns-in-Leaf-clause-fault c =
-    fault_met c.args.self.now c.in-Some.bytes c.pop.new.self c.in-Some.ensures.items c.in-Leaf.form c.args.node.now
+    fault_met c.args.self.now c.in-Some.bytes c.pop.new.self c.in-Some.ensures.items c.in-Leaf.stated c.args.node.now
     c.in-Leaf.is c.raise_errors.result c.raise_errors.ensures.fault

@@ -13,7 +13,7 @@ marked-requires-clause-numbers c =
 pub overflow_cast-element : goal.overflow_cast-element
 overflow_cast-element c =
     let cs = c.args.self.now.conjunctions in
-    let few = c.requires.laid_out.few_for_rev c.requires.form in
+    let few = c.requires.laid_out.few_for_rev c.requires.instruction in
     let whole = c.deref-element-items.ensures.value
     ∙ (c.in_ok-list.ensures
     ∙ (ap (λ (w : List Conjunction). marked 0xFE 0xFF (map (at_address 0) w)) c.as_slice.ensures
