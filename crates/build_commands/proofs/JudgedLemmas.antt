@@ -1,13 +1,11 @@
 -- Contents of each command make an output, or they are refused.
 use Rattle.std.proofs.Common.{◌≡◌, ℕ, zero, suc, ◌+◌, ◌<◌, ◌≤◌, List, refl, ap, arith, Bool, false, inl, inr}
 use Rattle.std.specs.Prelude.{Result, Ok, Err, length, true}
-use Rattle.command_parts.proofs.Algebra.{result_of}
-use Rattle.command_parts.proofs.JudgedLemmas.{records_carry}
+use Rattle.command_parts.proofs.Algebra.{records_carry, result_of}
 use Rattle.command_parts.specs.Judged.{BlocksAreJudged, CertsAreJudged, FirmwaresAreJudged, HalvingsAreJudged}
 use Rattle.command_parts.specs.Judged.{HandlersAreJudged, HasResult, TwosAreJudged}
 use Rattle.command_parts.specs.{Firmwares.GivesFirmware, Firmwares.firmware_in, Handlers.handler_in}
 use Rattle.command_parts.specs.{Readings.last, Twos.twos_in}
-use Rattle.command_parts.specs.declared.firmware.Form.TheVariants.{Alone}
 use Rattle.cpu12_asm.specs.declared.image.Image.{Image}
 use Rattle.cpu12_emul.specs.{Image.image_memory, Run.EndsRun, Run.is_at_rest, Step.Next, Step.next_of, Step.reset_with}
 use Rattle.cpu12_emul.specs.declared.ends.RunEnd.{RunEnd}
@@ -33,22 +31,15 @@ pub certify_judged : BlocksAreJudged → HalvingsAreJudged → CertifyIsSettled 
 certify_judged blocks halvings made certify text small few =
     result_of (certify_reading certify text) (CertifyGives certify text) (
       blocks text few,
-      λ block gives. halvings certify.kind certify.width certify.targets block gives.spelled.valid small,
+      λ block gives. halvings certify.format certify.targets block gives.spelled.valid small,
     )
     (λ given. (made certify text).some given)
 
-pub check_judged : FirmwaresAreJudged → CertsAreJudged → CheckIsSettled → CheckIsJudged
-check_judged firmwares certs made check text cert few =
-    result_of (check_reading check text cert) (CheckGives check text cert) (
-      firmwares (Alone check.width) text few,
-      λ c gives. certs check.kind check.width c.block cert gives.spelled.valid,
-    )
-    (λ given. (made check text cert).some (
-      given.0.0.block,
-      given.0.1,
-      record { spelled = given.1.0.spelled; limits = given.1.0.limits },
-      given.1.1,
-    ))
+pub check_judged : BlocksAreJudged → CertsAreJudged → CheckIsSettled → CheckIsJudged
+check_judged blocks certs made check text cert few =
+    result_of (check_reading check text cert) (CheckGives check text cert)
+    (blocks text few, λ block gives. certs check.format block cert gives.spelled.valid)
+    (λ given. (made check text cert).some (given.0.0, given.0.1, given.1.0, given.1.1))
 
 pub compile_judged : FirmwaresAreJudged → CompileIsSettled → CompileIsJudged
 compile_judged firmwares made compile text few =

@@ -36,7 +36,6 @@ use Rattle.command_parts.specs.{Handlers.HandlersAreExact, Handlers.handler_in, 
 use Rattle.command_parts.specs.{Lines.line, Readings.GivesSome, Readings.TellsContents, Readings.last}
 use Rattle.command_parts.specs.SeenOutputs.{HasOutput, OutputsAreOne, SeenOutput, only_lines}
 use Rattle.command_parts.specs.{Twos.GivenBlocksHaveTwos, Twos.TwosAreExact, Twos.twos_in}
-use Rattle.command_parts.specs.declared.firmware.Form.TheVariants.{Alone}
 
 -- the same lines with the records of the same image
 writes_once : ImageTextsAreOne → (image others : Image) (place : ℕ) (lines again : List (List ℕ))
@@ -112,7 +111,8 @@ asm_settled texts written sources ascending source = record {
 certify_made : HalvingsAreWithinTheirTargets → (certify : Certify) (text : List ℕ)
     → GivesSome (certify_reading certify text) → (output : SeenOutput) × CertifyGives certify text output
 certify_made halvings certify text ((block, cert), (gives, halving)) =
-    let good = halvings certify.kind block _ (targets_of block certify.targets) cert gives.spelled.valid halving in (
+    let good = halvings certify.format.kind block _ (targets_of block certify.targets) cert gives.spelled.valid
+    halving in (
       _,
       record {
         block = block;
@@ -130,7 +130,7 @@ certify_one : (certify : Certify) (text : List ℕ) (output other : SeenOutput) 
     (b : CertifyGives certify text other) → a.cert ≡ b.cert → output ≡ other
 certify_one certify text output other a b cert =
     let out : a.out ≡ b.out = a.spelled.lines
-    ∙ (λ i. lines_of certify.kind certify.width (cert i).claims (cert i).nodes) ∙ sym b.spelled.lines in
+    ∙ (λ i. lines_of certify.format (cert i).claims (cert i).nodes) ∙ sym b.spelled.lines in
     a.output_is
     ∙ (λ i. record { lines = certify_lines (cert i).claims (leaf_count (cert i).nodes); file = Some (4, out i) })
     ∙ sym b.output_is
@@ -138,36 +138,26 @@ certify_one certify text output other a b cert =
 pub certify_settled : BlocksAreExact → HalvingsAreExact → HalvingsAreWithinTheirTargets → CertifyIsSettled
 certify_settled blocks halvings within certify text =
     settled (certify_reading certify text) (CertifyGives certify text) (GivesSome (certify_reading certify text))
-    (blocks text, λ block gives. halvings certify.kind certify.width certify.targets block gives.spelled.valid)
+    (blocks text, λ block gives. halvings certify.format certify.targets block gives.spelled.valid)
     (λ output a. ((a.block, a.cert), (a.gives, a.halving)))
     (λ output other a b same. certify_one certify text output other a b (λ i. (same i).1))
     (certify_made within certify text)
 
 -- ---- check
 
-check_made : GivenBlocksHaveFirmware → (check : Check) (text cert : List ℕ) → CheckAccepts check text cert
+check_made : (check : Check) (text cert : List ℕ) → CheckAccepts check text cert
     → (output : SeenOutput) × CheckGives check text cert output
-check_made firmwares check text cert (block, errors, given, accepts) =
-    let (firmware, gives) = firmwares (Alone check.width) text block given in (
-      _,
-      record {
-        block = block;
-        firmware = firmware;
-        gives = gives;
-        errors = errors;
-        accepts = accepts;
-        output_is = refl;
-      },
-    )
+check_made check text cert (block, errors, given, accepts) =
+    (_, record { block = block; gives = given; errors = errors; accepts = accepts; output_is = refl })
 
-pub check_settled : FirmwaresAreExact → CertsAreExact → GivenBlocksHaveFirmware → CheckIsSettled
-check_settled firmwares certs given_firmware check text cert =
+pub check_settled : BlocksAreExact → CertsAreExact → CheckIsSettled
+check_settled blocks certs check text cert =
     settled (check_reading check text cert) (CheckGives check text cert) (CheckAccepts check text cert)
-    (firmwares (Alone check.width) text, λ c gives. certs check.kind check.width c.block cert gives.spelled.valid)
-    (λ output a. ((record { block = a.block; firmware = a.firmware }, a.errors), (a.gives, a.accepts)))
+    (blocks text, λ block gives. certs check.format block cert gives.spelled.valid)
+    (λ output a. ((a.block, a.errors), (a.gives, a.accepts)))
     (λ output other a b same. a.output_is
-    ∙ (λ i. only_lines (check_lines (same i).1 (instruction_bound check.width (same i).0.block))) ∙ sym b.output_is)
-    (check_made given_firmware check text cert)
+    ∙ (λ i. only_lines (check_lines (same i).1 (instruction_bound check.format.width (same i).0))) ∙ sym b.output_is)
+    (check_made check text cert)
 
 -- ---- compile
 

@@ -3,19 +3,16 @@
 use Rattle.std.specs.Prelude.{◌≡◌, ℕ, List, [], ◌∷◌, ◌++◌, codes, Result}
 use Rattle.fuzzy_meaning.specs.declared.block.Block.{Block}
 use Rattle.eval_code.specs.Bounds.{instruction_bound}
-use Rattle.byte_scaling.specs.declared.width.Width.{Width}
-use Rattle.alone_code.specs.declared.firmware.Firmware.{Firmware}
-use Rattle.box_tree.specs.declared.cert.CertKind.{CertKind}
+use Rattle.box_tree.specs.declared.cert.CertFormat.{CertFormat}
 use Rattle.command_parts.specs.{Certs.AcceptsCert, Certs.cert_in, SeenOutputs.SeenOutput, SeenOutputs.only_lines}
-use Rattle.command_parts.specs.declared.firmware.{Compiled.Compiled, Form.TheVariants.Alone}
-use Rattle.command_parts.specs.Firmwares.{GivesBlock, GivesFirmware, firmware_in}
+use Rattle.command_parts.specs.Firmwares.{GivesBlock, block_in}
 use Rattle.command_parts.specs.Readings.{IsSettled, Reading, last, made_of, ◌then◌}
 use Rattle.command_parts.specs.Lines.{error_lines, line}
 use Rattle.build_commands.specs.declared.check.Check.{Check}
 use Rattle.fz_status.specs.declared.status.Status.{Status}
 
-abbrev pub check_in : CertKind → Width → Check
-check_in kind width = record { kind = kind; width = width }
+abbrev pub check_in : CertFormat → Check
+check_in format = record { format = format }
 
 -- FCL and CERT
 abbrev pub check_inputs : List ℕ
@@ -29,21 +26,20 @@ check_lines errors instructions =
 
 -- ---- what it makes of its files
 
--- the text gives firmware with answers of this width, and CERT is a certificate of this kind that is accepted with
--- these errors
+-- the text gives a block, and CERT is a certificate that is accepted with these errors; the bound is that of the
+-- block's firmware with answers of the format's width
 pub record CheckGives (check : Check) (text cert : List ℕ) (output : SeenOutput) : Type 0 where
   pub block : Block
-  pub firmware : Firmware
-  pub gives : GivesFirmware (Alone check.width) text block firmware
+  pub gives : GivesBlock text block
   pub errors : List ℕ
-  pub accepts : AcceptsCert check.kind check.width block cert errors
-  pub output_is : output ≡ only_lines (check_lines errors (instruction_bound check.width block))
+  pub accepts : AcceptsCert check.format block cert errors
+  pub output_is : output ≡ only_lines (check_lines errors (instruction_bound check.format.width block))
 
--- FCL's firmware, and CERT
-abbrev pub check_reading : Check → List ℕ → List ℕ → Reading (Compiled × List ℕ)
+-- FCL's block, and CERT
+abbrev pub check_reading : Check → List ℕ → List ℕ → Reading (Block × List ℕ)
 check_reading check text cert =
-    firmware_in (Alone check.width) text then λ c.
-    last (cert_in check.kind check.width c.block cert)
+    block_in text then λ block.
+    last (cert_in check.format block cert)
 
 abbrev pub CheckMakes : Check → List ℕ → List ℕ → Result SeenOutput Status → Type 0
 CheckMakes check text cert = made_of (check_reading check text cert) (CheckGives check text cert)
@@ -51,7 +47,7 @@ CheckMakes check text cert = made_of (check_reading check text cert) (CheckGives
 -- the text gives a block, and CERT is accepted
 abbrev pub CheckAccepts : Check → List ℕ → List ℕ → Type 0
 CheckAccepts check text cert =
-    (block : Block) × (errors : List ℕ) × GivesBlock text block × AcceptsCert check.kind check.width block cert errors
+    (block : Block) × (errors : List ℕ) × GivesBlock text block × AcceptsCert check.format block cert errors
 
 -- files make at most one output, and then no fault; and one where they are accepted
 abbrev pub CheckIsSettled : Type 0

@@ -1,15 +1,14 @@
 //! The commands `certify FCL TARGET OUT`, `certify16 ..`, and `tcertify ..` and `tcertify16 ..` for tight certificates.
-ghost use Rattle.std.specs.Prelude.{◌≡◌, ◌≤◌, IfOk};
+ghost use Rattle.std.specs.Prelude.{◌≡◌, IfOk};
 ghost use Rattle.box_tree.specs.{Trees.leaf_count};
 ghost use Rattle.fz_status.specs.{Words.texts_of};
 ghost use Rattle.build_commands.specs.Certify.{CertifyMakes, certify_in, certify_lines};
 ghost use Rattle.command_parts.specs.SeenOutputs.{IsResultOf};
 
-use box_tree::{Cert, CertKind, Node, write_for};
-use byte_scaling::Width;
+use box_tree::{Cert, CertFormat, write_for};
 use command_parts::certs::halved;
 use command_parts::contents::Content;
-use command_parts::firmware::laid_out_block_of;
+use command_parts::firmware::block_of;
 use command_parts::lines::{labelled, push_errors};
 use command_parts::output::Output;
 use command_parts::words::{TargetWord, targets_in};
@@ -20,10 +19,8 @@ use std::alloc::{AllocError, Global};
 /// `certify FCL TARGET OUT`, `tcertify ..` for tight certificates, and both with `16` for answers of 16 bits.
 #[derive(Drop)]
 pub struct Certify {
-    /// The kind of the certificate: plain or tight.
-    kind: CertKind,
-    /// The width of the firmware's answers.
-    width: Width,
+    /// The format of the certificate.
+    format: CertFormat,
     /// The greatest error allowed for each output, in millionths of its range.
     targets: TargetWord,
 }
@@ -39,15 +36,11 @@ const OUT: u32 = 4;
 
 impl Certify {
     /// The command of these words.
-    pub fn of(kind: CertKind, width: Width, words: &[String]) -> Option<Certify>
-        ensures { result ≡ certify_in kind width (texts_of words.now) }
+    pub fn of(format: CertFormat, words: &[String]) -> Option<Certify>
+        ensures { result ≡ certify_in format (texts_of words.now) }
     {
-        let targets = targets_in(kind, word(words, TARGET))?;
-        Some(Certify {
-            kind,
-            width,
-            targets,
-        })
+        let targets = targets_in(format.kind, word(words, TARGET))?;
+        Some(Certify { format, targets })
     }
 
     /// Halves the boxes of the text's block until each has a leaf within the targets. The output has
@@ -55,10 +48,10 @@ impl Certify {
     pub fn work(self, alloc: Global, fcl: &Content) -> Result<Output, Status>
         ensures { IsResultOf (CertifyMakes self fcl.now) result }
     {
-        let (kind, width) = (self.kind, self.width);
-        let block = laid_out_block_of(alloc, fcl)?.block;
-        let cert = halved(alloc, kind, width, self.targets.get(), &block)?;
-        let text = write_for(alloc, &cert, kind, width)?;
+        let format = self.format;
+        let block = block_of(alloc, fcl)?;
+        let cert = halved(alloc, format, &block, self.targets.get())?;
+        let text = write_for(alloc, format, &cert)?;
         let lines = lines(alloc, &cert)?;
         Ok(Output {
             lines,
@@ -67,29 +60,14 @@ impl Certify {
     }
 }
 
-fn count_of_leaves(nodes: &[Node]) -> u64
-    requires { leaf_count nodes.now ≤ 4096 }
-    ensures { result ≡ leaf_count nodes.now }
-{
-    let mut count = 0;
-    for k in (0..nodes.len()).rev() {
-        if let Node::Leaf(_) = nodes[k] {
-            count += 1;
-        }
-    }
-    count
-}
-
 /// The lines of the error of each output, and of the number of leaves.
 fn lines(alloc: Global, cert: &Cert) -> Result<Vec<Line>, AllocError>
-    requires { leaf_count cert.now.nodes ≤ 4096 }
     ensures { IfOk result (λ lines. lines.items ≡
         certify_lines cert.now.claims (leaf_count cert.now.nodes)) }
 {
     let errors = cert.claims.as_slice();
-    let nodes = cert.nodes.as_slice();
     let mut lines = Vec::new(alloc);
     push_errors(alloc, &mut lines, "error ", errors)?;
-    lines.push(labelled(alloc, "leaves ", u128::from(count_of_leaves(nodes)))?)?;
+    lines.push(labelled(alloc, "leaves ", cert.leaves() as u128)?)?;
     Ok(lines)
 }

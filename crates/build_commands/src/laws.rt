@@ -42,9 +42,8 @@ pub fn certify_is_settled()
 pub fn check_is_settled()
     ensures { CheckIsSettled }
 {
-    firmwares_are_exact();
-    certs_are_exact();
-    given_blocks_have_firmware()
+    blocks_are_exact();
+    certs_are_exact()
 }
 
 /// A text has at most one output, and none if it has a fault; if it is accepted it has one.
@@ -104,7 +103,7 @@ pub fn certify_is_judged()
 pub fn check_is_judged()
     ensures { CheckIsJudged }
 {
-    firmwares_are_judged();
+    blocks_are_judged();
     certs_are_judged();
     check_is_settled()
 }

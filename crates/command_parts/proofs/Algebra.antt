@@ -1,6 +1,6 @@
--- Lines of items that are counted, texts that are written part by part, refusals, and readings.
+-- Lines of items that are counted, texts that are written part by part, refusals, readings, and faults of records.
 use Rattle.std.proofs.Common.{refl, ◌≡◌, ◌<◌, ◌+◌, ℕ, true, List, [], ◌∷◌, ◌++◌, length, take, get_or, sym, subst}
-use Rattle.std.proofs.Common.{◌∙◌, ◌⊎◌, ap}
+use Rattle.std.proofs.Common.{◌∙◌, ◌⊎◌, ◌≢◌, ap}
 use Rattle.std.proofs.Common.{arith, append_assoc, add-one, inl, inr}
 use Rattle.std.specs.Prelude.{All, codes, map, Result, Ok, Err, IfErr, IsErrAnd}
 use Rattle.std.proofs.Math.Seq.{take-suc}
@@ -12,6 +12,11 @@ use Rattle.fz_shelf.specs.{Lines.has_no_end, Parts.address_digits, Parts.byte_di
 use Rattle.fz_status.specs.Refusals.{CarriesNoMemory, IsRefusal, Refusals, Refuses, Tells, of_fast}
 use Rattle.fz_status.specs.declared.status.Status.{Status}
 use Rattle.fz_status.specs.declared.status.Status.TheVariants as status
+use Rattle.srecord.specs.Lines.{bad_sum, unopened, unread, wide}
+use Rattle.srecord.specs.Texts.{Given, HasFault, LineFails, after_end, at_line, count_differs, fields_fail}
+use Rattle.srecord.specs.Texts.{no_end, opening_fails, overlap, record_fails}
+use Rattle.srecord.specs.declared.fault.SrecFault.{SrecFault}
+use Rattle.srecord.specs.declared.fault.SrecFault.TheVariants as srec
 use Rattle.command_parts.specs.{Judged.AreJudged, Judged.HasResult, Judged.IsJudged, Lines.counted, Lines.registers_told}
 use Rattle.command_parts.specs.Readings.{AreExact, Gives, GivesSome, IsExact, IsRefused, IsSettled, Reading, SeenOf}
 use Rattle.command_parts.specs.Readings.{Stage}
@@ -265,3 +270,19 @@ settled_with s = record {
   contents = s.contents;
   one_fault = s.one_fault;
 }
+
+-- ---- records
+
+line_carries : (g : Given) (n : ℕ) (line : List ℕ) (f : SrecFault) → LineFails g n line f → f ≢ srec.Memory
+line_carries g n line _ (after_end started) e = cc
+line_carries g n line _ (opening_fails _ none (wide is_wide)) e = cc
+line_carries g n line _ (opening_fails _ none (unopened narrow never)) e = cc
+line_carries g n line _ (fields_fail kind bytes _ none opens (unread never)) e = cc
+line_carries g n line _ (fields_fail kind bytes _ none opens (bad_sum at payload sum has differs)) e = cc
+line_carries g n line _ (record_fails _ _ _ _ none is (overlap at payload taken)) e = cc
+line_carries g n line _ (record_fails _ _ _ _ none is (count_differs at payload differs)) e = cc
+
+pub records_carry : (text : List ℕ) (f : SrecFault) → HasFault text f → f ≢ srec.Memory
+records_carry text _ (at_line before after line g f is given fails) e =
+    line_carries g (length before + 1) line f fails e
+records_carry text _ (no_end g given none) e = cc

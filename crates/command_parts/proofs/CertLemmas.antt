@@ -2,9 +2,9 @@
 use Rattle.std.proofs.Common.{◌≡◌, ◌≢◌, ℕ, List, ap}
 use Rattle.std.specs.Prelude.{Result, Ok, Err}
 use Rattle.fuzzy_meaning.specs.{Blocks.IsValid, declared.block.Block.Block}
-use Rattle.byte_scaling.specs.{Widths.parts, declared.width.Width.Width}
+use Rattle.byte_scaling.specs.Widths.{parts}
 use Rattle.box_tree.specs.Certificates.{HasFault, bad_version}
-use Rattle.box_tree.specs.declared.{cert.CertKind.CertKind, cert.CertFault.CertFault}
+use Rattle.box_tree.specs.declared.{cert.CertFormat.CertFormat, cert.CertFault.CertFault}
 use Rattle.box_tree.specs.declared.cert.CertFault.TheVariants as cert
 use Rattle.box_tree.specs.declared.{cert.Cert.Cert, cert.Node.Node}
 use Rattle.error_bound.specs.declared.boxes.Interval.{Interval}
@@ -26,20 +26,18 @@ abbrev refusal_of : CertRefusal → TheRefusal
 refusal_of (told.Text f) = refusal.Text f
 refusal_of (told.Check f) = refusal.Check f
 
-has_refusal : (kind : CertKind) (width : Width) (block : Block) (text : List ℕ) (f : CertRefusal)
-    → HasCertFault kind width block text f
-    → HasTextFault block (parts width) kind width text (refusal_of f)
-has_refusal kind width block text (told.Text f) h = h
-has_refusal kind width block text (told.Check f) h = h
+has_refusal : (format : CertFormat) (block : Block) (text : List ℕ) (f : CertRefusal)
+    → HasCertFault format block text f → HasTextFault block (parts format.width) format text (refusal_of f)
+has_refusal format block text (told.Text f) h = h
+has_refusal format block text (told.Check f) h = h
 
 -- a certificate that a block accepts is not refused
-pub certs_apart : TextAnswersAreOne → (kind : CertKind) (width : Width) (block : Block) (text errors : List ℕ)
-    (f : CertRefusal) → IsValid block → AcceptsCert kind width block text errors
-    → HasCertFault kind width block text f → ⊥
-certs_apart answers kind width block text errors f valid accepts fault =
-    let refused = has_refusal kind width block text f fault in
+pub certs_apart : TextAnswersAreOne → (format : CertFormat) (block : Block) (text errors : List ℕ)
+    (f : CertRefusal) → IsValid block → AcceptsCert format block text errors → HasCertFault format block text f → ⊥
+certs_apart answers format block text errors f valid accepts fault =
+    let refused = has_refusal format block text f fault in
     let same : Ok errors ≡ Err (refusal_of f) =
-    answers block (parts width) kind width text (Ok errors) (Err (refusal_of f)) valid
+    answers block (parts format.width) format text (Ok errors) (Err (refusal_of f)) valid
     accepts refused in
     cc
 
@@ -50,21 +48,20 @@ same_refusal (told.Check x) (told.Check y) e = let is : x ≡ y = cc in ap told.
 same_refusal (told.Text x) (told.Check y) e = cc
 same_refusal (told.Check x) (told.Text y) e = cc
 
-pub refusals_are_one : TextAnswersAreOne → (kind : CertKind) (width : Width) (block : Block) (text : List ℕ)
-    (f g : CertRefusal) → IsValid block → HasCertFault kind width block text f → HasCertFault kind width block text g
-    → f ≡ g
-refusals_are_one answers kind width block text f g valid v w =
+pub refusals_are_one : TextAnswersAreOne → (format : CertFormat) (block : Block) (text : List ℕ)
+    (f g : CertRefusal) → IsValid block → HasCertFault format block text f → HasCertFault format block text g → f ≡ g
+refusals_are_one answers format block text f g valid v w =
     let x : Result (List ℕ) TheRefusal = Err (refusal_of f) in
     let y : Result (List ℕ) TheRefusal = Err (refusal_of g) in
-    let same : x ≡ y = answers block (parts width) kind width text x y valid
-    (has_refusal kind width block text f v) (has_refusal kind width block text g w) in
+    let same : x ≡ y = answers block (parts format.width) format text x y valid
+    (has_refusal format block text f v) (has_refusal format block text g w) in
     same_refusal f g (let is : refusal_of f ≡ refusal_of g = cc in is)
 
 -- ---- a refusal is no want of memory
 
-pub text_carries : (k : CertKind) (v : Width) (text : List ℕ) (f : CertFault) → HasFault k v text f → f ≢ cert.Memory
-text_carries k v text _ (bad_version some none) e = cc
-text_carries k v text _ _ e = cc
+pub text_carries : (format : CertFormat) (text : List ℕ) (f : CertFault) → HasFault format text f → f ≢ cert.Memory
+text_carries format text _ (bad_version some none) e = cc
+text_carries format text _ _ e = cc
 
 pair_carries : (b : Block) (box : List Interval) (o : ℕ) (leaf : the.Leaf) (line : ℕ) (f : CheckFault)
     → IsPairFault b box o leaf line f → f ≢ check.Memory
@@ -93,25 +90,25 @@ check_carries b h c _ (claimed es k over count a) e = cc
 
 -- ---- the checker's answer as a status
 
-pub as_refusal : (kind : CertKind) (width : Width) (block : Block) (text : List ℕ) (r : TheRefusal)
-    → (r ≢ refusal.Memory → HasTextFault block (parts width) kind width text r)
-    → IsRefusal (cert_refusals kind width block text) (status_of r)
-as_refusal kind width block text refusal.Memory h = tt
-as_refusal kind width block text (refusal.Text f) h = let is = h (λ e. let z : ⊥ = cc in z) in (text_is is, is)
+pub as_refusal : (format : CertFormat) (block : Block) (text : List ℕ) (r : TheRefusal)
+    → (r ≢ refusal.Memory → HasTextFault block (parts format.width) format text r)
+    → IsRefusal (cert_refusals format block text) (status_of r)
+as_refusal format block text refusal.Memory h = tt
+as_refusal format block text (refusal.Text f) h = let is = h (λ e. let z : ⊥ = cc in z) in (text_is is, is)
   where
-    text_is : HasTextFault block (parts width) kind width text (refusal.Text f) → f ≢ cert.Memory
-    text_is (of_text g fault) = text_carries kind width text g fault
-as_refusal kind width block text (refusal.Check f) h = let is = h (λ e. let z : ⊥ = cc in z) in (check_is is, is)
+    text_is : HasTextFault block (parts format.width) format text (refusal.Text f) → f ≢ cert.Memory
+    text_is (of_text g fault) = text_carries format text g fault
+as_refusal format block text (refusal.Check f) h = let is = h (λ e. let z : ⊥ = cc in z) in (check_is is, is)
   where
-    check_is : HasTextFault block (parts width) kind width text (refusal.Check f) → f ≢ check.Memory
-    check_is (of_cert c g spelled fault) = check_carries block (parts width) c g fault
+    check_is : HasTextFault block (parts format.width) format text (refusal.Check f) → f ≢ check.Memory
+    check_is (of_cert c g spelled fault) = check_carries block (parts format.width) c g fault
 
 -- a certificate is accepted with one list of errors
-pub errors_are_one : TextAnswersAreOne → (kind : CertKind) (width : Width) (block : Block)
-    (cert errors others : List ℕ) → IsValid block → AcceptsCert kind width block cert errors
-    → AcceptsCert kind width block cert others → errors ≡ others
-errors_are_one one kind width block cert errors others valid a b =
+pub errors_are_one : TextAnswersAreOne → (format : CertFormat) (block : Block)
+    (cert errors others : List ℕ) → IsValid block → AcceptsCert format block cert errors
+    → AcceptsCert format block cert others → errors ≡ others
+errors_are_one one format block cert errors others valid a b =
     let x : Result (List ℕ) TheRefusal = Ok errors in
     let y : Result (List ℕ) TheRefusal = Ok others in
-    let same : x ≡ y = one block (parts width) kind width cert x y valid a b in
+    let same : x ≡ y = one block (parts format.width) format cert x y valid a b in
     cc

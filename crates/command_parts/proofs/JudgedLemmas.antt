@@ -6,7 +6,6 @@ use Rattle.std.specs.{BTreeMap.is_at, Ordering.nat_cmp}
 use Rattle.std.proofs.Common.{Bool, false}
 use Rattle.cpu12_asm.specs.Bytes.{IsFirstDifference, byte_at}
 use Rattle.std.specs.Prelude.{Result, Ok, Err, All}
-use Rattle.box_tree.specs.declared.cert.CertKind.{CertKind}
 use Rattle.byte_scaling.specs.{Widths.parts, declared.width.Width.Width}
 use Rattle.byte_scaling.specs.declared.width.Width.TheVariants.{Byte, Word}
 use Rattle.cert_check.specs.Laws.{EachCertTextIsJudged, IsTextAnswer}
@@ -36,11 +35,6 @@ use Rattle.handler_check.specs.Images.{EachImageIsJudged, IsFault}
 use Rattle.handler_check.specs.declared.faults.HandlerFault.{HandlerFault}
 use Rattle.handler_check.specs.declared.faults.HandlerFault.TheVariants as handler
 use Rattle.srecord.specs.Laws.{EachTextIsJudged as RecordsAreJudged}
-use Rattle.srecord.specs.Lines.{bad_sum, unopened, unread, wide}
-use Rattle.srecord.specs.Texts.{Given, HasFault, LineFails, after_end, at_line, count_differs, fields_fail}
-use Rattle.srecord.specs.Texts.{no_end, opening_fails, overlap, record_fails}
-use Rattle.srecord.specs.declared.fault.SrecFault.{SrecFault}
-use Rattle.srecord.specs.declared.fault.SrecFault.TheVariants as srec
 use Rattle.fz_status.specs.declared.status.FclFault.TheVariants as fcl
 use Rattle.fz_status.specs.declared.status.FastFault.TheVariants as fast
 use Rattle.fz_status.specs.declared.status.Status.TheVariants as status
@@ -48,8 +42,9 @@ use Rattle.command_parts.specs.Judged.{BlocksAreJudged, CertsAreJudged, Firmware
 use Rattle.command_parts.specs.Judged.{HandlersAreJudged, ImagesAreJudged, TwosAreJudged}
 use Rattle.command_parts.specs.Firmwares.{GivenBlocksHaveFirmware, GivesBlock, text_refusals}
 use Rattle.command_parts.specs.{Certs.cert_in, Certs.halving_in, Twos.GivenBlocksHaveTwos, Twos.two_refusals}
-use Rattle.command_parts.specs.declared.{firmware.Compiled.Compiled, twos.CompiledTwo.CompiledTwo}
-use Rattle.command_parts.proofs.{CertLemmas.check_carries, CertLemmas.text_carries, NumberLemmas.each_millionths}
+use Rattle.command_parts.specs.declared.{firmware.Compiled.Compiled, twos.CompiledTwoLevel.CompiledTwoLevel}
+use Rattle.command_parts.proofs.{Algebra.records_carry, CertLemmas.check_carries, CertLemmas.text_carries}
+use Rattle.command_parts.proofs.NumberLemmas.{each_millionths}
 
 some_parts : (width : Width) → 1 ≤ parts width
 some_parts Byte = omega arith
@@ -58,28 +53,31 @@ some_parts Word = omega arith
 -- ---- certificates and halvings
 
 pub certs_judged : EachCertTextIsJudged → CertsAreJudged
-certs_judged texts kind width block cert valid =
-    let answer = texts block (parts width) kind width cert valid (some_parts width) in by_answer answer.0 answer.1
+certs_judged texts format block cert valid =
+    let answer = texts block (parts format.width) format cert valid (some_parts format.width) in
+    by_answer answer.0 answer.1
   where
-    refused : (r : TextFault) → HasTextFault block (parts width) kind width cert r
-        → (s : Status) × Refuses (cert_in kind width block cert).refuses s
+    refused : (r : TextFault) → HasTextFault block (parts format.width) format cert r
+        → (s : Status) × Refuses (cert_in format block cert).refuses s
     refused _ (of_text f has) =
-        (status.Cert (told.Text f), (text_carries kind width cert f has, of_text f has))
+        (status.Cert (told.Text f), (text_carries format cert f has, of_text f has))
     refused _ (of_cert c f spelled has) =
-        (status.Cert (told.Check f), (check_carries block (parts width) c f has, of_cert c f spelled has))
+        (status.Cert (told.Check f), (check_carries block (parts format.width) c f has, of_cert c f spelled has))
 
-    by_answer : (answer : Result (List ℕ) TextFault) → IsTextAnswer block (parts width) kind width cert answer
-        → IsJudged (cert_in kind width block cert)
+    by_answer : (answer : Result (List ℕ) TextFault) → IsTextAnswer block (parts format.width) format cert answer
+        → IsJudged (cert_in format block cert)
     by_answer (Ok errors) is = inl (errors, is)
     by_answer (Err r) is = inr (refused r is)
 
 pub halvings_judged : EachBlockIsHalved → CellsAreOutOfReach → HalvingsAreJudged
-halvings_judged blocks reach kind width targets block valid small =
-    let answer = blocks kind block (parts width) (targets_of block targets) valid (some_parts width)
-    (each_millionths block targets small) in by_answer answer.0 answer.1 answer.2
+halvings_judged blocks reach format targets block valid small =
+    let answer = blocks format.kind block (parts format.width) (targets_of block targets) valid
+    (some_parts format.width) (each_millionths block targets small) in
+    by_answer answer.0 answer.1 answer.2
   where
-    by_answer : (answer : Result Cert NotReached) → IsAnswerFor kind block (parts width) (targets_of block targets) answer
-        → answer ≢ Err stop.Memory → IsJudged (halving_in kind width targets block)
+    by_answer : (answer : Result Cert NotReached)
+        → IsAnswerFor format.kind block (parts format.width) (targets_of block targets) answer
+        → answer ≢ Err stop.Memory → IsJudged (halving_in format targets block)
     by_answer (Ok cert) is other = inl (cert, is)
     by_answer (Err s) is other = inr (
       status.NotReached s,
@@ -87,7 +85,8 @@ halvings_judged blocks reach kind width targets block valid small =
         (λ e. other (ap Err e)),
         record {
           stops = is;
-          out_of_reach = reach kind block (parts width) (targets_of block targets) s valid (some_parts width) is;
+          out_of_reach = reach format.kind block (parts format.width) (targets_of block targets) s valid
+              (some_parts format.width) is;
         },
       ),
     )
@@ -220,20 +219,6 @@ twos_judged blocks twos slow_text fast_text slow_few fast_few = elim (blocks slo
     fast_refuses slow slow_is s carries w = absurd w
 
 -- ---- handlers
-
-line_carries : (g : Given) (n : ℕ) (line : List ℕ) (f : SrecFault) → LineFails g n line f → f ≢ srec.Memory
-line_carries g n line _ (after_end started) e = cc
-line_carries g n line _ (opening_fails _ none (wide is_wide)) e = cc
-line_carries g n line _ (opening_fails _ none (unopened narrow never)) e = cc
-line_carries g n line _ (fields_fail kind bytes _ none opens (unread never)) e = cc
-line_carries g n line _ (fields_fail kind bytes _ none opens (bad_sum at payload sum has differs)) e = cc
-line_carries g n line _ (record_fails _ _ _ _ none is (overlap at payload taken)) e = cc
-line_carries g n line _ (record_fails _ _ _ _ none is (count_differs at payload differs)) e = cc
-
-pub records_carry : (text : List ℕ) (f : SrecFault) → HasFault text f → f ≢ srec.Memory
-records_carry text _ (at_line before after line g f is given fails) e =
-    line_carries g (length before + 1) line f fails e
-records_carry text _ (no_end g given none) e = cc
 
 image_carries : (image : List (ℕ × ℕ)) (f : HandlerFault) → IsFault image f → f ≢ handler.Memory
 image_carries image f has e = subst (IsFault image) e has

@@ -4,8 +4,8 @@ use Rattle.std.proofs.Common.{◌+◌, inl, inr, refl, subst, sym}
 use Rattle.std.proofs.{lemmas.Bool.cases_lt, lemmas.List.Sums.sum_by-cons, Math.Seq.take-length}
 use Rattle.std.specs.Prelude.{Result, Ok, Err}
 use Rattle.alone_code.specs.{Alike.FirmwaresAreOne, Alike.MailboxesAreOne, declared.firmware.Firmware.Firmware}
-use Rattle.box_tree.specs.declared.{cert.Cert.Cert, cert.CertKind.CertKind}
-use Rattle.byte_scaling.specs.{Widths.parts, declared.width.Width.Width}
+use Rattle.box_tree.specs.declared.{cert.Cert.Cert, cert.CertFormat.CertFormat}
+use Rattle.byte_scaling.specs.Widths.{parts}
 use Rattle.cert_check.specs.Laws.{TextAnswersAreOne}
 use Rattle.cpu12_asm.specs.{declared.image.Image.Image}
 use Rattle.error_certifier.specs.{Laws.AnswersForTargetsAreOne, Targets.targets_of}
@@ -36,7 +36,7 @@ use Rattle.command_parts.specs.{Handlers.GivesHandler, Handlers.HandlersAreExact
 use Rattle.command_parts.specs.{Readings.TellsContents, Twos.GivesTwo, Twos.TwosAreExact, Twos.two_refusals}
 use Rattle.command_parts.specs.declared.firmware.{Compiled.Compiled, Form.Form}
 use Rattle.command_parts.specs.declared.firmware.Form.TheVariants.{Alone, Mailbox, Watched}
-use Rattle.command_parts.specs.declared.twos.CompiledTwo.{CompiledTwo}
+use Rattle.command_parts.specs.declared.twos.CompiledTwoLevel.{CompiledTwoLevel}
 use Rattle.command_parts.proofs.{Algebra.exact_of, CertLemmas.certs_apart, CertLemmas.errors_are_one}
 use Rattle.command_parts.proofs.{CertLemmas.refusals_are_one, HandlerLemmas.handler_faults_are_one}
 use Rattle.command_parts.proofs.ImageLemmas.{image_faults_are_one, images_apart}
@@ -148,7 +148,7 @@ firmwares_exact blocks firmwares form text = record {
 pub twos_exact : BlocksAreExact → TwosAreOne → TwosAreExact
 twos_exact blocks twos slow fast = record { one = one; apart = apart; contents = tells; refused_once = once }
   where
-    one : (c d : CompiledTwo) → GivesTwo slow fast c.slow c.fast c.two → GivesTwo slow fast d.slow d.fast d.two
+    one : (c d : CompiledTwoLevel) → GivesTwo slow fast c.slow c.fast c.two → GivesTwo slow fast d.slow d.fast d.two
         → c ≡ d
     one c d a b =
         let of_slow = (blocks slow).one c.slow d.slow a.slow_is b.slow_is in
@@ -158,7 +158,7 @@ twos_exact blocks twos slow fast = record { one = one; apart = apart; contents =
         let two = twos d.slow d.fast c.two d.two both b.both in
         (λ i. record { slow = of_slow i; fast = of_fast i; two = two i })
 
-    apart : (c : CompiledTwo) (s : Status) → GivesTwo slow fast c.slow c.fast c.two
+    apart : (c : CompiledTwoLevel) (s : Status) → GivesTwo slow fast c.slow c.fast c.two
         → Refuses (two_refusals slow fast) s → ⊥
     apart c (status.Fcl f) a w = (blocks slow).apart c.slow (status.Fcl f) a.slow_is w
     apart c (status.Fast (told.Fcl f)) a w = (blocks fast).apart c.fast (status.Fcl f) a.fast_is (w.0, w.1.1)
@@ -231,24 +231,23 @@ handlers_exact record_faults images records handlers faults counts text = record
 
 -- ---- certificates
 
-cert_has : (kind : CertKind) (width : Width) (block : Block) (cert : List ℕ) (s : Status)
-    → cert_refusals kind width block cert s
-    → (f : CertRefusal) × (s ≡ status.Cert f) × HasCertFault kind width block cert f
-cert_has kind width block cert (status.Cert f) w = (f, refl, w)
-cert_has kind width block cert s w = absurd w
+cert_has : (format : CertFormat) (block : Block) (cert : List ℕ) (s : Status) → cert_refusals format block cert s
+    → (f : CertRefusal) × (s ≡ status.Cert f) × HasCertFault format block cert f
+cert_has format block cert (status.Cert f) w = (f, refl, w)
+cert_has format block cert s w = absurd w
 
 pub certs_exact : TextAnswersAreOne → CertsAreExact
-certs_exact answers kind width block cert valid =
-    exact_of (cert_in kind width block cert) status.Cert (HasCertFault kind width block cert) (λ f. tt)
-    (cert_has kind width block cert) (λ es fs a b. errors_are_one answers kind width block cert es fs valid a b)
-    (λ es f a carries w. certs_apart answers kind width block cert es f valid a w)
-    (λ f g c d v w. refusals_are_one answers kind width block cert f g valid v w)
+certs_exact answers format block cert valid =
+    exact_of (cert_in format block cert) status.Cert (HasCertFault format block cert) (λ f. tt)
+    (cert_has format block cert) (λ es fs a b. errors_are_one answers format block cert es fs valid a b)
+    (λ es f a carries w. certs_apart answers format block cert es f valid a w)
+    (λ f g c d v w. refusals_are_one answers format block cert f g valid v w)
 
-stop_has : (kind : CertKind) (width : Width) (targets : Targets) (block : Block) (s : Status)
-    → target_refusals kind width targets block s
-    → (stop : NotReached) × (s ≡ status.NotReached stop) × StopsHalving kind width targets block stop
-stop_has kind width targets block (status.NotReached stop) w = (stop, refl, w)
-stop_has kind width targets block s w = absurd w
+stop_has : (format : CertFormat) (targets : Targets) (block : Block) (s : Status)
+    → target_refusals format targets block s
+    → (stop : NotReached) × (s ≡ status.NotReached stop) × StopsHalving format targets block stop
+stop_has format targets block (status.NotReached stop) w = (stop, refl, w)
+stop_has format targets block s w = absurd w
 
 one_cert : (x y : Result Cert NotReached) (cert other : Cert) → x ≡ y → x ≡ Ok cert → y ≡ Ok other → cert ≡ other
 one_cert x y cert other same is also = cc
@@ -261,13 +260,15 @@ not_both : (x y : Result Cert NotReached) (cert : Cert) (stop : NotReached) → 
 not_both x y cert stop same is also = cc
 
 pub halvings_exact : AnswersForTargetsAreOne → HalvingsAreExact
-halvings_exact answers kind width targets block valid =
-    exact_of (halving_in kind width targets block) status.NotReached (StopsHalving kind width targets block) (λ f. tt)
-    (stop_has kind width targets block)
+halvings_exact answers format targets block valid =
+    exact_of (halving_in format targets block) status.NotReached (StopsHalving format targets block) (λ f. tt)
+    (stop_has format targets block)
     (λ cert other a b. one_cert (Ok cert) (Ok other) cert other
-    (answers kind block (parts width) (targets_of block targets) (Ok cert) (Ok other) valid a b) refl refl)
-    (λ cert stop a carries w. not_both (Ok cert) (Err stop) cert stop
-    (answers kind block (parts width) (targets_of block targets) (Ok cert) (Err stop) valid a w.stops) refl refl)
-    (λ stop other c d v w. one_stop (Err stop) (Err other) stop other
-    (answers kind block (parts width) (targets_of block targets) (Err stop) (Err other) valid v.stops w.stops) refl
+    (answers format.kind block (parts format.width) (targets_of block targets) (Ok cert) (Ok other) valid a b) refl
     refl)
+    (λ cert stop a carries w. not_both (Ok cert) (Err stop) cert stop
+    (answers format.kind block (parts format.width) (targets_of block targets) (Ok cert) (Err stop) valid a w.stops)
+    refl refl)
+    (λ stop other c d v w. one_stop (Err stop) (Err other) stop other
+    (answers format.kind block (parts format.width) (targets_of block targets) (Err stop) (Err other) valid v.stops
+    w.stops) refl refl)

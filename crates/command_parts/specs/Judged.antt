@@ -1,8 +1,7 @@
 -- Files that give something or are refused.
 -- Beside the promise.
 use Rattle.std.specs.Prelude.{◌⊎◌, ◌≤◌, ℕ, List, length, Result}
-use Rattle.box_tree.specs.declared.cert.CertKind.{CertKind}
-use Rattle.byte_scaling.specs.declared.width.Width.{Width}
+use Rattle.box_tree.specs.declared.cert.CertFormat.{CertFormat}
 use Rattle.cpu12_asm.specs.declared.image.Image.{Image}
 use Rattle.error_certifier.specs.declared.targets.Targets.{Targets}
 use Rattle.fuzzy_meaning.specs.{Blocks.IsValid, declared.block.Block.Block}
@@ -45,10 +44,9 @@ HandlersAreJudged = (text : List ℕ) → IsJudged (handler_in text)
 
 abbrev pub CertsAreJudged : Type 0
 CertsAreJudged =
-    (kind : CertKind) (width : Width) (block : Block) (cert : List ℕ) → IsValid block
-    → IsJudged (cert_in kind width block cert)
+    (format : CertFormat) (block : Block) (cert : List ℕ) → IsValid block → IsJudged (cert_in format block cert)
 
 abbrev pub HalvingsAreJudged : Type 0
 HalvingsAreJudged =
-    (kind : CertKind) (width : Width) (targets : Targets) (block : Block) → IsValid block → AreMillionths targets
-    → IsJudged (halving_in kind width targets block)
+    (format : CertFormat) (targets : Targets) (block : Block) → IsValid block → AreMillionths targets
+    → IsJudged (halving_in format targets block)

@@ -4,7 +4,7 @@ use Rattle.std.specs.Prelude.{ℕ, List}
 use Rattle.fuzzy_meaning.specs.declared.block.Block.{Block}
 use Rattle.two_level_code.specs.{Images.IsTwoOf, declared.two.Two.Two}
 use Rattle.command_parts.specs.Firmwares.{GivesBlock, RefusesText}
-use Rattle.command_parts.specs.{Readings.IsExact, Readings.Stage, declared.twos.CompiledTwo.CompiledTwo}
+use Rattle.command_parts.specs.{Readings.IsExact, Readings.Stage, declared.twos.CompiledTwoLevel.CompiledTwoLevel}
 use Rattle.fz_status.specs.Refusals.{Refusals}
 use Rattle.fz_status.specs.declared.status.FastFault.TheVariants as told
 use Rattle.fz_status.specs.declared.status.Status.TheVariants as status
@@ -22,10 +22,10 @@ two_refusals slow fast (status.Fast (told.Fcl f)) = ((block : Block) × GivesBlo
 two_refusals slow fast s = ⊥
 
 -- the blocks of two texts, the slow one first, and the firmware of both
-abbrev pub twos_in : List ℕ → List ℕ → Stage CompiledTwo
+abbrev pub twos_in : List ℕ → List ℕ → Stage CompiledTwoLevel
 twos_in slow fast = record {
   gives = λ c. GivesTwo slow fast c.slow c.fast c.two;
-  Seen = CompiledTwo;
+  Seen = CompiledTwoLevel;
   seen = λ c. c;
   refuses = two_refusals slow fast;
 }

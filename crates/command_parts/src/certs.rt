@@ -10,44 +10,41 @@ ghost use Rattle.byte_scaling.specs.Widths.{parts};
 ghost use Rattle.fz_status.specs.Refusals.{IsRefusal};
 
 use crate::contents::Content;
-use box_tree::{Cert, CertKind};
-use byte_scaling::Width;
+use box_tree::{Cert, CertFormat};
 use cert_check::check_text_for;
 use error_certifier::{Targets, certify_each};
 use fuzzy_meaning::Block;
 use fz_status::Status;
 use std::alloc::Global;
 
-/// The error of each output under a certificate's text of this kind, for answers of this width, or the
-/// status of its refusal.
+/// The error of each output under a certificate's text of this format, or the status of its refusal.
 pub fn errors_under(
     alloc: Global,
-    kind: CertKind,
-    width: Width,
+    format: CertFormat,
     block: &Block,
     cert: &Content,
 ) -> Result<Vec<u32>, Status>
     requires block { IsValid block.now }
-    ensures accepts { IfOk result (λ errors. AcceptsCert kind width block.now cert.now errors.items) }
-    ensures refused { IfErr result (IsRefusal (cert_refusals kind width block.now cert.now)) }
+    ensures accepts { IfOk result (λ errors. AcceptsCert format block.now cert.now errors.items) }
+    ensures refused { IfErr result (IsRefusal (cert_refusals format block.now cert.now)) }
 {
-    Ok(check_text_for(alloc, block, cert.bytes(), kind, width)?)
+    Ok(check_text_for(alloc, format, block, cert.bytes())?)
 }
 
-/// The certificate of this kind that halving finds for a block and these targets, for answers of this width.
+/// The certificate of this format that halving finds for a block and these targets.
 pub fn halved(
     alloc: Global,
-    kind: CertKind,
-    width: Width,
-    targets: &Targets,
+    format: CertFormat,
     block: &Block,
+    targets: &Targets,
 ) -> Result<Cert, Status>
     requires block { IsValid block.now }
     requires targets { AreMillionths targets.now }
-    ensures halving { IfOk result (IsHalvingFor kind block.now (parts width) (targets_of block.now targets.now)) }
+    ensures halving { IfOk result
+        (IsHalvingFor format.kind block.now (parts format.width) (targets_of block.now targets.now)) }
     ensures within { IfOk result (λ cert. AreWithin (targets_of block.now targets.now) cert.claims) }
-    ensures cert { IfOk result (IsCert kind) }
-    ensures stops { IfErr result (IsRefusal (target_refusals kind width targets.now block.now)) }
+    ensures cert { IfOk result (IsCert format.kind) }
+    ensures stops { IfErr result (IsRefusal (target_refusals format targets.now block.now)) }
 {
-    Ok(certify_each(alloc, block, targets, kind, width)?)
+    Ok(certify_each(alloc, format, block, targets)?)
 }

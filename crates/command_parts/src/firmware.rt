@@ -1,7 +1,7 @@
 //! From a text to its block, and to the block's firmware.
-ghost use Rattle.std.specs.Prelude.{◌≡◌, IfOk, IfErr, OnOk};
+ghost use Rattle.std.specs.Prelude.{IfOk, IfErr, OnOk};
 ghost use Rattle.fuzzy_meaning.specs.Blocks.{IsValid};
-ghost use Rattle.rule_layout.specs.Layouts.{flat_of, IsFaultOf, IsLaidOut, IsWithinLimits};
+ghost use Rattle.rule_layout.specs.Layouts.{IsFaultOf, IsWithinLimits};
 ghost use Rattle.fcl_check.specs.Texts.{SpellsBlock};
 ghost use Rattle.command_parts.specs.Firmwares.{GivesBlock, GivesFirmware, IsOfForm, text_refusals};
 ghost use Rattle.fz_status.specs.Refusals.{IsRefusal};
@@ -13,7 +13,7 @@ use fcl_check::load;
 use fcl_syntax::parse;
 use fuzzy_meaning::Block;
 use fz_status::Status;
-use rule_layout::{Flat, LayoutFault, spread};
+use rule_layout::{LayoutFault, require_limits};
 use std::alloc::Global;
 use watched_code::compile_scrub;
 
@@ -43,7 +43,7 @@ pub fn firmware_of(alloc: Global, form: Form, text: &Content) -> Result<Compiled
     ensures gives { IfOk result (λ c. GivesFirmware form text.now c.block c.firmware) }
     ensures fault { IfErr result (IsRefusal (text_refusals text.now)) }
 {
-    let block = block_of(alloc, text)?;
+    let block = spelled_block(alloc, text)?;
     let firmware = compile_form(alloc, form, &block)?;
     Ok(Compiled { block, firmware })
 }
@@ -62,28 +62,18 @@ fn compile_form(alloc: Global, form: Form, block: &Block) -> Result<Firmware, La
     }
 }
 
-/// A block with its layout.
-#[derive(Drop)]
-pub struct LaidOut {
-    pub block: Block,
-    /// The block's rules as `spread` lays them out.
-    pub flat: Flat,
-}
-
-/// The block that the text spells, with its layout. The faults are those of `firmware_of`.
-pub fn laid_out_block_of(alloc: Global, text: &Content) -> Result<LaidOut, Status>
-    ensures gives { IfOk result (λ l. GivesBlock text.now l.block) }
-    ensures flat { IfOk result (λ l. l.flat ≡ flat_of l.block) }
-    ensures laid_out { IfOk result (λ l. IsLaidOut l.flat) }
+/// The block that the text spells, which can be laid out. The faults are those of `firmware_of`.
+pub fn block_of(alloc: Global, text: &Content) -> Result<Block, Status>
+    ensures gives { IfOk result (GivesBlock text.now) }
     ensures fault { IfErr result (IsRefusal (text_refusals text.now)) }
 {
-    let block = block_of(alloc, text)?;
-    let flat = spread(alloc, &block)?;
-    Ok(LaidOut { block, flat })
+    let block = spelled_block(alloc, text)?;
+    require_limits(alloc, &block)?;
+    Ok(block)
 }
 
 /// The block that the text spells.
-fn block_of(alloc: Global, text: &Content) -> Result<Block, Status>
+pub fn spelled_block(alloc: Global, text: &Content) -> Result<Block, Status>
     ensures block { IfOk result (SpellsBlock text.now) }
     ensures fault { IfErr result (IsRefusal (text_refusals text.now)) }
 {

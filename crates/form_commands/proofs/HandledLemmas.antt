@@ -1,6 +1,6 @@
 -- What a run gives whose interrupts run a handler's code.
 use Rattle.form_commands.proofs.Words.{◌<◌, ◌^◌, ◌∙◌, ◌≡◌, Alone, AnswersAreReported, AnswersItsBlock}
-use Rattle.form_commands.proofs.Words.{AnswersUnderPlans, ap, Byte, CertKind, Compiled, handled_report, handled_seen}
+use Rattle.form_commands.proofs.Words.{AnswersUnderPlans, ap, Byte, CertKind, Compiled, format_of, handled_report, handled_seen}
 use Rattle.form_commands.proofs.Words.{HandledFiles, input_bytes, List, map, refl, Request, RowSeen, Sample}
 use Rattle.form_commands.proofs.Words.{SpelledBytesFit, subst, sym, ℕ}
 use Rattle.form_commands.proofs.FormLemmas.{settled_report}
@@ -60,7 +60,7 @@ handled_exact firmwares handlers certs traces plans kind files = (
   λ c compiled. (
     handlers files.handler,
     λ handler handles. (
-      certs kind Byte c.block files.inputs.cert compiled.spelled.valid,
+      certs (format_of kind Byte) c.block files.inputs.cert compiled.spelled.valid,
       λ errors accepted. (traces c.block files.inputs.trace, λ samples in_range. plans files.inputs.plan),
     ),
   ),

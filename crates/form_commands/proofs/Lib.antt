@@ -1,7 +1,7 @@
 pub mod FormLemmas
 pub mod HandledLemmas
-pub mod LevelLemmas
-pub mod LevelLines
-pub mod PostedLemmas
+pub mod TwoLevelLemmas
+pub mod TwoLevelLines
+pub mod MailboxLemmas
 pub mod WatchedLemmas
 pub mod Words

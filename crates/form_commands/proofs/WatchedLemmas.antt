@@ -1,6 +1,6 @@
 -- What a run under upsets gives.
 use Rattle.form_commands.proofs.Words.{[], ◌<◌, ◌^◌, ◌∙◌, ◌∷◌, ◌≡◌, ◌≤◌, All, All-cons, All-nil, Block, Byte}
-use Rattle.form_commands.proofs.Words.{CertKind, Compiled, Firmware, input_bytes, List, map, refl, Request, Sample}
+use Rattle.form_commands.proofs.Words.{CertKind, Compiled, Firmware, format_of, input_bytes, List, map, refl, Request, Sample}
 use Rattle.form_commands.proofs.Words.{SpelledBytesFit, Status, sym, upset_rows, faults_of, watched_report}
 use Rattle.form_commands.proofs.Words.{WatchedFiles, ℕ}
 use Rattle.form_commands.proofs.FormLemmas.{settled_report}
@@ -76,7 +76,7 @@ watched_exact firmwares images certs traces plans one stand faults kind files = 
   λ c compiled. (
     images files.image c.firmware.image,
     λ held image. (
-      certs kind Byte c.block files.inputs.cert compiled.spelled.valid,
+      certs (format_of kind Byte) c.block files.inputs.cert compiled.spelled.valid,
       λ errors accepted. (
         traces c.block files.inputs.trace,
         λ samples in_range. (plans files.inputs.plan, λ plan good. upsets c.firmware.image.bytes),

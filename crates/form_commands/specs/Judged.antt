@@ -4,8 +4,8 @@ use Rattle.std.specs.Prelude.{◌<◌, ◌≤◌, ◌^◌, ℕ, length}
 use Rattle.command_parts.specs.Judged.{HasResult}
 use Rattle.form_commands.specs.{Hrun.HrunMakes, Lrun.LrunMakes, Mrun.MrunMakes, Srun.SrunMakes}
 use Rattle.form_commands.specs.declared.form_run.FormRun.{FormRun}
-use Rattle.run_reports.specs.declared.{files.HandledFiles.HandledFiles, files.LevelFiles.LevelFiles}
-use Rattle.run_reports.specs.declared.{files.PostedFiles.PostedFiles, files.WatchedFiles.WatchedFiles}
+use Rattle.run_reports.specs.declared.{files.HandledFiles.HandledFiles, files.TwoLevelFiles.TwoLevelFiles}
+use Rattle.run_reports.specs.declared.{files.MailboxFiles.MailboxFiles, files.WatchedFiles.WatchedFiles}
 
 -- where FCL has at most 1048576 bytes
 abbrev pub HrunIsJudged : Type 0
@@ -15,7 +15,7 @@ HrunIsJudged =
 
 abbrev pub MrunIsJudged : Type 0
 MrunIsJudged =
-    (run : FormRun) (files : PostedFiles) → run.flags < 2 ^ 8 → length files.fcl ≤ 1048576
+    (run : FormRun) (files : MailboxFiles) → run.flags < 2 ^ 8 → length files.fcl ≤ 1048576
     → HasResult (MrunMakes run files)
 
 abbrev pub SrunIsJudged : Type 0
@@ -25,5 +25,5 @@ SrunIsJudged =
 
 abbrev pub LrunIsJudged : Type 0
 LrunIsJudged =
-    (run : FormRun) (files : LevelFiles) → run.flags < 2 ^ 8 → length files.slow ≤ 1048576
+    (run : FormRun) (files : TwoLevelFiles) → run.flags < 2 ^ 8 → length files.slow ≤ 1048576
     → length files.fast ≤ 1048576 → HasResult (LrunMakes run files)

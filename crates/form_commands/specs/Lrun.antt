@@ -5,17 +5,17 @@ use Rattle.std.specs.Prelude.{ℕ, ◌-◌, List, [], ◌∷◌, ◌++◌, codes
 use Rattle.std.specs.List.{slice_index_or}
 use Rattle.command_parts.specs.{Contents.content_at, SeenOutputs.SeenOutput}
 use Rattle.command_parts.specs.Lines.{counted, error_lines, line}
-use Rattle.command_parts.specs.declared.twos.CompiledTwo.{CompiledTwo}
+use Rattle.command_parts.specs.declared.twos.CompiledTwoLevel.{CompiledTwoLevel}
 use Rattle.cpu12_emul.specs.Take.{FrameSeen}
 use Rattle.fz_shelf.specs.Parts.{ended}
 use Rattle.fz_status.specs.declared.status.Status.{Status}
 use Rattle.interrupt_plan.specs.declared.levels.Level.{Level}
-use Rattle.run_reports.specs.LevelRun.{LevelReport, LevelRun, level_reading}
+use Rattle.run_reports.specs.TwoLevelRun.{TwoLevelReport, TwoLevelRun, two_level_reading}
 use Rattle.run_reports.specs.RowLines.{answers_told, frame_line, frame_told, sample_told}
-use Rattle.run_reports.specs.declared.files.LevelFiles.{LevelFiles}
+use Rattle.run_reports.specs.declared.files.TwoLevelFiles.{TwoLevelFiles}
 use Rattle.trace_io.specs.{Traces.input_bytes, declared.sample.Sample.Sample}
 use Rattle.two_level_code.specs.Images.{fast_most}
-use Rattle.two_level_runs.specs.{Rows.TwoSeen, Rows.two_seen, Runs.FastSeen}
+use Rattle.two_level_runs.specs.{Rows.TwoLevelSeen, Rows.two_level_seen, Runs.FastSeen}
 use Rattle.form_commands.specs.Forms.{AreSettled, made_by}
 use Rattle.form_commands.specs.declared.form_run.FormRun.{FormRun}
 
@@ -23,8 +23,8 @@ use Rattle.form_commands.specs.declared.form_run.FormRun.{FormRun}
 abbrev pub lrun_inputs : List ℕ
 lrun_inputs = 2 ∷ 3 ∷ 4 ∷ 5 ∷ 6 ∷ 7 ∷ 8 ∷ 9 ∷ []
 
-abbrev pub level_files : List (List ℕ) → LevelFiles
-level_files contents = record {
+abbrev pub two_level_files : List (List ℕ) → TwoLevelFiles
+two_level_files contents = record {
   slow = content_at contents 0;
   fast = content_at contents 1;
   image = content_at contents 2;
@@ -57,34 +57,35 @@ abbrev pub outer_lines : ℕ → List (Option FastSeen) → ℕ → ℕ × Frame
 outer_lines k fast n f = frame_line k f ∷ fast_lines (slice_index_or fast (n - 1) None)
 
 -- the lines of the k-th sample
-abbrev pub level_row_lines : ℕ → TwoSeen → List (List ℕ)
-level_row_lines k r = ended (sample_told k r.row) ∷ counted (outer_lines k r.fast) 1 r.row.frames
+abbrev pub two_level_row_lines : ℕ → TwoLevelSeen → List (List ℕ)
+two_level_row_lines k r = ended (sample_told k r.row) ∷ counted (outer_lines k r.fast) 1 r.row.frames
 
 -- the errors and the bounds on instructions, of the slow block before the fast one
-abbrev pub level_begun_lines : List ℕ → List ℕ → ℕ → ℕ → List (List ℕ)
-level_begun_lines errors fast_errors bound fast_bound =
+abbrev pub two_level_begun_lines : List ℕ → List ℕ → ℕ → ℕ → List (List ℕ)
+two_level_begun_lines errors fast_errors bound fast_bound =
     error_lines (codes "error ") errors ++ (error_lines (codes "fast error ") fast_errors
     ++ line (codes "instructions ") bound ∷ line (codes "fast instructions ") fast_bound ∷ [])
 
 -- and then each slow sample
-abbrev pub lrun_lines : LevelReport → List (List ℕ)
-lrun_lines r = level_begun_lines r.errors r.fast_errors r.bound r.fast_bound ++ counted level_row_lines 1 r.rows
+abbrev pub lrun_lines : TwoLevelReport → List (List ℕ)
+lrun_lines r = two_level_begun_lines r.errors r.fast_errors r.bound r.fast_bound ++ counted two_level_row_lines 1 r.rows
 
-abbrev pub level_report : List ℕ → List ℕ → ℕ → ℕ → List TwoSeen → LevelReport
-level_report errors fast_errors bound fast_bound rows =
+abbrev pub two_level_report : List ℕ → List ℕ → ℕ → ℕ → List TwoLevelSeen → TwoLevelReport
+two_level_report errors fast_errors bound fast_bound rows =
     record { errors = errors; fast_errors = fast_errors; bound = bound; fast_bound = fast_bound; rows = rows }
 
 -- ---- what it makes of its files
 
 -- the report of the run of what the files give
-abbrev pub level_run : ℕ → CompiledTwo → List ℕ → List ℕ → List Sample → List Sample → List Level → LevelReport
-level_run flags c errors fast_errors samples fast_samples levels =
-    level_report errors fast_errors c.two.slow.instr_bound (fast_most c.two.fast.instr_bound)
-    (two_seen c.two (map input_bytes samples) (map input_bytes fast_samples) levels flags)
+abbrev pub two_level_run : ℕ → CompiledTwoLevel → List ℕ → List ℕ → List Sample → List Sample → List Level
+    → TwoLevelReport
+two_level_run flags c errors fast_errors samples fast_samples levels =
+    two_level_report errors fast_errors c.two.slow.instr_bound (fast_most c.two.fast.instr_bound)
+    (two_level_seen c.two (map input_bytes samples) (map input_bytes fast_samples) levels flags)
 
-abbrev pub LrunMakes : FormRun → LevelFiles → Result SeenOutput Status → Type 0
-LrunMakes = made_by level_reading LevelRun lrun_lines
+abbrev pub LrunMakes : FormRun → TwoLevelFiles → Result SeenOutput Status → Type 0
+LrunMakes = made_by two_level_reading TwoLevelRun lrun_lines
 
 abbrev pub LrunIsSettled : Type 0
-LrunIsSettled = AreSettled level_reading LevelRun lrun_lines
-    (λ flags b. level_run flags b.0 b.1.1.0 b.1.1.1.0 b.1.1.1.1.0 b.1.1.1.1.1.0 b.1.1.1.1.1.1)
+LrunIsSettled = AreSettled two_level_reading TwoLevelRun lrun_lines
+    (λ flags b. two_level_run flags b.0 b.1.1.0 b.1.1.1.0 b.1.1.1.1.0 b.1.1.1.1.1.0 b.1.1.1.1.1.1)

@@ -8,9 +8,9 @@ use Rattle.fz_shelf.specs.Parts.{ended}
 use Rattle.fz_status.specs.declared.status.Status.{Status}
 use Rattle.interrupt_plan.specs.declared.Post.{Post}
 use Rattle.mailbox_runs.specs.Runs.{AnswerSeen, run_under_posts}
-use Rattle.run_reports.specs.PostedRun.{PostedReport, PostedRun, posted_reading}
+use Rattle.run_reports.specs.MailboxRun.{MailboxReport, MailboxRun, mailbox_reading}
 use Rattle.run_reports.specs.RowLines.{answered, begun_lines, frame_told}
-use Rattle.run_reports.specs.declared.files.PostedFiles.{PostedFiles}
+use Rattle.run_reports.specs.declared.files.MailboxFiles.{MailboxFiles}
 use Rattle.trace_io.specs.{Traces.input_bytes, declared.sample.Sample.Sample}
 use Rattle.form_commands.specs.Forms.{AreSettled, made_by}
 use Rattle.form_commands.specs.declared.form_run.FormRun.{FormRun}
@@ -19,8 +19,8 @@ use Rattle.form_commands.specs.declared.form_run.FormRun.{FormRun}
 abbrev pub mrun_inputs : List ℕ
 mrun_inputs = 2 ∷ 3 ∷ 4 ∷ 5 ∷ 6 ∷ []
 
-abbrev pub posted_files : List (List ℕ) → PostedFiles
-posted_files contents = record {
+abbrev pub mailbox_files : List (List ℕ) → MailboxFiles
+mailbox_files contents = record {
   fcl = content_at contents 0;
   image = content_at contents 1;
   cert = content_at contents 2;
@@ -40,8 +40,8 @@ answer_line k a = ended (codes "answer " ++ (decimal k ++ (codes " sample " ++ (
 abbrev pub taken_line : ℕ × FrameSeen → List ℕ
 taken_line f = ended (codes "frame " ++ frame_told f)
 
-abbrev pub posted_report : List ℕ → ℕ → List AnswerSeen → List (ℕ × FrameSeen) → ℕ → PostedReport
-posted_report errors bound answers frames resumed = record {
+abbrev pub mailbox_report : List ℕ → ℕ → List AnswerSeen → List (ℕ × FrameSeen) → ℕ → MailboxReport
+mailbox_report errors bound answers frames resumed = record {
   errors = errors;
   bound = bound;
   answers = answers;
@@ -50,21 +50,21 @@ posted_report errors bound answers frames resumed = record {
 }
 
 -- the errors and the bound on instructions, each answer, each frame, and the number of resumed boundaries
-abbrev pub mrun_lines : PostedReport → List (List ℕ)
+abbrev pub mrun_lines : MailboxReport → List (List ℕ)
 mrun_lines r = begun_lines r.errors r.bound ++ (counted (λ k a. answer_line k a ∷ []) 1 r.answers
     ++ (map taken_line r.frames ++ line (codes "resumed ") r.resumed ∷ []))
 
 -- ---- what it makes of its files
 
 -- the report of the run of what the files give
-abbrev pub posted_run : ℕ → Compiled → List ℕ → List Sample → List Post → PostedReport
-posted_run flags c errors samples posts =
+abbrev pub mailbox_run : ℕ → Compiled → List ℕ → List Sample → List Post → MailboxReport
+mailbox_run flags c errors samples posts =
     let run = run_under_posts c.firmware (map input_bytes samples) posts flags in
-    posted_report errors c.firmware.instr_bound run.answers run.frames run.resumed
+    mailbox_report errors c.firmware.instr_bound run.answers run.frames run.resumed
 
-abbrev pub MrunMakes : FormRun → PostedFiles → Result SeenOutput Status → Type 0
-MrunMakes = made_by posted_reading PostedRun mrun_lines
+abbrev pub MrunMakes : FormRun → MailboxFiles → Result SeenOutput Status → Type 0
+MrunMakes = made_by mailbox_reading MailboxRun mrun_lines
 
 abbrev pub MrunIsSettled : Type 0
-MrunIsSettled = AreSettled posted_reading PostedRun mrun_lines
-    (λ flags b. posted_run flags b.0 b.1.1.0 b.1.1.1.0 b.1.1.1.1)
+MrunIsSettled = AreSettled mailbox_reading MailboxRun mrun_lines
+    (λ flags b. mailbox_run flags b.0 b.1.1.0 b.1.1.1.0 b.1.1.1.1)

@@ -12,7 +12,7 @@ ghost use Rattle.handled_runs.specs.Forms.{row_seen};
 
 use crate::form_run::FormRun;
 use crate::laws::hrun_is_settled;
-use box_tree::CertKind;
+use box_tree::{CertFormat, CertKind};
 use byte_scaling::Width;
 use command_parts::contents::Content;
 use command_parts::firmware::{Compiled, Form, firmware_of};
@@ -66,7 +66,11 @@ impl Accepted {
     {
         let compiled = firmware_of(alloc, Form::Alone(Width::Byte), &files.fcl)?;
         let handler = handler_of(alloc, &files.handler)?;
-        let inputs = inputs_of(alloc, kind, Width::Byte, &compiled.block, &files.inputs)?;
+        let format = CertFormat {
+            kind,
+            width: Width::Byte,
+        };
+        let inputs = inputs_of(alloc, format, &compiled.block, &files.inputs)?;
         Ok(Accepted {
             compiled,
             handler,

@@ -17,8 +17,8 @@ use interrupt_plan::laws::{
 use mailbox_runs::laws::{last_is_answered, posts_are_answered};
 use run_reports::laws::{
     answers_are_reported, answers_keep_the_bound, faultless_answers_are_near,
-    handled_files_are_judged, level_files_are_judged, plans_are_exact, posted_answers_are_near,
-    posted_files_are_judged, spelled_bytes_fit, traces_are_exact, watched_files_are_judged,
+    handled_files_are_judged, mailbox_answers_are_near, mailbox_files_are_judged, plans_are_exact,
+    spelled_bytes_fit, traces_are_exact, two_level_files_are_judged, watched_files_are_judged,
 };
 use two_level_code::laws::alone_has_byte_bounds;
 use two_level_runs::laws::{answers_under_levels, levels_make_a_plan, rows_are_seen};
@@ -38,7 +38,7 @@ pub fn lrun_is_settled()
     answers_are_reported();
     answers_keep_the_bound();
     spelled_bytes_fit();
-    posted_answers_are_near();
+    mailbox_answers_are_near();
     answers_under_plans();
     levels_make_a_plan();
     rows_are_seen();
@@ -59,7 +59,7 @@ pub fn mrun_is_settled()
     first_faults_are_one();
     answers_keep_the_bound();
     spelled_bytes_fit();
-    posted_answers_are_near();
+    mailbox_answers_are_near();
     last_is_answered();
     posts_are_answered()
 }
@@ -109,7 +109,7 @@ pub fn hrun_is_judged()
 pub fn mrun_is_judged()
     ensures { MrunIsJudged }
 {
-    posted_files_are_judged();
+    mailbox_files_are_judged();
     mrun_is_settled()
 }
 
@@ -125,6 +125,6 @@ pub fn srun_is_judged()
 pub fn lrun_is_judged()
     ensures { LrunIsJudged }
 {
-    level_files_are_judged();
+    two_level_files_are_judged();
     lrun_is_settled()
 }

@@ -1,5 +1,5 @@
 //! The commands that run the other forms of firmware: `hrun`, whose interrupts run a handler's code (`HandledRun`),
-//! `lrun`, of two blocks at two levels (`LevelRun`), `mrun`, of the mailbox form under posts (`PostedRun`), and
+//! `lrun`, of two blocks at two levels (`TwoLevelRun`), `mrun`, of the mailbox form under posts (`MailboxRun`), and
 //! `srun`, of watched tables under upsets (`WatchedRun`).
 //!
 //! Each is one module, with the indices of its words (`INPUTS` and `FLAGS`), which give a [`form_run::FormRun`], and
@@ -10,8 +10,8 @@
 pub mod form_run;
 pub mod hrun;
 pub mod laws;
-mod level_lines;
 pub mod lrun;
+mod mailbox_lines;
 pub mod mrun;
-mod posted_lines;
 pub mod srun;
+mod two_level_lines;

@@ -7,28 +7,27 @@ ghost use Rattle.interrupt_plan.specs.Levels.{AreGoodLevels, SpellsLevels};
 ghost use Rattle.fz_status.specs.{Refusals.IsRefusal};
 ghost use Rattle.command_parts.specs.Contents.{bytes_of};
 ghost use Rattle.command_parts.specs.SeenOutputs.{IsResultOf};
-ghost use Rattle.byte_scaling.specs.declared.width.Width.TheVariants.{Byte};
 ghost use Rattle.trace_io.specs.Traces.{Spells as SpellsTrace};
 ghost use Rattle.command_parts.specs.{Certs.AcceptsCert, Certs.cert_in, Readings.IsRefused, Readings.for_fast};
-ghost use Rattle.run_reports.specs.{Inputs.trace_in, LevelRun.AcceptsLevelInputs, LevelRun.level_inputs};
-ghost use Rattle.run_reports.specs.LevelRun.{levels_refusals};
-ghost use Rattle.run_reports.specs.{Settled.PutsLines, declared.files.LevelFiles.LevelFiles};
-ghost use Rattle.form_commands.specs.Lrun.{LrunMakes, level_files, level_run, lrun_lines};
+ghost use Rattle.run_reports.specs.{Inputs.trace_in, TwoLevelRun.AcceptsTwoLevelInputs, TwoLevelRun.two_level_inputs};
+ghost use Rattle.run_reports.specs.TwoLevelRun.{levels_refusals};
+ghost use Rattle.run_reports.specs.{Settled.PutsLines, declared.files.TwoLevelFiles.TwoLevelFiles};
+ghost use Rattle.form_commands.specs.Lrun.{LrunMakes, two_level_files, two_level_run, lrun_lines};
 
 use crate::form_run::FormRun;
 use crate::laws::lrun_is_settled;
-use crate::level_lines::lines;
-use box_tree::CertKind;
+use crate::two_level_lines::lines;
+use box_tree::{CertFormat, CertKind};
 use byte_scaling::Width;
 use command_parts::certs::errors_under;
 use command_parts::contents::Content;
 use command_parts::images::require_image;
 use command_parts::output::Output;
-use command_parts::twos::{CompiledTwo, two_of};
+use command_parts::twos::{CompiledTwoLevel, two_of};
 use fuzzy_meaning::Block;
 use fz_status::Status;
 use interrupt_plan::{Levels, read_levels};
-use run_reports::files::LevelFiles;
+use run_reports::files::TwoLevelFiles;
 use run_reports::inputs::samples_of;
 use run_reports::laws::spelled_traces_are_short;
 use std::alloc::Global;
@@ -42,11 +41,11 @@ pub static INPUTS: [u32; 8] = [2, 3, 4, 5, 6, 7, 8, 9];
 pub const FLAGS: u32 = 10;
 
 /// The contents of the files of [`INPUTS`], by name.
-pub fn files_of(contents: &[Vec<u8>]) -> LevelFiles<'_>
+pub fn files_of(contents: &[Vec<u8>]) -> TwoLevelFiles<'_>
     requires { All (λ c. length c.items ≤ 1048576) contents.now }
-    ensures { result ≡ level_files (bytes_of contents.now) }
+    ensures { result ≡ two_level_files (bytes_of contents.now) }
 {
-    LevelFiles {
+    TwoLevelFiles {
         slow: Content::at(contents, 0),
         fast: Content::at(contents, 1),
         image: Content::at(contents, 2),
@@ -73,19 +72,23 @@ impl Accepted {
     fn of(
         alloc: Global,
         kind: CertKind,
-        compiled: &CompiledTwo,
-        files: &LevelFiles,
+        compiled: &CompiledTwoLevel,
+        files: &TwoLevelFiles,
     ) -> Result<Accepted, Status>
         requires slow { IsValid compiled.now.slow }
         requires fast { IsValid compiled.now.fast }
-        ensures accepted { IfOk result (λ a. AcceptsLevelInputs kind files.now compiled.now
+        ensures accepted { IfOk result (λ a. AcceptsTwoLevelInputs kind files.now compiled.now
             a.errors.items a.fast_errors.items a.samples.items a.fast_samples.items a.levels) }
-        ensures fault { IfErr result (IsRefused (level_inputs kind files.now compiled.now)) }
+        ensures fault { IfErr result (IsRefused (two_level_inputs kind files.now compiled.now)) }
     {
         spelled_traces_are_short();
         require_image(alloc, &files.image, &compiled.two.image)?;
-        let errors = errors_under(alloc, kind, Width::Byte, &compiled.slow, &files.slow_cert)?;
-        let fast_errors = fast_errors_of(alloc, kind, &compiled.fast, &files.fast_cert)?;
+        let format = CertFormat {
+            kind,
+            width: Width::Byte,
+        };
+        let errors = errors_under(alloc, format, &compiled.slow, &files.slow_cert)?;
+        let fast_errors = fast_errors_of(alloc, format, &compiled.fast, &files.fast_cert)?;
         let samples = samples_of(alloc, &compiled.slow, &files.slow_trace)?;
         let fast_samples = fast_samples_of(alloc, &compiled.fast, &files.fast_trace)?;
         let levels = levels_of(alloc, &files.levels, &fast_samples)?;
@@ -99,10 +102,15 @@ impl Accepted {
     }
 
     /// The lines of the run.
-    fn output(&self, alloc: Global, compiled: &CompiledTwo, flags: u8) -> Result<Output, Status>
+    fn output(
+        &self,
+        alloc: Global,
+        compiled: &CompiledTwoLevel,
+        flags: u8,
+    ) -> Result<Output, Status>
         requires outputs { (compiled.now.two.slow.outputs ≤ 4) × (compiled.now.two.fast.outputs ≤ 4) }
         requires levels { AreGoodLevels (length self.now.fast_samples.items) self.now.levels }
-        ensures { PutsLines (lrun_lines (level_run flags compiled.now self.now.errors.items
+        ensures { PutsLines (lrun_lines (two_level_run flags compiled.now self.now.errors.items
             self.now.fast_errors.items self.now.samples.items self.now.fast_samples.items self.now.levels)) result }
     {
         let two = &compiled.two;
@@ -121,7 +129,7 @@ impl Accepted {
 
 /// Checks all files, then runs the slow samples under the levels. The output has the lines of the samples and of
 /// the fast runs.
-pub fn work(alloc: Global, run: FormRun, files: &LevelFiles) -> Result<Output, Status>
+pub fn work(alloc: Global, run: FormRun, files: &TwoLevelFiles) -> Result<Output, Status>
     ensures { IsResultOf (LrunMakes run files.now) result }
 {
     lrun_is_settled();
@@ -133,15 +141,15 @@ pub fn work(alloc: Global, run: FormRun, files: &LevelFiles) -> Result<Output, S
 /// The errors with which FCERT is accepted.
 fn fast_errors_of(
     alloc: Global,
-    kind: CertKind,
+    format: CertFormat,
     fast: &Block,
     cert: &Content,
 ) -> Result<Vec<u32>, Status>
     requires { IsValid fast.now }
-    ensures accepted { IfOk result (λ errors. AcceptsCert kind Byte fast.now cert.now errors.items) }
-    ensures fault { IfErr result (IsRefusal (for_fast (cert_in kind Byte fast.now cert.now)).refuses) }
+    ensures accepted { IfOk result (λ errors. AcceptsCert format fast.now cert.now errors.items) }
+    ensures fault { IfErr result (IsRefusal (for_fast (cert_in format fast.now cert.now)).refuses) }
 {
-    match errors_under(alloc, kind, Width::Byte, fast, cert) {
+    match errors_under(alloc, format, fast, cert) {
         Ok(errors) => Ok(errors),
         Err(status) => Err(status.of_fast()),
     }

@@ -7,14 +7,14 @@ ghost use Rattle.fz_status.specs.{Refusals.IsRefusal};
 ghost use Rattle.command_parts.specs.Contents.{bytes_of};
 ghost use Rattle.command_parts.specs.SeenOutputs.{IsResultOf};
 ghost use Rattle.command_parts.specs.Readings.{IsRefused};
-ghost use Rattle.form_commands.specs.Mrun.{MrunMakes, mrun_lines, posted_files, posted_run};
-ghost use Rattle.run_reports.specs.PostedRun.{AcceptsPosted, posted_reading, posts_refusals};
-ghost use Rattle.run_reports.specs.{Settled.PutsLines, declared.files.PostedFiles.PostedFiles};
+ghost use Rattle.form_commands.specs.Mrun.{MrunMakes, mrun_lines, mailbox_files, mailbox_run};
+ghost use Rattle.run_reports.specs.MailboxRun.{AcceptsMailbox, mailbox_reading, posts_refusals};
+ghost use Rattle.run_reports.specs.{Settled.PutsLines, declared.files.MailboxFiles.MailboxFiles};
 
 use crate::form_run::FormRun;
 use crate::laws::mrun_is_settled;
-use crate::posted_lines::lines;
-use box_tree::CertKind;
+use crate::mailbox_lines::lines;
+use box_tree::{CertFormat, CertKind};
 use byte_scaling::Width;
 use command_parts::certs::errors_under;
 use command_parts::contents::Content;
@@ -24,7 +24,7 @@ use command_parts::output::Output;
 use fz_status::Status;
 use interrupt_plan::{Posts, read_posts};
 use mailbox_runs::run_posts;
-use run_reports::files::PostedFiles;
+use run_reports::files::MailboxFiles;
 use run_reports::inputs::samples_of;
 use run_reports::laws::spelled_traces_are_short;
 use std::alloc::Global;
@@ -37,11 +37,11 @@ pub static INPUTS: [u32; 5] = [2, 3, 4, 5, 6];
 pub const FLAGS: u32 = 7;
 
 /// The contents of the files of [`INPUTS`], by name.
-pub fn files_of(contents: &[Vec<u8>]) -> PostedFiles<'_>
+pub fn files_of(contents: &[Vec<u8>]) -> MailboxFiles<'_>
     requires { All (λ c. length c.items ≤ 1048576) contents.now }
-    ensures { result ≡ posted_files (bytes_of contents.now) }
+    ensures { result ≡ mailbox_files (bytes_of contents.now) }
 {
-    PostedFiles {
+    MailboxFiles {
         fcl: Content::at(contents, 0),
         image: Content::at(contents, 1),
         cert: Content::at(contents, 2),
@@ -61,15 +61,19 @@ struct Accepted {
 
 impl Accepted {
     /// What the files give, or the first fault in their order.
-    fn of(alloc: Global, kind: CertKind, files: &PostedFiles) -> Result<Accepted, Status>
-        ensures accepted { IfOk result (λ a. AcceptsPosted kind files.now
+    fn of(alloc: Global, kind: CertKind, files: &MailboxFiles) -> Result<Accepted, Status>
+        ensures accepted { IfOk result (λ a. AcceptsMailbox kind files.now
             a.compiled.block a.compiled.firmware a.errors.items a.samples.items a.posts) }
-        ensures fault { IfErr result (IsRefused (posted_reading kind files.now)) }
+        ensures fault { IfErr result (IsRefused (mailbox_reading kind files.now)) }
     {
         spelled_traces_are_short();
         let compiled = firmware_of(alloc, Form::Mailbox, &files.fcl)?;
         require_image(alloc, &files.image, &compiled.firmware.image)?;
-        let errors = errors_under(alloc, kind, Width::Byte, &compiled.block, &files.cert)?;
+        let format = CertFormat {
+            kind,
+            width: Width::Byte,
+        };
+        let errors = errors_under(alloc, format, &compiled.block, &files.cert)?;
         let samples = samples_of(alloc, &compiled.block, &files.trace)?;
         let posts = posts_of(alloc, &files.posts, &samples)?;
         Ok(Accepted {
@@ -85,7 +89,7 @@ impl Accepted {
         requires outputs { (self.now.compiled.firmware.outputs ≤ 4)
             × (self.now.compiled.firmware.memory_map.outputs + 8 < 2 ^ 16) }
         requires posts { AreGoodPosts (length self.now.samples.items) self.now.posts }
-        ensures { PutsLines (mrun_lines (posted_run flags self.now.compiled self.now.errors.items
+        ensures { PutsLines (mrun_lines (mailbox_run flags self.now.compiled self.now.errors.items
             self.now.samples.items self.now.posts)) result }
     {
         let firmware = &self.compiled.firmware;
@@ -96,7 +100,7 @@ impl Accepted {
 }
 
 /// Checks all files, then runs the firmware under the posts. The output has the lines of the run.
-pub fn work(alloc: Global, run: FormRun, files: &PostedFiles) -> Result<Output, Status>
+pub fn work(alloc: Global, run: FormRun, files: &MailboxFiles) -> Result<Output, Status>
     ensures { IsResultOf (MrunMakes run files.now) result }
 {
     mrun_is_settled();

@@ -1,5 +1,5 @@
-//! The commands `srun FCL IMAGE CERT TRACE PLAN UPSETS FLAGS` and `tsrun ..`: the run of a firmware with watched tables,
-//! whose bytes are upset.
+//! The commands `srun FCL IMAGE CERT TRACE PLAN UPSETS FLAGS` and `tsrun ..`: the run of a firmware with watched
+//! tables, whose bytes are upset.
 ghost use Rattle.std.specs.Prelude.{◌≡◌, ◌≤◌, ◌++◌, length, IfOk, IfErr};
 ghost use Rattle.std.specs.List.{All};
 ghost use Rattle.interrupt_plan.specs.{Plans.IsGood, Upsets.AreGoodUpsets, UpsetTexts.SpellsUpsets};
@@ -14,7 +14,7 @@ ghost use Rattle.watched_runs.specs.Rows.{row_seen};
 
 use crate::form_run::FormRun;
 use crate::laws::srun_is_settled;
-use box_tree::CertKind;
+use box_tree::{CertFormat, CertKind};
 use byte_scaling::Width;
 use command_parts::contents::Content;
 use command_parts::firmware::{Compiled, Form, firmware_of};
@@ -71,7 +71,11 @@ impl Accepted {
     {
         let compiled = firmware_of(alloc, Form::Watched, &files.fcl)?;
         require_image(alloc, &files.image, &compiled.firmware.image)?;
-        let inputs = inputs_of(alloc, kind, Width::Byte, &compiled.block, &files.inputs)?;
+        let format = CertFormat {
+            kind,
+            width: Width::Byte,
+        };
+        let inputs = inputs_of(alloc, format, &compiled.block, &files.inputs)?;
         let upsets = upsets_of(alloc, &files.upsets, &compiled.firmware.image)?;
         Ok(Accepted {
             compiled,

@@ -1,8 +1,7 @@
 -- When a run is done.
 use Rattle.std.proofs.Common.{◌≡◌, ◌<◌, ◌^◌, ◌∙◌, ℕ, List, [], ◌∷◌, length, sym, ap, subst, arith}
 use Rattle.std.specs.Prelude.{Bool, false, ◌==◌, Option, Some}
-use Rattle.box_tree.specs.declared.cert.CertKind.{CertKind}
-use Rattle.byte_scaling.specs.declared.width.Width.{Width}
+use Rattle.box_tree.specs.declared.cert.CertFormat.{CertFormat}
 use Rattle.fz_words.specs.Table.{any_hyphen}
 use Rattle.fz_status.specs.Words.{Text}
 use Rattle.run_reports.specs.declared.files.RunFiles.{RunFiles}
@@ -11,7 +10,7 @@ use Rattle.run_reports.specs.CertifiedRun.{run_reading}
 use Rattle.std.specs.List.{concat}
 use Rattle.fz_shelf.specs.{Files.Names, Told.Taken}
 use Rattle.command_parts.specs.{Readings.GivesSome, SeenOutputs.SeenOutput}
-use Rattle.fz_top.specs.{Accepted.Accepts, Commands.Makes, Commands.command_in, Commands.form_of, Commands.inputs_of}
+use Rattle.fz_top.specs.{Accepted.Accepts, Commands.Makes, Commands.command_in, Commands.command_named, Commands.inputs_of}
 use Rattle.fz_top.specs.{Reads.names_at, Runs.AreKnown, Runs.CanBeDone, Runs.FileFits, Runs.RoomFor}
 use Rattle.fz_top.specs.declared.command.Command.{Command}
 use Rattle.fz_top.specs.declared.command.Command.TheVariants as command
@@ -22,26 +21,25 @@ use Rattle.promise.specs.{Laws.CertifiedRunsKeepPromise, Promise.Promise}
 
 -- ---- the words
 
-command_at : (kind : CertKind) (width : Width) (p : Text) (ws : List Text)
-    → any_hyphen (p ∷ run_name kind width ∷ ws) ≡ false → length ws ≡ 6
-    → command_in (p ∷ run_name kind width ∷ ws)
-    ≡ form_of (name.Run kind width) (p ∷ run_name kind width ∷ ws)
-command_at kind width p ws plain count = looked_up kind width p ws
-    ∙ ap (λ (h : Bool). command_if (p ∷ run_name kind width ∷ ws) kind width h (6 == length ws)) plain
-    ∙ ap (λ (n : ℕ). command_if (p ∷ run_name kind width ∷ ws) kind width false (6 == n)) count
+command_at : (format : CertFormat) (p : Text) (ws : List Text)
+    → any_hyphen (p ∷ run_name format ∷ ws) ≡ false → length ws ≡ 6 → command_in (p ∷ run_name format ∷ ws)
+    ≡ command_named (name.Run format) (p ∷ run_name format ∷ ws)
+command_at format p ws plain count = looked_up format.kind format.width p ws
+    ∙ ap (λ (h : Bool). command_if (p ∷ run_name format ∷ ws) format h (6 == length ws)) plain
+    ∙ ap (λ (n : ℕ). command_if (p ∷ run_name format ∷ ws) format false (6 == n)) count
 
-pub run_command : (words : List Text) (kind : CertKind) (width : Width) (flags : ℕ)
-    → AreRunWords words kind width flags → command_in words ≡ Some (command.Run (run_with kind width flags))
-run_command [] kind width flags are = absurd (omega (arith, are.count))
-run_command (p ∷ []) kind width flags are = absurd (omega (arith, are.count))
-run_command (p ∷ w ∷ ws) kind width flags are =
+pub run_command : (words : List Text) (format : CertFormat) (flags : ℕ)
+    → AreRunWords words format flags → command_in words ≡ Some (command.Run (run_with format flags))
+run_command [] format flags are = absurd (omega (arith, are.count))
+run_command (p ∷ []) format flags are = absurd (omega (arith, are.count))
+run_command (p ∷ w ∷ ws) format flags are =
     let six : length ws ≡ 6 = omega (arith, are.count) in
-    let plain : any_hyphen (p ∷ run_name kind width ∷ ws) ≡ false =
+    let plain : any_hyphen (p ∷ run_name format ∷ ws) ≡ false =
     subst (λ (v : Text). any_hyphen (p ∷ v ∷ ws) ≡ false) are.run.name are.plain in
-    let at : command_in (p ∷ w ∷ ws) ≡ form_of (name.Run kind width) (p ∷ w ∷ ws) =
-    subst (λ (v : Text). command_in (p ∷ v ∷ ws) ≡ form_of (name.Run kind width) (p ∷ v ∷ ws))
-    (sym are.run.name) (command_at kind width p ws plain six) in
-    at ∙ form_is (p ∷ w ∷ ws) kind width flags are.run
+    let at : command_in (p ∷ w ∷ ws) ≡ command_named (name.Run format) (p ∷ w ∷ ws) =
+    subst (λ (v : Text). command_in (p ∷ v ∷ ws) ≡ command_named (name.Run format) (p ∷ v ∷ ws))
+    (sym are.run.name) (command_at format p ws plain six) in
+    at ∙ form_is (p ∷ w ∷ ws) format flags are.run
 
 -- ---- the files
 
@@ -71,26 +69,26 @@ are_known words names files told = (
 -- ---- done
 
 -- room for each text that keeps the promise is room for what the run makes
-pub room_for : CertifiedRunsKeepPromise → (words : List Text) (kind : CertKind) (width : Width) (flags : ℕ)
-    (files : RunFiles) (names : Names) (told : Option Taken) → flags < 2 ^ 8 → HasRoomForLines width flags files told
-    → RoomFor words names told (Makes (command.Run (run_with kind width flags)) (contents_of files))
+pub room_for : CertifiedRunsKeepPromise → (words : List Text) (format : CertFormat) (flags : ℕ)
+    (files : RunFiles) (names : Names) (told : Option Taken) → flags < 2 ^ 8 → HasRoomForLines format.width flags files told
+    → RoomFor words names told (Makes (command.Run (run_with format flags)) (contents_of files))
 unfolding Makes
-room_for keep words kind width flags files names told byte room output gives = (
+room_for keep words format flags files names told byte room output gives = (
   subst (λ (o : SeenOutput). FileFits words o.file names) (sym gives.output_is) tt,
   room gives.report (concat output.lines)
-      (subst (λ (o : SeenOutput). Promise width flags files gives.report (concat o.lines)) (sym gives.output_is)
-      (keep kind width flags files gives.report gives.certified byte)),
+      (subst (λ (o : SeenOutput). Promise format.width flags files gives.report (concat o.lines)) (sym gives.output_is)
+      (keep format flags files gives.report gives.certified byte)),
 )
 
-abbrev pub asked : CertKind → Width → ℕ → Command
-asked kind width flags = command.Run (run_with kind width flags)
+abbrev pub asked : CertFormat → ℕ → Command
+asked format flags = command.Run (run_with format flags)
 
-pub can : (words : List Text) (kind : CertKind) (width : Width) (flags : ℕ) (files : RunFiles) (names : Names)
-    → AreRunWords words kind width flags → AreTold words names files → GivesSome (run_reading kind width files)
-    → CanBeDone words names (asked kind width flags) (contents_of files)
+pub can : (words : List Text) (format : CertFormat) (flags : ℕ) (files : RunFiles) (names : Names)
+    → AreRunWords words format flags → AreTold words names files → GivesSome (run_reading format files)
+    → CanBeDone words names (asked format flags) (contents_of files)
 unfolding inputs_of Accepts
-can words kind width flags files names are told accepted = record {
-  is = run_command words kind width flags are;
+can words format flags files names are told accepted = record {
+  is = run_command words format flags are;
   known = are_known words names files told;
   accepted = accepted;
 }

@@ -9,7 +9,7 @@ use Rattle.fz_status.specs.Words.{Text, word_at, flags_of, only_byte}
 use Rattle.build_commands.specs.{Certify.certify_in, Check.check_in, Compile.compile_in, Exec.exec_in}
 use Rattle.run_commands.specs.{Debug.debug_with, Generate.generate_in, Run.run_with}
 use Rattle.form_commands.specs.Forms.{form_run}
-use Rattle.fz_top.specs.{Accepted.run_flags, Commands.command_in, Commands.form_of, Commands.name_in}
+use Rattle.fz_top.specs.{Accepted.run_flags, Commands.command_in, Commands.command_named, Commands.name_in}
 use Rattle.fz_top.specs.declared.{command.Command.Command, command.Name.Name}
 use Rattle.fz_top.specs.declared.command.Command.TheVariants.{Asm, Certify, Check, Compile, Debug, Exec, Generate}
 use Rattle.fz_top.specs.declared.command.Command.TheVariants.{Hcheck, Hrun, Lcompile, Lrun, Mrun, Run, Srun}
@@ -84,13 +84,12 @@ alone : (named command : Command) → run_flags named ≡ 0 → Some named ≡ S
 alone named command none h = (let same : named ≡ command = cc in
     subst (λ (d : Command). run_flags d < 2 ^ 8) same (omega (arith, none)))
 
-byte_form : (n : Name) (words : List Text) (command : Command) → form_of n words ≡ Some command
+byte_form : (n : Name) (words : List Text) (command : Command) → command_named n words ≡ Some command
     → run_flags command < 2 ^ 8
-unfolding form_of
+unfolding command_named
 byte_form name.Asm words command is = alone Asm command refl is
-byte_form (name.Certify kind width) words command is =
-    without Certify (certify_in kind width words) command (λ c. refl) is
-byte_form (name.Check kind width) words command is = alone (Check (check_in kind width)) command refl is
+byte_form (name.Certify format) words command is = without Certify (certify_in format words) command (λ c. refl) is
+byte_form (name.Check format) words command is = alone (Check (check_in format)) command refl is
 byte_form (name.Compile form) words command is = alone (Compile (compile_in form)) command refl is
 byte_form name.Debug words command is = of_flags Debug debug_with (word_at words 6) command (λ n. refl) is
 byte_form name.Exec words command is = without Exec (exec_in words) command (λ c. refl) is
@@ -100,13 +99,12 @@ byte_form (name.Hrun kind) words command is = of_flags Hrun (form_run kind) (wor
 byte_form name.Lcompile words command is = alone Lcompile command refl is
 byte_form (name.Lrun kind) words command is = of_flags Lrun (form_run kind) (word_at words 10) command (λ n. refl) is
 byte_form (name.Mrun kind) words command is = of_flags Mrun (form_run kind) (word_at words 7) command (λ n. refl) is
-byte_form (name.Run kind width) words command is =
-    of_flags Run (run_with kind width) (word_at words 7) command (λ n. refl) is
+byte_form (name.Run format) words command is = of_flags Run (run_with format) (word_at words 7) command (λ n. refl) is
 byte_form (name.Srun kind) words command is = of_flags Srun (form_run kind) (word_at words 8) command (λ n. refl) is
 
 pub byte_flags : (words : List Text) (command : Command) → command_in words ≡ Some command → run_flags command < 2 ^ 8
 byte_flags words command is = go (name_in words) is
   where
-    go : (o : Option Name) → option_and_then (λ n. form_of n words) o ≡ Some command → run_flags command < 2 ^ 8
+    go : (o : Option Name) → option_and_then (λ n. command_named n words) o ≡ Some command → run_flags command < 2 ^ 8
     go None h = absurd (let bad : None ≡ Some command = h in cc)
     go (Some n) h = byte_form n words command h

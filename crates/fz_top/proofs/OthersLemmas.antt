@@ -2,7 +2,7 @@
 use Rattle.std.proofs.Common.{◌≡◌, ◌<◌, ◌^◌, ℕ, List, subst}
 use Rattle.std.specs.Prelude.{Ok}
 use Rattle.command_parts.specs.SeenOutputs.{SeenOutput}
-use Rattle.form_commands.specs.{Hrun.handled_files, Lrun.level_files, Mrun.posted_files, Srun.watched_files}
+use Rattle.form_commands.specs.{Hrun.handled_files, Lrun.two_level_files, Mrun.mailbox_files, Srun.watched_files}
 use Rattle.fz_shelf.specs.Told.{World}
 use Rattle.fz_status.specs.{Words.Text, declared.status.Status.Status}
 use Rattle.fz_status.specs.declared.status.Status.TheVariants as status
@@ -24,9 +24,9 @@ serves others (Debug debug) contents output byte gives =
 serves others (Hrun hrun) contents output byte gives =
     (gives, others.handled hrun.kind hrun.flags (handled_files contents) gives.report gives.run byte)
 serves others (Lrun lrun) contents output byte gives =
-    (gives, others.slow lrun.kind lrun.flags (level_files contents) gives.report gives.run byte)
+    (gives, others.slow lrun.kind lrun.flags (two_level_files contents) gives.report gives.run byte)
 serves others (Mrun mrun) contents output byte gives =
-    (gives, others.posted mrun.kind mrun.flags (posted_files contents) gives.report gives.run byte)
+    (gives, others.posted mrun.kind mrun.flags (mailbox_files contents) gives.report gives.run byte)
 serves others (Srun srun) contents output byte gives =
     (gives, others.watched srun.kind srun.flags (watched_files contents) gives.report gives.run)
 serves others _ contents output byte gives = tt

@@ -14,8 +14,8 @@ use Rattle.command_parts.specs.SeenOutputs.{HasOutput, IsFaultOf, OutputHasNoFau
 use Rattle.fz_top.specs.{Accepted.CommandsAreSettled, Commands.Makes, Commands.command_in, Commands.inputs_of}
 use Rattle.fz_top.specs.declared.command.Command.{Command}
 use Rattle.fz_top.specs.Reads.{ReadsWhole, AreHeld, AreThere, names_at, StopsBy}
-use Rattle.fz_top.specs.Runs.{HasNoFault, Faulted, IsMade, IsReadFault, IsTooLong, OutOfMemory, read_whole}
-use Rattle.fz_top.specs.Runs.{IsWriteFault, Settles, status_of, IsReady, AreKnown, FileFits, Worked, Delivered}
+use Rattle.fz_top.specs.Runs.{HasNoFault, HasOneResult, Faulted, IsMade, IsReadFault, IsTooLong, OutOfMemory}
+use Rattle.fz_top.specs.Runs.{read_whole, IsWriteFault, Settles, status_of, IsReady, AreKnown, FileFits, Worked, Delivered}
 use Rattle.fz_top.specs.Runs.{WriteFailed, PutFailed, ChangesOnly, Runs}
 use Rattle.fz_shelf.specs.Told.{World, world}
 use Rattle.fz_top.specs.declared.reading.Stop.TheVariants as stop
@@ -204,10 +204,15 @@ not_long files words (b ∷ before) after p (c ∷ cs) known long = not_long fil
 
 module _ (words : List Text) (old new : World) (command : Command) (contents : List (List ℕ))
     (is : command_in words ≡ Some command)
-    (known : AreKnown old.files (names_at words (inputs_of command)) contents) where
+    (known : AreKnown old.files (names_at words (inputs_of command)) contents)
+    (one : HasOneResult (Makes command contents)) where
   made_by : (r : Result SeenOutput Status) → Worked words old r → IsMade (Makes command contents) (status_of r)
-  made_by r w =
-      (r, makes_same words old.files command contents is known w.command w.contents r w.is w.held w.outcome, refl)
+  made_by r w = (
+    one,
+    r,
+    makes_same words old.files command contents is known w.command w.contents r w.is w.held w.outcome,
+    refl,
+  )
 
   settles_as : (s : Status) → Kind s → Runs words old new s → Settles (Makes command contents) s
   settles_as _ done runs = inl (made_by (Ok runs.0) runs.1)
@@ -241,15 +246,16 @@ IsDone s = (s ≡ status.Ok) ⊎ (s ≡ status.Memory)
 
 pub does : (words : List Text) (old new : World) (command : Command) (contents : List (List ℕ))
     → command_in words ≡ Some command → AreKnown old.files (names_at words (inputs_of command)) contents
-    → OutputHasNoFault (Makes command contents) → HasOutput (Makes command contents)
-    → (s : Status) → Runs words old new s → (IsReadFault s → ⊥) → (IsWriteFault s → ⊥) → IsDone s
-does words old new command contents named known apart made s runs no_read no_write =
-    go (completes words old new command contents named known s runs no_read no_write)
+    → HasOneResult (Makes command contents) → OutputHasNoFault (Makes command contents)
+    → HasOutput (Makes command contents) → (s : Status) → Runs words old new s
+    → (IsReadFault s → ⊥) → (IsWriteFault s → ⊥) → IsDone s
+does words old new command contents named known one apart made s runs no_read no_write =
+    go (completes words old new command contents named known one s runs no_read no_write)
   where
     go : IsMade (Makes command contents) s ⊎ (s ≡ status.Memory) → IsDone s
     go (inr memory) = inr memory
-    go (inl (Ok output, makes, is)) = inl is
-    go (inl (Err t, makes, is)) = absurd (apart made.0 t made.1 makes)
+    go (inl (_, Ok output, makes, is)) = inl is
+    go (inl (_, Err t, makes, is)) = absurd (apart made.0 t made.1 makes)
 
 pub no_read_fault : (words : List Text) (old new : World) → HasNoFault old new → (s : Status) → Runs words old new s
     → IsReadFault s → ⊥

@@ -2,14 +2,14 @@
 use Rattle.std.proofs.Common.{◌≡◌, inl, inr, List, refl, sym, ◌∙◌, ap}
 use Rattle.std.specs.Prelude.{Option, Some, None, option_and_then}
 use Rattle.fz_words.specs.App.{IsRefused}
-use Rattle.fz_top.specs.Commands.{name_in, table, command_in, form_of, IsUsage}
+use Rattle.fz_top.specs.Commands.{name_in, table, command_in, command_named, IsUsage}
 use Rattle.fz_top.specs.declared.{command.Name.Name, command.Command.Command}
 use Rattle.fz_status.specs.Words.{Text}
 
 module _ (words : List Text)
     (law : (name_in words ≡ None → IsRefused table words) × (IsRefused table words → name_in words ≡ None)) where
-  named : (o : Option Name) → name_in words ≡ o → command_in words ≡ option_and_then (λ n. form_of n words) o
-  named o is = ap (option_and_then (λ n. form_of n words)) is
+  named : (o : Option Name) → name_in words ≡ o → command_in words ≡ option_and_then (λ n. command_named n words) o
+  named o is = ap (option_and_then (λ n. command_named n words)) is
 
   none_usage : command_in words ≡ None → IsUsage words
   none_usage none = go (name_in words) refl
@@ -25,8 +25,8 @@ module _ (words : List Text)
   pub usage_law : (command_in words ≡ None → IsUsage words) × (IsUsage words → command_in words ≡ None)
   usage_law = (none_usage, usage_none)
 
-  pub unformed : (n : Name) → name_in words ≡ Some n → form_of n words ≡ None → command_in words ≡ None
+  pub unformed : (n : Name) → name_in words ≡ Some n → command_named n words ≡ None → command_in words ≡ None
   unformed n is bad = named (Some n) is ∙ bad
 
-  pub formed : (n : Name) (c : Command) → name_in words ≡ Some n → form_of n words ≡ Some c → command_in words ≡ Some c
+  pub formed : (n : Name) (c : Command) → name_in words ≡ Some n → command_named n words ≡ Some c → command_in words ≡ Some c
   formed n c is good = named (Some n) is ∙ good

@@ -6,9 +6,9 @@ use Rattle.build_commands.specs.{Exec.ExecAccepts, Lcompile.LcompileAccepts}
 use Rattle.command_parts.specs.{Contents.content_at, Handlers.handler_in}
 use Rattle.command_parts.specs.Readings.{GivesSome, IsSettled, last}
 use Rattle.run_commands.specs.{Debug.debug_files, Debug.debug_reading, Generate.generate_reading, Run.files_in}
-use Rattle.form_commands.specs.{Hrun.handled_files, Lrun.level_files, Mrun.posted_files, Srun.watched_files}
-use Rattle.run_reports.specs.{CertifiedRun.run_reading, HandledRun.handled_reading, LevelRun.level_reading}
-use Rattle.run_reports.specs.{PostedRun.posted_reading, WatchedRun.watched_reading}
+use Rattle.form_commands.specs.{Hrun.handled_files, Lrun.two_level_files, Mrun.mailbox_files, Srun.watched_files}
+use Rattle.run_reports.specs.{CertifiedRun.run_reading, HandledRun.handled_reading, TwoLevelRun.two_level_reading}
+use Rattle.run_reports.specs.{MailboxRun.mailbox_reading, WatchedRun.watched_reading}
 use Rattle.fz_top.specs.{Commands.Makes, declared.command.Command.Command}
 use Rattle.fz_top.specs.declared.command.Command.TheVariants.{Asm, Certify, Check, Compile, Debug, Exec, Generate}
 use Rattle.fz_top.specs.declared.command.Command.TheVariants.{Hcheck, Hrun, Lcompile, Lrun, Mrun, Run, Srun}
@@ -25,9 +25,9 @@ Accepts (Generate generate) contents = GivesSome (generate_reading generate)
 Accepts Hcheck contents = GivesSome (last (handler_in (content_at contents 0)))
 Accepts (Hrun hrun) contents = GivesSome (handled_reading hrun.kind (handled_files contents))
 Accepts Lcompile contents = LcompileAccepts (content_at contents 0) (content_at contents 1)
-Accepts (Lrun lrun) contents = GivesSome (level_reading lrun.kind (level_files contents))
-Accepts (Mrun mrun) contents = GivesSome (posted_reading mrun.kind (posted_files contents))
-Accepts (Run run) contents = GivesSome (run_reading run.kind run.width (files_in contents))
+Accepts (Lrun lrun) contents = GivesSome (two_level_reading lrun.kind (two_level_files contents))
+Accepts (Mrun mrun) contents = GivesSome (mailbox_reading mrun.kind (mailbox_files contents))
+Accepts (Run run) contents = GivesSome (run_reading run.format (files_in contents))
 Accepts (Srun srun) contents = GivesSome (watched_reading srun.kind (watched_files contents))
 
 -- the condition codes that a command's run of firmware leaves open

@@ -3,6 +3,7 @@
 use Rattle.std.specs.Prelude.{◌≡◌, ◌⊎◌, ℕ, List, [], ◌∷◌, codes, Option, Some, None, Result, option_and_then}
 use Rattle.std.specs.Prelude.{option_map}
 use Rattle.fz_words.specs.{App.IsRefused, Table.Row, Table.row, Table.command_in as command_by}
+use Rattle.box_tree.specs.Texts.{format_of}
 use Rattle.box_tree.specs.declared.cert.CertKind.TheVariants.{Named, Tight}
 use Rattle.byte_scaling.specs.declared.width.Width.TheVariants.{Byte, Word}
 use Rattle.build_commands.specs.{Asm.AsmMakes, Asm.asm_inputs, Hcheck.HcheckMakes, Hcheck.hcheck_inputs}
@@ -17,8 +18,8 @@ use Rattle.run_commands.specs.Debug.{DebugMakes, debug_files, debug_in, debug_in
 use Rattle.run_commands.specs.Generate.{GenerateMakes, generate_in, generate_inputs}
 use Rattle.run_commands.specs.Run.{RunMakes, files_in, run_in, run_inputs}
 use Rattle.form_commands.specs.{Forms.form_run_in, Hrun.HrunMakes, Hrun.handled_files, Hrun.hrun_inputs}
-use Rattle.form_commands.specs.Lrun.{LrunMakes, level_files, lrun_inputs}
-use Rattle.form_commands.specs.Mrun.{MrunMakes, mrun_inputs, posted_files}
+use Rattle.form_commands.specs.Lrun.{LrunMakes, two_level_files, lrun_inputs}
+use Rattle.form_commands.specs.Mrun.{MrunMakes, mrun_inputs, mailbox_files}
 use Rattle.form_commands.specs.Srun.{SrunMakes, srun_inputs, watched_files}
 use Rattle.fz_status.specs.Words.{Text}
 use Rattle.fz_top.specs.declared.{command.Command.Command, command.Name.Name}
@@ -29,38 +30,40 @@ use Rattle.fz_status.specs.declared.status.Status.{Status}
 
 -- the commands by name, each with the number of words that follow
 unfoldable pub table : List (Row Name)
-table = row (codes "asm") 2 name.Asm ∷ row (codes "certify") 3 (name.Certify Named Byte)
-    ∷ row (codes "certify16") 3 (name.Certify Named Word)
-    ∷ row (codes "check") 2 (name.Check Named Byte) ∷ row (codes "check16") 2 (name.Check Named Word)
-    ∷ row (codes "compile") 2 (name.Compile (Alone Byte)) ∷ row (codes "compile16") 2 (name.Compile (Alone Word))
-    ∷ row (codes "debug") 6 name.Debug ∷ row (codes "exec") 3 name.Exec ∷ row (codes "gen") 1 name.Generate
-    ∷ row (codes "hcheck") 1 name.Hcheck ∷ row (codes "hrun") 6 (name.Hrun Named)
-    ∷ row (codes "lcompile") 3 name.Lcompile ∷ row (codes "lrun") 9 (name.Lrun Named)
-    ∷ row (codes "mcompile") 2 (name.Compile Mailbox) ∷ row (codes "mrun") 6 (name.Mrun Named)
-    ∷ row (codes "run") 6 (name.Run Named Byte) ∷ row (codes "run16") 6 (name.Run Named Word)
-    ∷ row (codes "scompile") 2 (name.Compile Watched) ∷ row (codes "srun") 7 (name.Srun Named)
-    ∷ row (codes "tcertify") 3 (name.Certify Tight Byte) ∷ row (codes "tcertify16") 3 (name.Certify Tight Word)
-    ∷ row (codes "tcheck") 2 (name.Check Tight Byte) ∷ row (codes "tcheck16") 2 (name.Check Tight Word)
-    ∷ row (codes "thrun") 6 (name.Hrun Tight) ∷ row (codes "tlrun") 9 (name.Lrun Tight)
-    ∷ row (codes "tmrun") 6 (name.Mrun Tight) ∷ row (codes "trun") 6 (name.Run Tight Byte)
-    ∷ row (codes "trun16") 6 (name.Run Tight Word) ∷ row (codes "tsrun") 7 (name.Srun Tight) ∷ []
+table = row (codes "asm") 2 name.Asm ∷ row (codes "certify") 3 (name.Certify (format_of Named Byte))
+    ∷ row (codes "certify16") 3 (name.Certify (format_of Named Word))
+    ∷ row (codes "check") 2 (name.Check (format_of Named Byte))
+    ∷ row (codes "check16") 2 (name.Check (format_of Named Word)) ∷ row (codes "compile") 2 (name.Compile (Alone Byte))
+    ∷ row (codes "compile16") 2 (name.Compile (Alone Word)) ∷ row (codes "debug") 6 name.Debug
+    ∷ row (codes "exec") 3 name.Exec ∷ row (codes "gen") 1 name.Generate ∷ row (codes "hcheck") 1 name.Hcheck
+    ∷ row (codes "hrun") 6 (name.Hrun Named) ∷ row (codes "lcompile") 3 name.Lcompile
+    ∷ row (codes "lrun") 9 (name.Lrun Named) ∷ row (codes "mcompile") 2 (name.Compile Mailbox)
+    ∷ row (codes "mrun") 6 (name.Mrun Named) ∷ row (codes "run") 6 (name.Run (format_of Named Byte))
+    ∷ row (codes "run16") 6 (name.Run (format_of Named Word)) ∷ row (codes "scompile") 2 (name.Compile Watched)
+    ∷ row (codes "srun") 7 (name.Srun Named) ∷ row (codes "tcertify") 3 (name.Certify (format_of Tight Byte))
+    ∷ row (codes "tcertify16") 3 (name.Certify (format_of Tight Word))
+    ∷ row (codes "tcheck") 2 (name.Check (format_of Tight Byte))
+    ∷ row (codes "tcheck16") 2 (name.Check (format_of Tight Word)) ∷ row (codes "thrun") 6 (name.Hrun Tight)
+    ∷ row (codes "tlrun") 9 (name.Lrun Tight) ∷ row (codes "tmrun") 6 (name.Mrun Tight)
+    ∷ row (codes "trun") 6 (name.Run (format_of Tight Byte)) ∷ row (codes "trun16") 6 (name.Run (format_of Tight Word))
+    ∷ row (codes "tsrun") 7 (name.Srun Tight) ∷ []
 
 -- the command of a name, where the words have its form
-unfoldable pub form_of : Name → List Text → Option Command
-form_of name.Asm words = Some Asm
-form_of (name.Certify kind width) words = option_map Certify (certify_in kind width words)
-form_of (name.Check kind width) words = Some (Check (check_in kind width))
-form_of (name.Compile form) words = Some (Compile (compile_in form))
-form_of name.Debug words = option_map Debug (debug_in words)
-form_of name.Exec words = option_map Exec (exec_in words)
-form_of name.Generate words = option_map Generate (generate_in words)
-form_of name.Hcheck words = Some Hcheck
-form_of (name.Hrun kind) words = option_map Hrun (form_run_in kind 7 words)
-form_of name.Lcompile words = Some Lcompile
-form_of (name.Lrun kind) words = option_map Lrun (form_run_in kind 10 words)
-form_of (name.Mrun kind) words = option_map Mrun (form_run_in kind 7 words)
-form_of (name.Run kind width) words = option_map Run (run_in kind width words)
-form_of (name.Srun kind) words = option_map Srun (form_run_in kind 8 words)
+unfoldable pub command_named : Name → List Text → Option Command
+command_named name.Asm words = Some Asm
+command_named (name.Certify format) words = option_map Certify (certify_in format words)
+command_named (name.Check format) words = Some (Check (check_in format))
+command_named (name.Compile form) words = Some (Compile (compile_in form))
+command_named name.Debug words = option_map Debug (debug_in words)
+command_named name.Exec words = option_map Exec (exec_in words)
+command_named name.Generate words = option_map Generate (generate_in words)
+command_named name.Hcheck words = Some Hcheck
+command_named (name.Hrun kind) words = option_map Hrun (form_run_in kind 7 words)
+command_named name.Lcompile words = Some Lcompile
+command_named (name.Lrun kind) words = option_map Lrun (form_run_in kind 10 words)
+command_named (name.Mrun kind) words = option_map Mrun (form_run_in kind 7 words)
+command_named (name.Run format) words = option_map Run (run_in format words)
+command_named (name.Srun kind) words = option_map Srun (form_run_in kind 8 words)
 
 -- the words that name the files to read, in order
 unfoldable pub inputs_of : Command → List ℕ
@@ -91,8 +94,8 @@ Makes (Generate generate) contents r = GenerateMakes generate r
 Makes Hcheck contents r = HcheckMakes (content_at contents 0) r
 Makes (Hrun hrun) contents r = HrunMakes hrun (handled_files contents) r
 Makes Lcompile contents r = LcompileMakes (content_at contents 0) (content_at contents 1) r
-Makes (Lrun lrun) contents r = LrunMakes lrun (level_files contents) r
-Makes (Mrun mrun) contents r = MrunMakes mrun (posted_files contents) r
+Makes (Lrun lrun) contents r = LrunMakes lrun (two_level_files contents) r
+Makes (Mrun mrun) contents r = MrunMakes mrun (mailbox_files contents) r
 Makes (Run run) contents r = RunMakes run (files_in contents) r
 Makes (Srun srun) contents r = SrunMakes srun (watched_files contents) r
 
@@ -101,8 +104,8 @@ name_in words = command_by table words
 
 -- the command of the words, the program's name first
 abbrev pub command_in : List Text → Option Command
-command_in words = option_and_then (λ n. form_of n words) (name_in words)
+command_in words = option_and_then (λ n. command_named n words) (name_in words)
 
 -- a word begins with a hyphen, clap does not take the words, or one of them is not of its form
 abbrev pub IsUsage : List Text → Type 0
-IsUsage words = IsRefused table words ⊎ ((n : Name) × (name_in words ≡ Some n) × (form_of n words ≡ None))
+IsUsage words = IsRefused table words ⊎ ((n : Name) × (name_in words ≡ Some n) × (command_named n words ≡ None))

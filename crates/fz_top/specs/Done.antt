@@ -1,7 +1,7 @@
 -- When a run whose files are accepted is done.
 -- Beside the promise.
 use Rattle.std.specs.Prelude.{◌≡◌, ◌≤◌, ◌⊎◌, ℕ, List, Option, Some, codes, false, length}
-use Rattle.box_tree.specs.declared.cert.CertKind.{CertKind}
+use Rattle.box_tree.specs.declared.{cert.CertFormat.CertFormat, cert.CertKind.CertKind}
 use Rattle.box_tree.specs.declared.cert.CertKind.TheVariants.{Named, Tight}
 use Rattle.byte_scaling.specs.declared.{width.Width.Width, width.Width.TheVariants.Byte, width.Width.TheVariants.Word}
 use Rattle.fz_shelf.specs.{Files.File, Files.Names, Files.known, Told.HasRoom, Told.Taken, Told.World}
@@ -13,20 +13,23 @@ use Rattle.promise.specs.{Laws.AreAccepted, Promise.Promise}
 use Rattle.run_reports.specs.{Reports.Report, declared.files.RunFiles.RunFiles}
 
 -- the name of a run by its certificates and the width of its answers
-abbrev pub run_name : CertKind → Width → Text
-run_name Named Byte = codes "run"
-run_name Named Word = codes "run16"
-run_name Tight Byte = codes "trun"
-run_name Tight Word = codes "trun16"
+abbrev pub run_name_by : CertKind → Width → Text
+run_name_by Named Byte = codes "run"
+run_name_by Named Word = codes "run16"
+run_name_by Tight Byte = codes "trun"
+run_name_by Tight Word = codes "trun16"
+
+abbrev pub run_name : CertFormat → Text
+run_name format = run_name_by format.kind format.width
 
 -- the words begin with it, and end with FLAGS
-pub record IsRunOf (words : List Text) (kind : CertKind) (width : Width) (flags : ℕ) : Type 0 where
-  pub name : word_at words 1 ≡ run_name kind width
+pub record IsRunOf (words : List Text) (format : CertFormat) (flags : ℕ) : Type 0 where
+  pub name : word_at words 1 ≡ run_name format
   pub flags_are : flags_of (word_at words 7) ≡ Some flags
 
 -- they are eight with the program's name, and none behind that begins with a hyphen
-pub record AreRunWords (words : List Text) (kind : CertKind) (width : Width) (flags : ℕ) : Type 0 where
-  pub run : IsRunOf words kind width flags
+pub record AreRunWords (words : List Text) (format : CertFormat) (flags : ℕ) : Type 0 where
+  pub run : IsRunOf words format flags
   pub count : length words ≡ 8
   pub plain : any_hyphen words ≡ false
 
@@ -51,7 +54,7 @@ HasRoomForLines width flags files told =
 -- Then the status is Ok, or Memory, where no count rose; and also where shelf and out are reliable with room.
 abbrev pub AcceptedIsDone : List Text → World → World → Type 0 → Status → Type 0
 AcceptedIsDone words old new Reliable s =
-    (kind : CertKind) (width : Width) (flags : ℕ) (files : RunFiles) → AreRunWords words kind width flags
-    → AreTold words old.files files → AreAccepted kind width files
-    → HasNoFault old new ⊎ (Reliable × HasRoomForLines width flags files old.told)
+    (format : CertFormat) (flags : ℕ) (files : RunFiles) → AreRunWords words format flags
+    → AreTold words old.files files → AreAccepted format files
+    → HasNoFault old new ⊎ (Reliable × HasRoomForLines format.width flags files old.told)
     → (s ≡ status.Ok) ⊎ (s ≡ status.Memory)

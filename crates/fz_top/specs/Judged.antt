@@ -3,7 +3,7 @@
 use Rattle.std.specs.Prelude.{◌≡◌, ◌<◌, ◌≤◌, ◌^◌, ℕ, List, All, length, Result}
 use Rattle.command_parts.specs.{Judged.HasResult, SeenOutputs.SeenOutput, Words.AreMillionths}
 use Rattle.fz_status.specs.declared.status.Status.{Status}
-use Rattle.fz_top.specs.{Accepted.run_flags, Commands.Makes, declared.command.Command.Command}
+use Rattle.fz_top.specs.{Accepted.run_flags, Commands.Makes, Runs.HasOneResult, declared.command.Command.Command}
 use Rattle.fz_top.specs.declared.command.Command.TheVariants.{Certify}
 
 -- the targets of a certificate to find are at most the whole range, as those of words are
@@ -18,5 +18,4 @@ ContentsAreJudged = (command : Command) (contents : List (List ℕ)) → run_fla
 
 -- and all that they make is one: an output and the same output, or a refusal and the same status
 abbrev pub ContentsHaveOneResult : Type 0
-ContentsHaveOneResult = (command : Command) (contents : List (List ℕ)) (r q : Result SeenOutput Status)
-    → Makes command contents r → Makes command contents q → r ≡ q
+ContentsHaveOneResult = (command : Command) (contents : List (List ℕ)) → HasOneResult (Makes command contents)

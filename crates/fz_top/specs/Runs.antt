@@ -171,9 +171,13 @@ abbrev pub IsWriteFault : Status → Type 0
 IsWriteFault status.WriteFault = Unit {0}
 IsWriteFault _ = ⊥
 
--- the status is one that the contents make
+-- no two results are made
+abbrev pub HasOneResult : (Result SeenOutput Status → Type 0) → Type 0
+HasOneResult makes = (r q : Result SeenOutput Status) → makes r → makes q → r ≡ q
+
+-- the status is that of the one result that the contents make
 abbrev pub IsMade : (Result SeenOutput Status → Type 0) → Status → Type 0
-IsMade makes s = (r : Result SeenOutput Status) × makes r × (s ≡ status_of r)
+IsMade makes s = HasOneResult makes × (r : Result SeenOutput Status) × makes r × (s ≡ status_of r)
 
 -- the same, but for want of memory and faults of the shelf and out
 abbrev pub Settles : (Result SeenOutput Status → Type 0) → Status → Type 0

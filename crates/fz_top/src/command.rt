@@ -8,15 +8,16 @@ ghost use Rattle.std.specs.List.{All};
 ghost use Rattle.fz_words.specs.App.{IsRefused};
 ghost use Rattle.fz_status.specs.Words.{texts_of};
 ghost use Rattle.command_parts.specs.{Contents.bytes_of, SeenOutputs.IsResultOf};
-ghost use Rattle.fz_top.specs.Commands.{IsUsage, Makes, command_in, form_of, inputs_of, name_in, table};
+ghost use Rattle.fz_top.specs.Commands.{IsUsage, Makes, command_in, command_named, inputs_of, name_in, table};
 
+use box_tree::CertFormat;
 use box_tree::CertKind::{self, Named, Tight};
 use build_commands::certify::{self, Certify};
 use build_commands::check::{self, Check};
 use build_commands::compile::{self, Compile};
 use build_commands::exec::{self, Exec};
 use build_commands::{asm, hcheck, lcompile};
-use byte_scaling::Width::{self, Byte, Word};
+use byte_scaling::Width::{Byte, Word};
 use command_parts::contents::Content;
 use command_parts::firmware::Form::{self, Alone, Mailbox, Watched};
 use command_parts::output::Output;
@@ -29,12 +30,12 @@ use run_commands::generate::{self, Generate};
 use run_commands::run::{self, Run};
 use std::alloc::Global;
 
-/// A command by its name alone, which also gives the certificate's kind and the answers' width.
+/// A command by its name alone, which also gives the certificate's format.
 #[derive(Clone, Copy)]
 pub(crate) enum Name {
     Asm,
-    Certify(CertKind, Width),
-    Check(CertKind, Width),
+    Certify(CertFormat),
+    Check(CertFormat),
     Compile(Form),
     Debug,
     Exec,
@@ -44,17 +45,17 @@ pub(crate) enum Name {
     Lcompile,
     Lrun(CertKind),
     Mrun(CertKind),
-    Run(CertKind, Width),
+    Run(CertFormat),
     Srun(CertKind),
 }
 
 /// The names of the commands on the command line, each with its number of further words.
 static COMMANDS: [(&str, usize, Name); 30] = [
     ("asm", 2, Name::Asm),
-    ("certify", 3, Name::Certify(Named, Byte)),
-    ("certify16", 3, Name::Certify(Named, Word)),
-    ("check", 2, Name::Check(Named, Byte)),
-    ("check16", 2, Name::Check(Named, Word)),
+    ("certify", 3, Name::Certify(CertFormat::NAMED)),
+    ("certify16", 3, Name::Certify(CertFormat::NAMED16)),
+    ("check", 2, Name::Check(CertFormat::NAMED)),
+    ("check16", 2, Name::Check(CertFormat::NAMED16)),
     ("compile", 2, Name::Compile(Alone(Byte))),
     ("compile16", 2, Name::Compile(Alone(Word))),
     ("debug", 6, Name::Debug),
@@ -66,19 +67,19 @@ static COMMANDS: [(&str, usize, Name); 30] = [
     ("lrun", 9, Name::Lrun(Named)),
     ("mcompile", 2, Name::Compile(Mailbox)),
     ("mrun", 6, Name::Mrun(Named)),
-    ("run", 6, Name::Run(Named, Byte)),
-    ("run16", 6, Name::Run(Named, Word)),
+    ("run", 6, Name::Run(CertFormat::NAMED)),
+    ("run16", 6, Name::Run(CertFormat::NAMED16)),
     ("scompile", 2, Name::Compile(Watched)),
     ("srun", 7, Name::Srun(Named)),
-    ("tcertify", 3, Name::Certify(Tight, Byte)),
-    ("tcertify16", 3, Name::Certify(Tight, Word)),
-    ("tcheck", 2, Name::Check(Tight, Byte)),
-    ("tcheck16", 2, Name::Check(Tight, Word)),
+    ("tcertify", 3, Name::Certify(CertFormat::TIGHT)),
+    ("tcertify16", 3, Name::Certify(CertFormat::TIGHT16)),
+    ("tcheck", 2, Name::Check(CertFormat::TIGHT)),
+    ("tcheck16", 2, Name::Check(CertFormat::TIGHT16)),
     ("thrun", 6, Name::Hrun(Tight)),
     ("tlrun", 9, Name::Lrun(Tight)),
     ("tmrun", 6, Name::Mrun(Tight)),
-    ("trun", 6, Name::Run(Tight, Byte)),
-    ("trun16", 6, Name::Run(Tight, Word)),
+    ("trun", 6, Name::Run(CertFormat::TIGHT)),
+    ("trun16", 6, Name::Run(CertFormat::TIGHT16)),
     ("tsrun", 7, Name::Srun(Tight)),
 ];
 
@@ -116,14 +117,14 @@ pub enum Command {
 }
 
 /// The command of this name with what the words give, if each word is of its form.
-#[tactic(auto, unfolding(crate::specs::Commands::form_of))]
+#[tactic(auto, unfolding(crate::specs::Commands::command_named))]
 fn formed(name: Name, words: &[String]) -> Option<Command>
-    ensures { result ≡ form_of name (texts_of words.now) }
+    ensures { result ≡ command_named name (texts_of words.now) }
 {
     match name {
         Name::Asm => Some(Command::Asm),
-        Name::Certify(kind, width) => Certify::of(kind, width, words).map(Command::Certify),
-        Name::Check(kind, width) => Some(Command::Check(Check { kind, width })),
+        Name::Certify(format) => Certify::of(format, words).map(Command::Certify),
+        Name::Check(format) => Some(Command::Check(Check { format })),
         Name::Compile(form) => Some(Command::Compile(Compile { form })),
         Name::Debug => DebugRun::of(words).map(Command::Debug),
         Name::Exec => Exec::of(words).map(Command::Exec),
@@ -133,7 +134,7 @@ fn formed(name: Name, words: &[String]) -> Option<Command>
         Name::Lcompile => Some(Command::Lcompile),
         Name::Lrun(kind) => FormRun::of(kind, lrun::FLAGS, words).map(Command::Lrun),
         Name::Mrun(kind) => FormRun::of(kind, mrun::FLAGS, words).map(Command::Mrun),
-        Name::Run(kind, width) => Run::of(kind, width, words).map(Command::Run),
+        Name::Run(format) => Run::of(format, words).map(Command::Run),
         Name::Srun(kind) => FormRun::of(kind, srun::FLAGS, words).map(Command::Srun),
     }
 }

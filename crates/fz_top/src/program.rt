@@ -11,7 +11,7 @@ ghost use Rattle.fz_top.specs.{Reads.names_at, Reads.AreThere};
 
 use crate::command::command_of;
 use crate::delivery::deliver;
-use crate::laws::commands_are_settled;
+use crate::laws::{commands_are_settled, contents_have_one_result};
 use crate::reading::{Stop, read_all};
 use fz_shelf::{Shelf, Sink, WriteError};
 use fz_status::{Status, report};
@@ -98,7 +98,7 @@ pub fn fuzz12<S: Shelf, O: Sink, F: Sink>(
     ensures too_long { (place : ℕ) → IsTooLong (texts_of words.now) (S.files shelf.old) place
         → (result ≡ Status.TooLong place) ⊎ (IsReadFault result ⊎ (result ≡ Status.Memory)) }
 
-    // contents that the shelf tells settle the status
+    // contents that the shelf tells settle the status: it is that of their one result
     ensures settled { (command : Command) (contents : List (List ℕ)) → command_in (texts_of words.now) ≡ Some command
         → AreKnown (S.files shelf.old) (names_at (texts_of words.now) (inputs_of command)) contents
         → Settles (Makes command contents) result }
@@ -139,6 +139,7 @@ pub fn fuzz12<S: Shelf, O: Sink, F: Sink>(
     ensures err_reliable { F.reliable err.old → F.reliable err.new }
 {
     commands_are_settled();
+    contents_have_one_result();
     certified_runs_keep_promise();
     other_runs_serve();
     accepted_files_give_firmware();

@@ -14,7 +14,7 @@ use Rattle.two_level_code.specs.{MemoryMaps.fast_map, declared.two.Two.Two}
 use Rattle.two_level_runs.specs.Answering.{AreTold, IsReadOff, IsTold, IsToldFrom, run_of_level}
 use Rattle.two_level_runs.specs.{Runs.FastSeen, Runs.entered, Steps.IsFastRun, Steps.is_open_inside}
 use Rattle.promise.specs.{Bench.EndsAfter, FastRuns.AllLevelsServe, FastRuns.FastServes}
-use Rattle.promise.specs.FastRuns.{LevelServes, LevelsServe, inner_form}
+use Rattle.promise.specs.FastRuns.{TwoLevelServes, LevelsServe, inner_form}
 
 -- ---- the end
 
@@ -86,7 +86,7 @@ module _ (b : Block) (valid : IsValid b) (two : Two) (flags : ℕ) (fast : List 
       }
 
   told : (before : ℕ → ℕ) (slow : State) (l : Level) (t : Option FastSeen)
-      → IsTold b two flags fast before slow l t → LevelServes b two flags fast slow l t
+      → IsTold b two flags fast before slow l t → TwoLevelServes b two flags fast slow l t
   told before slow l None h = tt
   told before slow l (Some f) h = serves before slow l f h
 

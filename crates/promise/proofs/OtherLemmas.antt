@@ -17,7 +17,7 @@ use Rattle.alone_runs.specs.Rows.{first_state}
 use Rattle.trace_io.specs.Traces.{input_bytes}
 use Rattle.promise.specs.{Bench.AreReadOff, Bench.requests_in, Laws.AnswersServe}
 use Rattle.promise.specs.OtherRuns.{DebuggedRunsServe, WatchedRunsServe, GeneratedRunsServe, HandledRunsServe}
-use Rattle.promise.specs.OtherRuns.{OtherRunsServe, PostedRunsServe, SlowRunsServe}
+use Rattle.promise.specs.OtherRuns.{OtherRunsServe, MailboxRunsServe, SlowRunsServe}
 use Rattle.promise.proofs.{BenchLemmas.read_off_expected, FastLemmas.all_serve, TurnLemmas.turns_end, TurnLemmas.waits}
 use Rattle.run_reports.proofs.Algebra.{rows_ran}
 
@@ -64,7 +64,7 @@ slow keep kind flags files report l byte = record {
       l.answers.told;
 }
 
-posted : PlainIsOneStep → MailboxTakesPosts → MailboxRunsTurns → TurnsHaveSteps → SpelledBytesFit → PostedRunsServe
+posted : PlainIsOneStep → MailboxTakesPosts → MailboxRunsTurns → TurnsHaveSteps → SpelledBytesFit → MailboxRunsServe
 posted one takes run steps fit kind flags files report p byte =
     let bytes = map input_bytes p.samples in
     let follows = p.follows in

@@ -101,7 +101,7 @@ errors_capped b h cert errors claims a = λ k d lt.
 
 pub certified_keep : FirmwareAnswers → PlainIsOneStep → ArrivesPlainly → BoundsAreFew → CertifiedRunsKeepPromise
 unfolding served
-certified_keep answers one arrives few kind width flags files report r byte = record {
+certified_keep answers one arrives few format flags files report r byte = record {
   block = r.block;
   spelled = r.accepts.0.spelled;
   image = r.firmware.image;
@@ -110,17 +110,17 @@ certified_keep answers one arrives few kind width flags files report r byte = re
   in_range = r.accepts.1.1.1.0;
   plan = r.plan;
   free_writes = r.accepts.1.1.1.1;
-  serves = served answers one arrives width flags r.block r.firmware (map input_bytes r.samples) r.plan report.rows byte
+  serves = served answers one arrives format.width flags r.block r.firmware (map input_bytes r.samples) r.plan report.rows byte
       r.accepts.0.spelled.valid r.accepts.0.limits r.accepts.0.compiled.0
       r.accepts.0.compiled.1 r.reported.follows;
   within = r.reported.within;
   instructions = r.reported.instructions;
   printable = record {
     count = r.accepts.1.1.0.accepted.errors_count;
-    errors = errors_capped r.block (parts width) r.accepts.1.1.0.cert report.errors
+    errors = errors_capped r.block (parts format.width) r.accepts.1.1.0.cert report.errors
         r.accepts.1.1.0.spelled.good.claims r.accepts.1.1.0.accepted;
     bound = subst (λ (n : ℕ). n ≤ 2000) (sym r.reported.bound)
-        (few r.block width 0 r.accepts.0.spelled.valid r.accepts.0.limits).1;
+        (few r.block format.width 0 r.accepts.0.spelled.valid r.accepts.0.limits).1;
   };
   printed = ap (λ left. concat (run_lines report left)) r.left_is;
 }

@@ -42,15 +42,15 @@ pub record FastServes (b : Block) (two : Two) (flags : ℕ) (fast : List (List �
       ≡ row_without (inner_form flags (length b.outputs) first.regs.sp) l.inner.items f.steps tt first
 
 -- so does what a level told, where it has a fast sample
-abbrev pub LevelServes : Block → Two → ℕ → List (List ℕ) → State → Level → Option FastSeen → Type 0
-LevelServes b two flags fast slow l None = Unit {0}
-LevelServes b two flags fast slow l (Some f) = FastServes b two flags fast slow l f
+abbrev pub TwoLevelServes : Block → Two → ℕ → List (List ℕ) → State → Level → Option FastSeen → Type 0
+TwoLevelServes b two flags fast slow l None = Unit {0}
+TwoLevelServes b two flags fast slow l (Some f) = FastServes b two flags fast slow l f
 
 -- each level in a slow sample that is given in s, at its moment
 abbrev pub LevelsServe : Block → Two → ℕ → List (List ℕ) → State → List (Level × Option FastSeen) → Type 0
 LevelsServe b two flags fast s [] = Unit {0}
 LevelsServe b two flags fast s ((l, told) ∷ ts) =
-    LevelServes b two flags fast (uninterrupted flags l.moment s) l told × LevelsServe b two flags fast s ts
+    TwoLevelServes b two flags fast (uninterrupted flags l.moment s) l told × LevelsServe b two flags fast s ts
 
 -- each in slow samples from s on, which take so many steps each
 abbrev pub AllLevelsServe : Block → Two → ℕ → List (List ℕ) → List (List (Level × Option FastSeen)) → List ℕ

@@ -1,6 +1,6 @@
 -- Laws of the promise.
 -- Beside the promise.
-use Rattle.box_tree.specs.declared.cert.CertKind.{CertKind}
+use Rattle.box_tree.specs.declared.cert.CertFormat.{CertFormat}
 use Rattle.command_parts.specs.{Certs.AcceptsCert, Readings.GivesSome}
 use Rattle.alone_code.specs.{Firmwares.IsFirmwareOf, Images.IsImageOf, Images.firmware_items}
 use Rattle.alone_code.specs.declared.firmware.Firmware.{Firmware}
@@ -32,26 +32,26 @@ AnswersServe = (width : Width) (flags : ℕ) (block : Block) (firmware : Firmwar
 
 -- A certified run keeps it.
 abbrev pub CertifiedRunsKeepPromise : Type 0
-CertifiedRunsKeepPromise = (kind : CertKind) (width : Width) (flags : ℕ) (files : RunFiles) (report : Report)
-    (certified : CertifiedRun kind width flags files report)
-    → flags < 2 ^ 8 → Promise width flags files report (concat (run_lines report certified.left))
+CertifiedRunsKeepPromise = (format : CertFormat) (flags : ℕ) (files : RunFiles) (report : Report)
+    (certified : CertifiedRun format flags files report)
+    → flags < 2 ^ 8 → Promise format.width flags files report (concat (run_lines report certified.left))
 
 -- The text has one list of errors and one bound, whatever report it is of.
 abbrev pub PrintedNumbersAreOne : Type 0
 PrintedNumbersAreOne = (block other : Block) (r s : Report) (left more : ℕ) → IsPrintable block r → IsPrintable other s
     → concat (run_lines r left) ≡ concat (run_lines s more) → (r.errors ≡ s.errors) × (r.bound ≡ s.bound)
 
--- FCL spells a block within the limits, IMAGE holds exactly its image, CERT is a certificate of this kind that is
+-- FCL spells a block within the limits, IMAGE holds exactly its image, CERT is a certificate of this format that is
 -- accepted, TRACE spells samples within their ranges, and PLAN a good plan.
-pub record AreAccepted (kind : CertKind) (width : Width) (files : RunFiles) : Type 0 where
+pub record AreAccepted (format : CertFormat) (files : RunFiles) : Type 0 where
   pub block : Block
   pub spelled : SpellsBlock files.fcl block
   pub limits : IsWithinLimits block
   pub image : Image
-  pub image_is : IsImageOf (firmware_items main_map block width) image
+  pub image_is : IsImageOf (firmware_items main_map block format.width) image
   pub records : GivesImage files.image image
   pub errors : List ℕ
-  pub accepted : AcceptsCert kind width block files.inputs.cert errors
+  pub accepted : AcceptsCert format block files.inputs.cert errors
   pub samples : List Sample
   pub in_range : SpellsTrace block.inputs files.inputs.trace samples
   pub plan : List Request
@@ -60,12 +60,11 @@ pub record AreAccepted (kind : CertKind) (width : Width) (files : RunFiles) : Ty
 -- Such files are those that the command accepts.
 abbrev pub AcceptedFilesGiveFirmware : Type 0
 AcceptedFilesGiveFirmware =
-    (kind : CertKind) (width : Width) (files : RunFiles) → AreAccepted kind width files
-    → GivesSome (run_reading kind width files)
+    (format : CertFormat) (files : RunFiles) → AreAccepted format files → GivesSome (run_reading format files)
 
 -- The sentence with no program: accepted files have lines that keep the promise, with the errors that the certificate
 -- is accepted with.
 abbrev pub AcceptedFilesKeepPromise : Type 0
-AcceptedFilesKeepPromise = (kind : CertKind) (width : Width) (flags : ℕ) (files : RunFiles) → flags < 2 ^ 8
-    → (a : AreAccepted kind width files)
-    → (report : Report) × (report.errors ≡ a.errors) × (text : List ℕ) × Promise width flags files report text
+AcceptedFilesKeepPromise = (format : CertFormat) (flags : ℕ) (files : RunFiles) → flags < 2 ^ 8
+    → (a : AreAccepted format files)
+    → (report : Report) × (report.errors ≡ a.errors) × (text : List ℕ) × Promise format.width flags files report text

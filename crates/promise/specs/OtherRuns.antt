@@ -8,16 +8,16 @@ use Rattle.trace_io.specs.Traces.{input_bytes}
 use Rattle.alone_runs.specs.Rows.{first_state}
 use Rattle.handled_runs.specs.Forms.{first_handled, with_code}
 use Rattle.mailbox_runs.specs.{Answering.run_of_turns, Runs.run_under_posts, Runs.steps_of, Turns.AreTurns, Turns.Turn}
-use Rattle.two_level_runs.specs.{Answering.plan_of, Rows.first_two, Rows.level_form, Rows.levels_of, Rows.two_rows}
+use Rattle.two_level_runs.specs.{Answering.plan_of, Rows.first_two, Rows.two_level_form, Rows.levels_of, Rows.two_rows}
 use Rattle.run_commands.specs.declared.debug.DebugFiles.{DebugFiles}
 use Rattle.run_commands.specs.{Debug.DebugGives, Generate.GenerateGives}
 use Rattle.run_commands.specs.declared.debug.DebugRun.{DebugRun}
 use Rattle.run_reports.specs.HandledRun.{HandledReport, HandledRun}
-use Rattle.run_reports.specs.LevelRun.{LevelReport, LevelRun}
-use Rattle.run_reports.specs.PostedRun.{PostedReport, PostedRun, run_of}
+use Rattle.run_reports.specs.TwoLevelRun.{TwoLevelReport, TwoLevelRun}
+use Rattle.run_reports.specs.MailboxRun.{MailboxReport, MailboxRun, run_of}
 use Rattle.run_reports.specs.WatchedRun.{WatchedReport, WatchedRun}
-use Rattle.run_reports.specs.declared.{files.HandledFiles.HandledFiles, files.LevelFiles.LevelFiles}
-use Rattle.run_reports.specs.declared.{files.PostedFiles.PostedFiles, files.WatchedFiles.WatchedFiles}
+use Rattle.run_reports.specs.declared.{files.HandledFiles.HandledFiles, files.TwoLevelFiles.TwoLevelFiles}
+use Rattle.run_reports.specs.declared.{files.MailboxFiles.MailboxFiles, files.WatchedFiles.WatchedFiles}
 use Rattle.cpu12_parts.specs.State.{State}
 use Rattle.run_law.specs.Forms.{RowSeen}
 use Rattle.watched_code.specs.Watched.{Watched}
@@ -49,12 +49,12 @@ HandledRunsServe = (kind : CertKind) (flags : ℕ) (files : HandledFiles) (repor
 
 -- the slow rows are those of the slow firmware alone, and those of the machine in which fast runs stand in interrupts;
 -- and each fast run is read off its own without inner requests
-pub record SlowServes (kind : CertKind) (flags : ℕ) (files : LevelFiles) (report : LevelReport)
-    (l : LevelRun kind flags files report) : Type 0 where
+pub record SlowServes (kind : CertKind) (flags : ℕ) (files : TwoLevelFiles) (report : TwoLevelReport)
+    (l : TwoLevelRun kind flags files report) : Type 0 where
   pub serves : Serves Byte (length l.slow.outputs) flags l.two.slow.image (map input_bytes l.samples)
       (plan_of l.levels) (map (λ row. row.row) report.rows)
   pub last : State
-  pub ran : IsRunOf (level_form flags l.two (map input_bytes l.fast_samples)) (λ k. levels_of k l.levels)
+  pub ran : IsRunOf (two_level_form flags l.two (map input_bytes l.fast_samples)) (λ k. levels_of k l.levels)
       (map input_bytes l.samples) (first_two l.two flags) (map (λ row. row.row) report.rows) last
   pub fast :
       (let all = two_rows l.two (map input_bytes l.samples) (map input_bytes l.fast_samples) l.levels flags in
@@ -62,8 +62,8 @@ pub record SlowServes (kind : CertKind) (flags : ℕ) (files : LevelFiles) (repo
       (map input_bytes l.samples) (first_state l.two.slow flags))
 
 abbrev pub SlowRunsServe : Type 0
-SlowRunsServe = (kind : CertKind) (flags : ℕ) (files : LevelFiles) (report : LevelReport)
-    (l : LevelRun kind flags files report)
+SlowRunsServe = (kind : CertKind) (flags : ℕ) (files : TwoLevelFiles) (report : TwoLevelReport)
+    (l : TwoLevelRun kind flags files report)
     → flags < 2 ^ 8 → SlowServes kind flags files report l
 
 -- the rows, before FAULT is taken from the answers, are those of the machine in which the tables are upset, and are
@@ -85,8 +85,8 @@ WatchedRunsServe = (kind : CertKind) (flags : ℕ) (files : WatchedFiles) (repor
 
 -- The run is the machine's under posts, from its first state at LOOP, and it is read off its turns without posts: each
 -- begins where the one before ended, with its sample in the mailbox where it answers one.
-pub record PostsServe (kind : CertKind) (flags : ℕ) (files : PostedFiles) (report : PostedReport)
-    (p : PostedRun kind flags files report) : Type 0 where
+pub record MailboxServes (kind : CertKind) (flags : ℕ) (files : MailboxFiles) (report : MailboxReport)
+    (p : MailboxRun kind flags files report) : Type 0 where
   pub ran : run_of report ≡ run_under_posts p.firmware (map input_bytes p.samples) p.posts flags
   pub first : State
   pub waits : IsFirstAtLoop flags p.firmware.image first
@@ -96,10 +96,10 @@ pub record PostsServe (kind : CertKind) (flags : ℕ) (files : PostedFiles) (rep
   pub ends : TurnsEnd flags p.firmware (map input_bytes p.samples) turns first
   pub without : run_of report ≡ run_of_turns flags p.firmware (map input_bytes p.samples) turns first
 
-abbrev pub PostedRunsServe : Type 0
-PostedRunsServe = (kind : CertKind) (flags : ℕ) (files : PostedFiles) (report : PostedReport)
-    (p : PostedRun kind flags files report)
-    → flags < 2 ^ 8 → PostsServe kind flags files report p
+abbrev pub MailboxRunsServe : Type 0
+MailboxRunsServe = (kind : CertKind) (flags : ℕ) (files : MailboxFiles) (report : MailboxReport)
+    (p : MailboxRun kind flags files report)
+    → flags < 2 ^ 8 → MailboxServes kind flags files report p
 
 abbrev pub DebuggedServes : (debug : DebugRun) (files : DebugFiles) (output : SeenOutput)
     → DebugGives debug files output → Type 0
@@ -114,6 +114,6 @@ pub record OtherRunsServe : Type 0 where
   pub debugged : DebuggedRunsServe
   pub generated : GeneratedRunsServe
   pub handled : HandledRunsServe
-  pub posted : PostedRunsServe
+  pub posted : MailboxRunsServe
   pub slow : SlowRunsServe
   pub watched : WatchedRunsServe

@@ -2,7 +2,7 @@
 use Rattle.run_commands.proofs.Words.{[], ◌++◌, ◌∙◌, ◌∷◌, ◌≡◌, answers_of, AnswersAreReported, AnswersUnderPlans, ap}
 use Rattle.run_commands.proofs.Words.{arith, Byte, codes, firmware_rows, frames_of, generate_lines, input_bytes}
 use Rattle.run_commands.proofs.Words.{length, line, List, made_with, map, refl, report_of, resumed_of, RowSeen, ℕ}
-use Rattle.run_commands.proofs.Words.{Block, generated_target, Named, subst, sym}
+use Rattle.run_commands.proofs.Words.{Block, format_of, generated_target, Named, subst, sym}
 use Rattle.alone_code.specs.{Alike.FirmwaresAreOne, Firmwares.IsFirmwareOf}
 use Rattle.box_tree.specs.declared.cert.Cert.{Cert}
 use Rattle.byte_scaling.specs.Widths.{parts}
@@ -81,7 +81,7 @@ generate_settled halvings once firmwares reported under workloads limits given g
     let number = generate.number in
     let drawn = workloads number in
     settled (generate_reading generate) (GenerateGives number) (GivesSome (generate_reading generate))
-    (halvings Named Byte generated_target (drawn_block (draw number 0 5)) drawn.5.spelled.valid)
+    (halvings (format_of Named Byte) generated_target (drawn_block (draw number 0 5)) drawn.5.spelled.valid)
     (λ output a. (
       a.cert,
       subst (λ (b : Block). IsHalvingFor Named b (parts Byte) (targets_of b generated_target) a.cert)

@@ -7,7 +7,7 @@ pub use Rattle.std.proofs.Common.{true, ℕ, ◌*◌, ◌++◌, ◌-◌, ◌∙�
 pub use Rattle.alone_code.specs.{declared.firmware.Firmware.Firmware}
 pub use Rattle.alone_runs.specs.{Answering.AnswersUnderPlans, Rows.firmware_rows}
 pub use Rattle.alone_runs.specs.{Rows.row_seen, declared.rows.Row.Row}
-pub use Rattle.box_tree.specs.{declared.cert.CertKind.TheVariants.Named}
+pub use Rattle.box_tree.specs.{Texts.format_of, declared.cert.CertKind.TheVariants.Named}
 pub use Rattle.byte_scaling.specs.{declared.width.Width.TheVariants.Byte}
 pub use Rattle.command_parts.proofs.{Algebra.counted-map, Algebra.made_with}
 pub use Rattle.command_parts.specs.{Certs.StopsHalving, Certs.target_refusals, Firmwares.GivesFirmware}

@@ -5,7 +5,7 @@ use Rattle.std.specs.Prelude.{Result}
 use Rattle.fuzzy_meaning.specs.declared.block.Block.{Block}
 use Rattle.byte_scaling.specs.{Widths.parts, declared.width.Width.TheVariants.Byte}
 use Rattle.alone_code.specs.declared.firmware.Firmware.{Firmware}
-use Rattle.box_tree.specs.declared.{cert.Cert.Cert, cert.CertKind.TheVariants.Named}
+use Rattle.box_tree.specs.{Texts.format_of, declared.cert.Cert.Cert, declared.cert.CertKind.TheVariants.Named}
 use Rattle.error_certifier.specs.{Halving.IsHalvingFor, Targets.targets_of, declared.targets.Targets.Targets}
 use Rattle.error_certifier.specs.declared.targets.Targets.TheVariants.{All}
 use Rattle.interrupt_plan.specs.declared.Request.{Request}
@@ -83,7 +83,8 @@ pub record GenerateGives (number : ℕ) (output : SeenOutput) : Type 0 where
 
 -- the certificate of halving the block that the number draws
 abbrev pub generate_reading : Generate → Reading Cert
-generate_reading generate = last (halving_in Named Byte generated_target (drawn_block (draw generate.number 0 5)))
+generate_reading generate =
+    last (halving_in (format_of Named Byte) generated_target (drawn_block (draw generate.number 0 5)))
 
 abbrev pub GenerateMakes : Generate → Result SeenOutput Status → Type 0
 GenerateMakes generate = made_of (generate_reading generate) (GenerateGives generate.number)

@@ -5,8 +5,7 @@ use Rattle.std.specs.Prelude.{◌≡◌, ◌<◌, ◌^◌, ℕ, List, [], ◌∷
 use Rattle.fuzzy_meaning.specs.declared.block.Block.{Block}
 use Rattle.alone_code.specs.declared.firmware.Firmware.{Firmware}
 use Rattle.alone_runs.specs.Rows.{firmware_rows}
-use Rattle.box_tree.specs.declared.cert.CertKind.{CertKind}
-use Rattle.byte_scaling.specs.declared.width.Width.{Width}
+use Rattle.box_tree.specs.declared.cert.CertFormat.{CertFormat}
 use Rattle.interrupt_plan.specs.declared.Request.{Request}
 use Rattle.trace_io.specs.{Traces.input_bytes, declared.sample.Sample.Sample}
 use Rattle.command_parts.specs.{Contents.content_at, SeenOutputs.SeenOutput, SeenOutputs.only_lines}
@@ -19,12 +18,12 @@ use Rattle.run_reports.specs.declared.files.RunFiles.{RunFiles}
 use Rattle.run_commands.specs.declared.run.Run.{Run}
 use Rattle.run_reports.specs.RowLines.{run_lines}
 
-abbrev pub run_with : CertKind → Width → ℕ → Run
-run_with kind width flags = record { kind = kind; width = width; flags = flags }
+abbrev pub run_with : CertFormat → ℕ → Run
+run_with format flags = record { format = format; flags = flags }
 
 -- the command of the words, where the last is of the form of FLAGS
-abbrev pub run_in : CertKind → Width → List Text → Option Run
-run_in kind width words = option_map (run_with kind width) (flags_of (word_at words 7))
+abbrev pub run_in : CertFormat → List Text → Option Run
+run_in format words = option_map (run_with format) (flags_of (word_at words 7))
 
 -- FCL, IMAGE, CERT, TRACE and PLAN
 abbrev pub run_inputs : List ℕ
@@ -42,17 +41,17 @@ files_in contents = record {
 -- the run is certified, and the lines are those of its report and of what it leaves
 pub record RunGives (run : Run) (files : RunFiles) (output : SeenOutput) : Type 0 where
   pub report : Report
-  pub certified : CertifiedRun run.kind run.width run.flags files report
+  pub certified : CertifiedRun run.format run.flags files report
   pub output_is : output ≡ only_lines (run_lines report certified.left)
 
 abbrev pub RunMakes : Run → RunFiles → Result SeenOutput Status → Type 0
-RunMakes run files = made_of (run_reading run.kind run.width files) (RunGives run files)
+RunMakes run files = made_of (run_reading run.format files) (RunGives run files)
 
 -- files that are accepted make an output, with the errors that the certificate is accepted with
 abbrev pub AcceptedRunsMakeOutput : Type 0
 AcceptedRunsMakeOutput = (run : Run) (files : RunFiles) (block : Block) (firmware : Firmware) (errors : List ℕ)
     (samples : List Sample) (plan : List Request) → run.flags < 2 ^ 8
-    → AcceptsRun run.kind run.width files block firmware errors samples plan
+    → AcceptsRun run.format files block firmware errors samples plan
     → (output : SeenOutput) × (gives : RunGives run files output) × (gives.report.errors ≡ errors)
 
 -- the lines of the run of what the files give
@@ -63,5 +62,5 @@ run_told flags c errors samples plan =
 
 abbrev pub RunIsSettled : Type 0
 RunIsSettled = (run : Run) (files : RunFiles)
-    → IsSettledRun (run_reading run.kind run.width files) run.flags (RunGives run files)
+    → IsSettledRun (run_reading run.format files) run.flags (RunGives run files)
     (λ b. run_told run.flags b.0 b.1.1.0 b.1.1.1.0 b.1.1.1.1)

@@ -14,8 +14,7 @@ ghost use Rattle.workload.specs.Workloads.{IsWorkload};
 
 use alone_code::{Firmware, compile};
 use alone_runs::{Row, run};
-use box_tree::CertKind;
-use byte_scaling::Width;
+use box_tree::CertFormat;
 use command_parts::certs::halved;
 use command_parts::lines::push_errors;
 use command_parts::output::Output;
@@ -87,7 +86,7 @@ impl Generate {
         let block = &workload.block;
         let firmware = compiled(alloc, block)?;
         let target = Targets::All(TARGET);
-        let cert = halved(alloc, CertKind::Named, Width::Byte, &target, block)?;
+        let cert = halved(alloc, CertFormat::NAMED, block, &target)?;
         let samples = workload.samples.as_slice();
         let rows = run(alloc, &firmware, samples, &workload.requests, FLAGS)?;
         let errors = cert.claims.as_slice();

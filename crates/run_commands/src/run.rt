@@ -14,8 +14,7 @@ ghost use Rattle.run_commands.specs.Run.{RunMakes, files_in, run_in, run_told};
 
 use crate::laws::run_is_settled;
 use alone_runs::{Row, run_on};
-use box_tree::CertKind;
-use byte_scaling::Width;
+use box_tree::CertFormat;
 use command_parts::contents::Content;
 use command_parts::firmware::{Compiled, Form, firmware_of};
 use command_parts::images::require_image;
@@ -34,10 +33,8 @@ use std::alloc::{AllocError, Global};
 /// of 16 bits.
 #[derive(Clone, Copy)]
 pub struct Run {
-    /// The kind of the certificate: plain or tight.
-    kind: CertKind,
-    /// The width of the firmware's answers.
-    width: Width,
+    /// The format of the certificate, whose width is that of the firmware's answers.
+    format: CertFormat,
     /// The byte from which the open flags are taken.
     flags: u8,
 }
@@ -74,13 +71,13 @@ struct Accepted {
 impl Accepted {
     /// What the files give, or the first fault in their order.
     fn of(alloc: Global, run: Run, files: &RunFiles) -> Result<Accepted, Status>
-        ensures accepted { IfOk result (λ a. AcceptsRun run.kind run.width files.now a.compiled.block
+        ensures accepted { IfOk result (λ a. AcceptsRun run.format files.now a.compiled.block
             a.compiled.firmware a.inputs.errors.items a.inputs.samples.items a.inputs.plan) }
-        ensures fault { IfErr result (IsRefused (run_reading run.kind run.width files.now)) }
+        ensures fault { IfErr result (IsRefused (run_reading run.format files.now)) }
     {
-        let compiled = firmware_of(alloc, Form::Alone(run.width), &files.fcl)?;
+        let compiled = firmware_of(alloc, Form::Alone(run.format.width), &files.fcl)?;
         require_image(alloc, &files.image, &compiled.firmware.image)?;
-        let inputs = inputs_of(alloc, run.kind, run.width, &compiled.block, &files.inputs)?;
+        let inputs = inputs_of(alloc, run.format, &compiled.block, &files.inputs)?;
         Ok(Accepted { compiled, inputs })
     }
 
@@ -108,11 +105,11 @@ impl Accepted {
 
 impl Run {
     /// The command of these words.
-    pub fn of(kind: CertKind, width: Width, words: &[String]) -> Option<Run>
-        ensures { result ≡ run_in kind width (texts_of words.now) }
+    pub fn of(format: CertFormat, words: &[String]) -> Option<Run>
+        ensures { result ≡ run_in format (texts_of words.now) }
     {
         let flags = flags(word(words, FLAGS))?;
-        Some(Run { kind, width, flags })
+        Some(Run { format, flags })
     }
 
     /// Checks all files, then runs the samples of the trace under the plan. The output has the lines of

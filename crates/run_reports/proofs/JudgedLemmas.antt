@@ -1,7 +1,8 @@
 -- Each file of a run gives something or is refused.
 use Rattle.std.proofs.Common.{◌≡◌, ◌≢◌, ◌⊎◌, ◌+◌, inl, inr, ℕ, ◌≤◌, List, length, refl}
-use Rattle.box_tree.specs.declared.cert.CertKind.{CertKind}
-use Rattle.byte_scaling.specs.declared.{width.Width.Width, width.Width.TheVariants.Byte}
+use Rattle.box_tree.specs.declared.cert.CertFormat.{CertFormat}
+use Rattle.box_tree.specs.Texts.{format_of}
+use Rattle.byte_scaling.specs.declared.width.Width.TheVariants.{Byte}
 use Rattle.fuzzy_meaning.specs.{Blocks.IsValid, declared.block.Block.Block, declared.block.Input.Input}
 use Rattle.interrupt_plan.specs.OneReading.{EachLevelsTextIsJudged, EachPlanTextIsJudged, EachPostsTextIsJudged}
 use Rattle.interrupt_plan.specs.OneReading.{EachUpsetsTextIsJudged}
@@ -27,8 +28,8 @@ use Rattle.command_parts.specs.Judged.{ImagesAreJudged, IsJudged, TwosAreJudged}
 use Rattle.command_parts.proofs.Algebra.{judged_fast}
 use Rattle.command_parts.specs.declared.firmware.Form.TheVariants.{Alone, Mailbox, Watched}
 use Rattle.run_reports.specs.Inputs.{inputs_reading, plan_in, trace_in}
-use Rattle.run_reports.specs.{LevelRun.levels_in, PostedRun.posts_in, WatchedRun.upsets_in}
-use Rattle.run_reports.specs.Judged.{HandledFilesAreJudged, LevelFilesAreJudged, PostedFilesAreJudged, RunFilesAreJudged}
+use Rattle.run_reports.specs.{TwoLevelRun.levels_in, MailboxRun.posts_in, WatchedRun.upsets_in}
+use Rattle.run_reports.specs.Judged.{HandledFilesAreJudged, TwoLevelFilesAreJudged, MailboxFilesAreJudged, RunFilesAreJudged}
 use Rattle.run_reports.specs.Judged.{PlansAreJudged, TracesAreJudged, WatchedFilesAreJudged}
 use Rattle.run_reports.specs.declared.files.InputFiles.{InputFiles}
 
@@ -104,10 +105,10 @@ upsets_judged texts bytes text = elim (texts bytes text) [
 
 -- ---- run by run
 
-inputs_judged : CertsAreJudged → EachTextIsJudged → EachPlanTextIsJudged → (kind : CertKind) (width : Width) (block : Block)
-    (files : InputFiles) → IsValid block → AreJudged (inputs_reading kind width block files)
-inputs_judged certs traces plans kind width block files valid = (
-  certs kind width block files.cert valid,
+inputs_judged : CertsAreJudged → EachTextIsJudged → EachPlanTextIsJudged → (format : CertFormat) (block : Block)
+    (files : InputFiles) → IsValid block → AreJudged (inputs_reading format block files)
+inputs_judged certs traces plans format block files valid = (
+  certs format block files.cert valid,
   λ errors accepted. (
     trace_judged traces block files.trace,
     λ samples spelled. plan_judged plans files.plan,
@@ -116,11 +117,11 @@ inputs_judged certs traces plans kind width block files valid = (
 
 pub runs_judged : FirmwaresAreJudged → ImagesAreJudged → CertsAreJudged → EachTextIsJudged → EachPlanTextIsJudged
     → RunFilesAreJudged
-runs_judged firmwares images certs traces plans kind width files few = (
-  firmwares (Alone width) files.fcl few,
+runs_judged firmwares images certs traces plans format files few = (
+  firmwares (Alone format.width) files.fcl few,
   λ c gives. (
     images files.image c.firmware.image,
-    λ held is. inputs_judged certs traces plans kind width c.block files.inputs gives.spelled.valid,
+    λ held is. inputs_judged certs traces plans format c.block files.inputs gives.spelled.valid,
   ),
 )
 
@@ -130,18 +131,18 @@ handled_judged firmwares handlers certs traces plans kind files few = (
   firmwares (Alone Byte) files.fcl few,
   λ c gives. (
     handlers files.handler,
-    λ seen is. inputs_judged certs traces plans kind Byte c.block files.inputs gives.spelled.valid,
+    λ seen is. inputs_judged certs traces plans (format_of kind Byte) c.block files.inputs gives.spelled.valid,
   ),
 )
 
-pub posted_judged : FirmwaresAreJudged → ImagesAreJudged → CertsAreJudged → EachTextIsJudged → EachPostsTextIsJudged
-    → PostedFilesAreJudged
-posted_judged firmwares images certs traces posts kind files few = (
+pub mailbox_judged : FirmwaresAreJudged → ImagesAreJudged → CertsAreJudged → EachTextIsJudged → EachPostsTextIsJudged
+    → MailboxFilesAreJudged
+mailbox_judged firmwares images certs traces posts kind files few = (
   firmwares Mailbox files.fcl few,
   λ c gives. (
     images files.image c.firmware.image,
     λ held is. (
-      certs kind Byte c.block files.cert gives.spelled.valid,
+      certs (format_of kind Byte) c.block files.cert gives.spelled.valid,
       λ errors accepted. (
         trace_judged traces c.block files.trace,
         λ samples spelled. posts_judged posts (length samples) files.posts,
@@ -157,7 +158,7 @@ watched_judged firmwares images certs traces plans upsets kind files few = (
   λ c gives. (
     images files.image c.firmware.image,
     λ held is. (
-      certs kind Byte c.block files.inputs.cert gives.spelled.valid,
+      certs (format_of kind Byte) c.block files.inputs.cert gives.spelled.valid,
       λ errors accepted. (
         trace_judged traces c.block files.inputs.trace,
         λ samples spelled. (
@@ -170,16 +171,16 @@ watched_judged firmwares images certs traces plans upsets kind files few = (
 )
 
 pub level_judged : TwosAreJudged → ImagesAreJudged → CertsAreJudged → EachTextIsJudged → EachLevelsTextIsJudged
-    → LevelFilesAreJudged
+    → TwoLevelFilesAreJudged
 level_judged twos images certs traces levels kind files slow_few fast_few = (
   twos files.slow files.fast slow_few fast_few,
   λ c gives. (
     images files.image c.two.image,
     λ held is. (
-      certs kind Byte c.slow files.slow_cert gives.slow_is.spelled.valid,
+      certs (format_of kind Byte) c.slow files.slow_cert gives.slow_is.spelled.valid,
       λ errors accepted. (
-        judged_fast (cert_in kind Byte c.fast files.fast_cert)
-            (certs kind Byte c.fast files.fast_cert gives.fast_is.spelled.valid),
+        judged_fast (cert_in (format_of kind Byte) c.fast files.fast_cert)
+            (certs (format_of kind Byte) c.fast files.fast_cert gives.fast_is.spelled.valid),
         λ fast_errors fast_accepted. (
           trace_judged traces c.slow files.slow_trace,
           λ samples spelled. (

@@ -2,6 +2,6 @@ pub mod Algebra
 pub mod FaultlessRows
 pub mod InputLemmas
 pub mod NearRows
-pub mod PostedAnswers
+pub mod MailboxAnswers
 pub mod ReportLemmas
 pub mod JudgedLemmas

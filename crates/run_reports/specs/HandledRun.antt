@@ -5,6 +5,7 @@ use Rattle.cpu12_asm.specs.declared.image.Image.{Image}
 use Rattle.fuzzy_meaning.specs.declared.block.Block.{Block}
 use Rattle.alone_code.specs.declared.firmware.Firmware.{Firmware}
 use Rattle.box_tree.specs.declared.cert.CertKind.{CertKind}
+use Rattle.box_tree.specs.Texts.{format_of}
 use Rattle.byte_scaling.specs.declared.width.Width.TheVariants.{Byte}
 use Rattle.interrupt_plan.specs.declared.Request.{Request}
 use Rattle.trace_io.specs.{Traces.input_bytes, declared.sample.Sample.Sample}
@@ -33,7 +34,7 @@ abbrev pub handled_reading : CertKind → HandledFiles
 handled_reading kind files =
     firmware_in (Alone Byte) files.fcl then λ c.
     handler_in files.handler then λ seen.
-    inputs_reading kind Byte c.block files.inputs
+    inputs_reading (format_of kind Byte) c.block files.inputs
 
 -- the files are accepted, and give this: an image of HANDLER that is a handler, of at most so many instructions on a
 -- path

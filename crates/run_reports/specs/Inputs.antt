@@ -2,8 +2,7 @@
 -- Beside the promise.
 use Rattle.std.specs.Prelude.{ℕ, List, length, map}
 use Rattle.fuzzy_meaning.specs.declared.block.Block.{Block}
-use Rattle.box_tree.specs.declared.cert.CertKind.{CertKind}
-use Rattle.byte_scaling.specs.declared.width.Width.{Width}
+use Rattle.box_tree.specs.declared.cert.CertFormat.{CertFormat}
 use Rattle.interrupt_plan.specs.{Plans.HasFault as PlanHasFault, Plans.Spells as SpellsPlan, declared.Request.Request}
 use Rattle.trace_io.specs.Traces.{HasFault as TraceHasFault, Spells as SpellsTrace, input_bytes}
 use Rattle.trace_io.specs.declared.sample.Sample.{Sample}
@@ -42,13 +41,13 @@ abbrev pub PlansAreExact : Type 0
 PlansAreExact = (text : List ℕ) → IsExact (plan_in text)
 
 -- CERT, TRACE and PLAN
-abbrev pub inputs_reading : CertKind → Width → Block → InputFiles → Reading (List ℕ × (List Sample × List Request))
-inputs_reading kind width block files =
-    cert_in kind width block files.cert then λ errors.
+abbrev pub inputs_reading : CertFormat → Block → InputFiles → Reading (List ℕ × (List Sample × List Request))
+inputs_reading format block files =
+    cert_in format block files.cert then λ errors.
     trace_in block files.trace then λ seen.
     last (plan_in files.plan)
 
 -- they are accepted, and give this
-abbrev pub AcceptsInputs : CertKind → Width → Block → InputFiles → List ℕ → List Sample → List Request → Type 0
-AcceptsInputs kind width block files errors samples plan =
-    Gives (inputs_reading kind width block files) (errors, (samples, plan))
+abbrev pub AcceptsInputs : CertFormat → Block → InputFiles → List ℕ → List Sample → List Request → Type 0
+AcceptsInputs format block files errors samples plan =
+    Gives (inputs_reading format block files) (errors, (samples, plan))

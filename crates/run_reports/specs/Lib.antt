@@ -3,10 +3,10 @@ pub mod Faultless
 pub mod HandledRun
 pub mod Inputs
 pub mod Laws
-pub mod LevelRun
+pub mod TwoLevelRun
 pub mod Nearness
 pub mod Posted
-pub mod PostedRun
+pub mod MailboxRun
 pub mod Reports
 pub mod RowLines
 pub mod Settled

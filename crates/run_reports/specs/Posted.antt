@@ -30,8 +30,8 @@ ArePostedWithinErrors h b errors samples posted answers = (k : ℕ) (a : Answer)
 
 -- So are a block's answers to samples of a trace, whichever are posted and how often, for each certificate that is
 -- accepted for the block.
-abbrev pub PostedAnswersAreNear : Type 0
-PostedAnswersAreNear = (w : Width) (b : Block) (most : ℕ) (cert : Cert) (errors trace : List ℕ) (samples : List Sample)
+abbrev pub MailboxAnswersAreNear : Type 0
+MailboxAnswersAreNear = (w : Width) (b : Block) (most : ℕ) (cert : Cert) (errors trace : List ℕ) (samples : List Sample)
     (posted : List ℕ) (answers : List Answer)
     → IsValid b → Spells b.inputs trace samples → All (IsOneOf (length samples)) posted
     → AreAnswersOf w b most (λ o. 0) (map (bytes_of (map input_bytes samples)) posted) answers

@@ -12,7 +12,8 @@ abbrev pub PutsLines : List (List ℕ) → Result Output Status → Type 0
 PutsLines lines (Ok output) = seen_output output ≡ only_lines lines
 PutsLines lines (Err s) = s ≡ status.Memory
 
--- Files make at most one output, and then no fault; and where they are accepted, the lines of the run of what they give.
+-- Files make at most one output, and then no fault; and where they are accepted, the lines of the run of what they
+-- give.
 pub record IsSettledRun {B : Type 0} (reading : Reading B) (flags : ℕ) (gives : SeenOutput → Type 0)
     (lines : B → List (List ℕ)) : Type 0 where
   pub settled : IsSettled (made_of reading gives) ((flags < 2 ^ 8) × GivesSome reading)

@@ -5,6 +5,7 @@ use Rattle.fuzzy_meaning.specs.declared.block.Block.{Block}
 use Rattle.watched_code.specs.Watched.{watched_bound}
 use Rattle.alone_code.specs.declared.firmware.Firmware.{Firmware}
 use Rattle.box_tree.specs.declared.cert.CertKind.{CertKind}
+use Rattle.box_tree.specs.Texts.{format_of}
 use Rattle.byte_scaling.specs.declared.width.Width.TheVariants.{Byte}
 use Rattle.trace_io.specs.{Traces.input_bytes, declared.sample.Sample.Sample}
 use Rattle.interrupt_plan.specs.UpsetTexts.{HasUpsetFault, SpellsUpsets}
@@ -45,7 +46,7 @@ abbrev pub watched_reading : CertKind → WatchedFiles
 watched_reading kind files =
     firmware_in Watched files.fcl then λ c.
     image_in files.image c.firmware.image then λ held.
-    cert_in kind Byte c.block files.inputs.cert then λ errors.
+    cert_in (format_of kind Byte) c.block files.inputs.cert then λ errors.
     trace_in c.block files.inputs.trace then λ seen.
     plan_in files.inputs.plan then λ plan.
     last (upsets_in c.firmware.image.bytes files.upsets)

@@ -28,7 +28,7 @@ pub struct HandledFiles<'a> {
 
 /// The files of a run of two blocks at two levels.
 #[derive(Drop)]
-pub struct LevelFiles<'a> {
+pub struct TwoLevelFiles<'a> {
     pub slow: Content<'a>,
     pub fast: Content<'a>,
     pub image: Content<'a>,
@@ -41,7 +41,7 @@ pub struct LevelFiles<'a> {
 
 /// The files of a run of a firmware in the mailbox form.
 #[derive(Drop)]
-pub struct PostedFiles<'a> {
+pub struct MailboxFiles<'a> {
     pub fcl: Content<'a>,
     pub image: Content<'a>,
     pub cert: Content<'a>,

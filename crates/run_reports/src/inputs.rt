@@ -8,8 +8,7 @@ ghost use Rattle.command_parts.specs.Readings.{IsRefused};
 ghost use Rattle.run_reports.specs.Inputs.{AcceptsInputs, inputs_reading, plan_refusals, trace_refusals};
 
 use crate::files::InputFiles;
-use box_tree::CertKind;
-use byte_scaling::Width;
+use box_tree::CertFormat;
 use command_parts::certs::errors_under;
 use command_parts::contents::Content;
 use fuzzy_meaning::Block;
@@ -32,17 +31,16 @@ pub struct Inputs {
 /// What CERT, TRACE and PLAN give, or the first fault in their order.
 pub fn inputs_of(
     alloc: Global,
-    kind: CertKind,
-    width: Width,
+    format: CertFormat,
     block: &Block,
     files: &InputFiles,
 ) -> Result<Inputs, Status>
     requires { IsValid block.now }
     ensures inputs { IfOk result (λ i.
-        AcceptsInputs kind width block.now files.now i.errors.items i.samples.items i.plan) }
-    ensures fault { IfErr result (IsRefused (inputs_reading kind width block.now files.now)) }
+        AcceptsInputs format block.now files.now i.errors.items i.samples.items i.plan) }
+    ensures fault { IfErr result (IsRefused (inputs_reading format block.now files.now)) }
 {
-    let errors = errors_under(alloc, kind, width, block, &files.cert)?;
+    let errors = errors_under(alloc, format, block, &files.cert)?;
     let samples = samples_of(alloc, block, &files.trace)?;
     let plan = plan_of(alloc, &files.plan)?;
     Ok(Inputs {

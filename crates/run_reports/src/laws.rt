@@ -2,10 +2,10 @@
 ghost use Rattle.run_reports.specs.Laws.{AnswersAreReported, AnswersKeepTheBound, SpelledBytesFit};
 ghost use Rattle.run_reports.specs.Laws.{SpelledTracesAreShort};
 ghost use Rattle.run_reports.specs.{Nearness.AnswersAreWithinErrors, Faultless.FaultlessAnswersAreNear};
-ghost use Rattle.run_reports.specs.Judged.{HandledFilesAreJudged, LevelFilesAreJudged, PostedFilesAreJudged};
+ghost use Rattle.run_reports.specs.Judged.{HandledFilesAreJudged, TwoLevelFilesAreJudged, MailboxFilesAreJudged};
 ghost use Rattle.run_reports.specs.Judged.{PlansAreJudged, RunFilesAreJudged, TracesAreJudged};
 ghost use Rattle.run_reports.specs.Judged.{WatchedFilesAreJudged};
-ghost use Rattle.run_reports.specs.{Inputs.PlansAreExact, Inputs.TracesAreExact, Posted.PostedAnswersAreNear};
+ghost use Rattle.run_reports.specs.{Inputs.PlansAreExact, Inputs.TracesAreExact, Posted.MailboxAnswersAreNear};
 
 use command_parts::laws::{
     certs_are_judged, firmwares_are_judged, handlers_are_judged, images_are_judged, twos_are_judged,
@@ -73,8 +73,8 @@ pub fn faultless_answers_are_near()
 
 /// Under each accepted certificate, a block's answer to a posted sample of a trace is within its errors
 /// of the exact answer, which depends on the samples answered so far, in the order they were answered.
-pub fn posted_answers_are_near()
-    ensures { PostedAnswersAreNear }
+pub fn mailbox_answers_are_near()
+    ensures { MailboxAnswersAreNear }
 {
     cert_check::laws::accepted_answers_are_near();
 }
@@ -116,8 +116,8 @@ pub fn handled_files_are_judged()
 }
 
 /// Each file of `mrun` does.
-pub fn posted_files_are_judged()
-    ensures { PostedFilesAreJudged }
+pub fn mailbox_files_are_judged()
+    ensures { MailboxFilesAreJudged }
 {
     firmwares_are_judged();
     images_are_judged();
@@ -138,8 +138,8 @@ pub fn watched_files_are_judged()
 }
 
 /// Each file of `lrun` does.
-pub fn level_files_are_judged()
-    ensures { LevelFilesAreJudged }
+pub fn two_level_files_are_judged()
+    ensures { TwoLevelFilesAreJudged }
 {
     twos_are_judged();
     images_are_judged();

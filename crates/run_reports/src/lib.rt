@@ -1,6 +1,6 @@
 //! What the commands that run firmware share: the files CERT, TRACE and PLAN ([`inputs`]), what a report of a run
-//! states (`IsReportOf`), what the output of each such command states (`CertifiedRun`, `HandledRun`, `LevelRun`,
-//! `PostedRun` and `WatchedRun`), the lines of samples, answers and frames ([`row_lines`]), and laws of these, such
+//! states (`IsReportOf`), what the output of each such command states (`CertifiedRun`, `HandledRun`, `TwoLevelRun`,
+//! `MailboxRun` and `WatchedRun`), the lines of samples, answers and frames ([`row_lines`]), and laws of these, such
 //! as how far the answers are from the exact ones ([`laws`]).
 //!
 //! [`inputs::inputs_of`] returns what CERT, TRACE and PLAN give ([`inputs::Inputs`]), or the first fault in the order

@@ -105,7 +105,7 @@ resumed 0
 };
 
 #[test]
-fn posted_runs(rt: HostRuntime) -> Result<(), Fail> {
+fn mailbox_runs_serve(rt: HostRuntime) -> Result<(), Fail> {
     run_each(rt.alloc(), "mrun", &RUNS)?;
     run_each(rt.alloc(), "tmrun", &TIGHT_RUNS)?;
     Ok(())

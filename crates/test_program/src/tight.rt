@@ -71,44 +71,7 @@ static OTHERS: [Search; 14] = rows! { Search:
 
 /// A fan depends on warmth and dark, and a lamp on dark alone, so that the lamp can have a third of the fan's error.
 const ROOM: Search = Search {
-    fcl: &[
-        "FUNCTION_BLOCK room
-VAR_INPUT warmth, dark : REAL; END_VAR
-VAR_OUTPUT fan, lamp : REAL; END_VAR
-FUZZIFY warmth RANGE := (0 .. 32);
-TERM cool := (8, 1) (16, 0);
-TERM mild := (8, 0) (16, 1) (24, 0);
-TERM hot := (16, 0) (24, 1);
-END_FUZZIFY
-FUZZIFY dark RANGE := (0 .. 1);
-TERM day := (0, 1) (1, 0);
-TERM night := (0, 0) (1, 1);
-END_FUZZIFY
-DEFUZZIFY fan RANGE := (0 .. 100);
-TERM off := 0;
-TERM half := 50;
-TERM full := 100;
-METHOD : COGS;
-DEFAULT := 0;
-END_DEFUZZIFY
-DEFUZZIFY lamp RANGE := (0 .. 100);
-TERM out := 0;
-TERM lit := 80;
-METHOD : COGS;
-DEFAULT := 0;
-END_DEFUZZIFY
-RULEBLOCK rules
-RULE 1 : IF warmth IS cool THEN fan IS off;
-RULE 2 : IF warmth IS mild AND dark IS day THEN fan IS half;
-RULE 3 : IF warmth IS mild AND dark IS night THEN fan IS off;
-RULE 4 : IF warmth IS hot AND dark IS day THEN fan IS full;
-RULE 5 : IF warmth IS hot AND dark IS night THEN fan IS half;
-RULE 6 : IF dark IS day THEN lamp IS out;
-RULE 7 : IF dark IS night THEN lamp IS lit;
-END_RULEBLOCK
-END_FUNCTION_BLOCK
-",
-    ],
+    fcl: &[test_texts::ROOM],
     target: "19898,6250",
     left: Left::Lines("error 1 19898\nerror 2 6250\nleaves 357\n"),
     out: None,

@@ -1,6 +1,5 @@
 //! The workload of a number, against draws that were worked out separately.
-use box_tree::CertKind::Tight;
-use byte_scaling::Width::Byte;
+use box_tree::CertFormat;
 use cpu12_isa::instr::Write;
 use error_certifier::{NotReached, certify_for};
 use fz_num::Dec;
@@ -62,11 +61,11 @@ fn a_workload_is_halved_to_cells(rt: HostRuntime) -> Result<(), Fail> {
     let block = generate(alloc, 7)?.block;
     for (target, error, leaves) in HALVED.iter() {
         assert!(rt; *target <= 1_000_000);
-        let cert = certify_for(alloc, &block, *target, Tight, Byte)?;
+        let cert = certify_for(alloc, CertFormat::TIGHT, &block, *target)?;
         assert!(rt; cert.claims.as_slice() == [*error].as_slice());
         assert!(rt; cert.nodes.len() == 2 * *leaves - 1);
     }
-    match certify_for(alloc, &block, 66_176, Tight, Byte) {
+    match certify_for(alloc, CertFormat::TIGHT, &block, 66_176) {
         Err(NotReached::Cell(bytes, output, bound)) => {
             assert!(rt; bytes.as_slice() == [32, 0].as_slice());
             assert!(rt; output == 1 && bound == 66_177);

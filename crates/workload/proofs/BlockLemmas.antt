@@ -5,9 +5,9 @@ use Rattle.std.proofs.lemmas.List.Concat.{length-flat_map}
 use Rattle.std.specs.List.{range_with_len}
 use Rattle.std.specs.Prelude.{false, flat_map}
 use Rattle.fuzzy_meaning.specs.declared.block.Rule.{Rule}
-use Rattle.rule_layout.specs.declared.{flat.Conjunction.Conjunction, flat.Form.Form, flat.Slot.Slot}
-use Rattle.rule_layout.specs.declared.flat.Form.TheVariants.{Rev, Revw}
-use Rattle.rule_layout.specs.Layouts.{conjunction_count, conjunctions_of, element_width, form_of, list_size}
+use Rattle.rule_layout.specs.declared.{flat.Conjunction.Conjunction, flat.RuleInstruction.RuleInstruction, flat.Slot.Slot}
+use Rattle.rule_layout.specs.declared.flat.RuleInstruction.TheVariants.{Rev, Revw}
+use Rattle.rule_layout.specs.Layouts.{conjunction_count, conjunctions_of, element_width, instruction_of, list_size}
 use Rattle.rule_layout.specs.Layouts.{conjunction_of, rule_conjunctions, rule_spread}
 use Rattle.rule_layout.specs.{Lists.marked, Slots.slots_of, Spreading.literal}
 use Rattle.workload.specs.{Blocks.drawn_block, Blocks.drawn_rule, Blocks.drawn_rules, Laws.DrawnBlocksAreWithinLimits}
@@ -40,7 +40,7 @@ list_length s e shift slots from (suc n) =
     let concluded : length c.conclusions ≡ 1 = refl in
     omega (arith, more, concluded, list_length s e shift slots (from + 1) n)
 
-few_wide : (form : Form) → element_width form ≤ 2
+few_wide : (instruction : RuleInstruction) → element_width instruction ≤ 2
 few_wide Rev = omega arith
 few_wide Revw = omega arith
 
@@ -48,7 +48,7 @@ size_is_small : (shift : ℕ) → list_size (drawn_block shift) ≤ 9984
 unfolding list_size conjunctions_of drawn_rules
 size_is_small shift =
     let b = drawn_block shift in
-    small (element_width (form_of b)) _ (few_wide (form_of b)) (list_length 0xFE 0xFF shift (slots_of b) 0 81)
+    small (element_width (instruction_of b)) _ (few_wide (instruction_of b)) (list_length 0xFE 0xFF shift (slots_of b) 0 81)
   where
     small : (w n : ℕ) → w ≤ 2 → n ≤ 405 → w * n ≤ 9984
     small zero n few short = omega arith

@@ -10,7 +10,7 @@ returns c =
     let two = both.two in
     let gives = c.in_ok-both.ensures.gives in
     let slow_bounds = c.alone_has_byte_bounds.ensures both.slow two.slow gives.both.slow_alone in
-    let fast_bounds = c.alone_has_byte_bounds.ensures both.fast two.fast gives.both.fast_alone in
+    let fast_bounds = gives.both.fast_is in
     let bytes = length two.image.bytes in
     written_makes (LcompileMakes c.args.slow.now c.args.fast.now) two.image 4 c.in_ok-lines.lines.items
     c.written_image.result c.written_image.ensures.writes c.written_image.ensures.memory (λ output w. record {

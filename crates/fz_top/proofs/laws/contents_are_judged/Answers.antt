@@ -1,6 +1,6 @@
 use Rattle.command_parts.specs.Contents.{content_at}
 use Rattle.run_commands.specs.{Debug.debug_files, Run.files_in}
-use Rattle.form_commands.specs.{Hrun.handled_files, Lrun.level_files, Mrun.posted_files, Srun.watched_files}
+use Rattle.form_commands.specs.{Hrun.handled_files, Lrun.two_level_files, Mrun.mailbox_files, Srun.watched_files}
 use Rattle.fz_top.specs.Commands.{Makes}
 use Rattle.fz_top.specs.declared.command.Command.TheVariants as command
 use Rattle.fz_top.proofs.ContentLemmas.{length-content}
@@ -25,9 +25,9 @@ returns c (command.Hrun run) contents flags targets few =
 returns c command.Lcompile contents flags targets few =
     c.lcompile_is_judged.ensures (content_at contents 0) (content_at contents 1) (length-content contents 0 few) (length-content contents 1 few)
 returns c (command.Lrun run) contents flags targets few =
-    c.lrun_is_judged.ensures run (level_files contents) flags (length-content contents 0 few) (length-content contents 1 few)
+    c.lrun_is_judged.ensures run (two_level_files contents) flags (length-content contents 0 few) (length-content contents 1 few)
 returns c (command.Mrun run) contents flags targets few =
-    c.mrun_is_judged.ensures run (posted_files contents) flags (length-content contents 0 few)
+    c.mrun_is_judged.ensures run (mailbox_files contents) flags (length-content contents 0 few)
 returns c (command.Run run) contents flags targets few =
     c.run_is_judged.ensures run (files_in contents) flags (length-content contents 0 few)
 returns c (command.Srun run) contents flags targets few =

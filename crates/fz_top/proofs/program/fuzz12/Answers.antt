@@ -9,12 +9,14 @@ use Rattle.fz_top.proofs.program.fuzz12.Goals as goal
 
 pub returns-clause-settled : goal.returns-clause-settled
 returns-clause-settled g c = λ command contents is known.
-    settles (texts_of c.args.words.now) _ _ command contents is known _ c.run-status.ensures.runs
+    settles (texts_of c.args.words.now) _ _ command contents is known
+    (c.contents_have_one_result.ensures command contents) _ c.run-status.ensures.runs
 
 pub returns-clause-complete : goal.returns-clause-complete
 returns-clause-complete g c = λ s o command contents ready.
     let run = c.run-status.ensures in
-    completes (texts_of c.args.words.now) _ _ command contents ready.is ready.known _ run.runs
+    completes (texts_of c.args.words.now) _ _ command contents ready.is ready.known
+    (c.contents_have_one_result.ensures command contents) _ run.runs
     (run.reads_steady s command ready.is (known_there _ _ contents ready.known))
     (run.writes_steady s o command contents ready)
 
@@ -36,7 +38,8 @@ returns-clause-done g c = λ command contents can why.
     let run = c.run-status.ensures in
     let byte = byte_flags words command can.is in
     let made = c.commands_are_settled.ensures command contents in
-    let ends = does words _ _ command contents can.is can.known made.no_fault (made.some (byte, can.accepted)) _
+    let one = c.contents_have_one_result.ensures command contents in
+    let ends = does words _ _ command contents can.is can.known one made.no_fault (made.some (byte, can.accepted)) _
     run.runs in
     elim why [
       | inl none ↦ ends (no_read_fault words _ _ none _ run.runs) (no_write_fault words _ _ none _ run.runs)
@@ -58,11 +61,11 @@ returns-clause-others g c =
     ok_serves c.other_runs_serve.ensures (texts_of c.args.words.now) _ _ _ c.run-status.ensures.runs
 
 pub returns-clause-accepted : goal.returns-clause-accepted
-returns-clause-accepted g c = λ kind width flags files are told accepted why.
+returns-clause-accepted g c = λ format flags files are told accepted why.
     let words = texts_of c.args.words.now in
     let byte = flags_small (word_at words 7) flags are.run.flags_are in
     let keep = c.certified_runs_keep_promise.ensures in
-    let given = c.accepted_files_give_firmware.ensures kind width files accepted in
-    returns-clause-done g c (asked kind width flags) (contents_of files)
-    (can words kind width flags files _ are told given)
-    (⊎_elim inl (λ r. inr (r.0.0, r.0.1, room_for keep words kind width flags files _ _ byte r.1)) why)
+    let given = c.accepted_files_give_firmware.ensures format files accepted in
+    returns-clause-done g c (asked format flags) (contents_of files)
+    (can words format flags files _ are told given)
+    (⊎_elim inl (λ r. inr (r.0.0, r.0.1, room_for keep words format flags files _ _ byte r.1)) why)

@@ -7,7 +7,7 @@ returns c =
     let file = Some (4, c.in_ok-text.text.items) in
     let written : List (List ℕ) → SeenOutput = λ ls. record { lines = ls; file = file } in
     record {
-      block = c.in_ok-block.field-0.block;
+      block = c.in_ok-block.block;
       gives = c.in_ok-block.ensures.gives;
       cert = c.in_ok-cert.cert;
       halving = rw c.get.ensures.value at c.in_ok-cert.ensures.halving;

@@ -1,4 +1,4 @@
-use Rattle.form_commands.proofs.Words.{◌∙◌, ap, mrun_lines, only_lines, posted_report}
+use Rattle.form_commands.proofs.Words.{◌∙◌, ap, mrun_lines, only_lines, mailbox_report}
 use Rattle.form_commands.proofs.mrun.Accepted.output.Goals as goal
 
 pub returns : goal.returns
@@ -8,5 +8,5 @@ returns c =
     let frames = rw c.deref.ensures.value at c.in_ok-told.ensures.frames in
     let resumed = rw c.deref.ensures.value at c.in_ok-told.ensures.resumed in
     ap only_lines ((rw c.deref-2.ensures.value at c.in_ok-lines.ensures)
-    ∙ (λ i. mrun_lines (posted_report a.errors.items a.compiled.firmware.instr_bound (answers i) (frames i)
+    ∙ (λ i. mrun_lines (mailbox_report a.errors.items a.compiled.firmware.instr_bound (answers i) (frames i)
     (resumed i))))

@@ -1,4 +1,4 @@
-use Rattle.run_commands.proofs.Words.{◌∙◌, ◌≡◌, Alone, ap, ap₂, Block, Byte, generate_lines, generated_target}
+use Rattle.run_commands.proofs.Words.{◌∙◌, ◌≡◌, Alone, ap, ap₂, Block, Byte, format_of, generate_lines, generated_target}
 use Rattle.run_commands.proofs.Words.{GenerateMakes, GivesFirmware, List, map, Named, only_lines, refl, report_of}
 use Rattle.run_commands.proofs.Words.{Row, row_seen, rules, Status, StopsHalving, subst, sym, target_refusals, ℕ}
 use Rattle.fz_status.specs.{Refusals.IsRefusal}
@@ -17,11 +17,11 @@ compiled-requires-clause-limits c =
 
 -- where halving stops at the block, it stops at the one that is drawn
 stopped : (number : ℕ) (block : Block) → block ≡ drawn_block (draw number 0 5) → (s : Status)
-    → IsRefusal (target_refusals Named Byte generated_target block) s
+    → IsRefusal (target_refusals (format_of Named Byte) generated_target block) s
     → IsFaultOf (GenerateMakes (generate_with number)) s
 stopped number block same status.Memory r = tt
 stopped number block same (status.NotReached stop) r =
-    (r.0, subst (λ (b : Block). StopsHalving Named Byte generated_target b stop) same r.1)
+    (r.0, subst (λ (b : Block). StopsHalving (format_of Named Byte) generated_target b stop) same r.1)
 stopped number block same s r = absurd r.1
 
 pub returns-in_err-cert : goal.returns-in_err-cert

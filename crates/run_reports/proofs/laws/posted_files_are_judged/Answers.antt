@@ -1,6 +1,0 @@
-use Rattle.run_reports.proofs.JudgedLemmas.{posted_judged}
-use Rattle.run_reports.proofs.laws.posted_files_are_judged.Goals as goal
-
-pub returns : goal.returns
-returns c = posted_judged c.firmwares_are_judged.ensures c.images_are_judged.ensures c.certs_are_judged.ensures
-    c.each_text_is_judged.ensures c.each_text_is_judged-2.ensures.posts
