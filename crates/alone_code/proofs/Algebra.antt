@@ -1,6 +1,3 @@
--- The plain algebra of addresses that are hidden or free, of SP, of a word in memory, and of a firmware's parts, which
--- the crates above use.
-pub use Rattle.alone_code.proofs.runs.Stepping.{high_shown, sp_near, in_room}
-pub use Rattle.alone_code.proofs.runs.Framing.{pushed_word, pushed_bytes}
-pub use Rattle.alone_code.proofs.runs.Law.{not_free, main_apart, main_in_order}
-pub use Rattle.alone_code.proofs.Parts.{alone_is, alone_with, firmware_with, of_parts}
+-- The plain algebra of the memory map of a firmware that stands alone, and of its parts, which the crates above use.
+pub use Rattle.alone_code.proofs.runs.Law.{main_apart, main_in_order}
+pub use Rattle.alone_code.proofs.Parts.{alone_is, alone_with}

@@ -1,5 +1,4 @@
 pub mod runs
-pub mod turns
 pub mod AlikeLemmas
 pub mod Algebra
 pub mod Parts

@@ -1,37 +1,21 @@
 -- What a firmware that stands alone answers, and what is known at each of its instructions.
 -- Beside the promise.
-use Rattle.std.specs.Prelude.{◌≡◌, ℕ, ◌^◌, ◌<◌, ◌≤◌, Bool, true, false, List, [], ◌∷◌, length, All, slice_index}
-use Rattle.std.specs.Prelude.{slice_set}
+use Rattle.std.specs.Prelude.{◌≡◌, ℕ, ◌^◌, ◌<◌, ◌≤◌, Bool, true, List, [], ◌∷◌, length, All, slice_index}
 use Rattle.fuzzy_meaning.specs.{declared.block.Block.Block, Blocks.IsValid}
 use Rattle.rule_layout.specs.Layouts.{IsWithinLimits}
-use Rattle.cpu12_isa.specs.{Agreement.Agree, Regions.stack_start, Regions.stack_end, Regions.is_free}
+use Rattle.cpu12_isa.specs.{Agreement.Agree, Regions.is_free}
 use Rattle.cpu12_parts.specs.{State.State, Whole.PlainExecution, Executions.Execution, Executions.all_steps}
 use Rattle.cpu12_emul.specs.{Image.image_memory, Step.reset_with}
 use Rattle.eval_code.specs.declared.memory_map.MemoryMap.{MemoryMap}
-use Rattle.eval_code.specs.{Widths.answer, Evaluation.put, Evaluation.Reads, Evaluation.Writes, Evaluation.HasAnswers}
+use Rattle.eval_code.specs.{Widths.answer, Evaluation.HasAnswers, Bounds.steps_by, Firing.AreInputBytes}
 use Rattle.byte_scaling.specs.declared.width.Width.{Width}
-use Rattle.eval_code.specs.{Bounds.steps_by, MemoryMaps.main_map, Firing.AreInputBytes}
-use Rattle.alone_code.specs.{declared.firmware.Firmware.Firmware, Firmwares.IsFirmwareOf}
-use Rattle.alone_code.specs.Interruptible.{is_idle, IsInterruptible, IsInterruptibleStep}
+use Rattle.firmware_code.specs.declared.firmware.Firmware.{Firmware}
+use Rattle.firmware_code.specs.Arrivals.{given, IsArrived, IsArrivedBeside, LeavesMapped}
+use Rattle.firmware_code.specs.Interruptible.{is_idle, IsInterruptible, IsInterruptibleStep}
+use Rattle.alone_code.specs.Firmwares.{IsFirmwareOf}
 
--- the first arrival where the code waits, by three plain instructions from reset, beside handlers to which these bytes
--- are open
-pub record IsArrivedBeside (open_to : ℕ → Bool) (l : MemoryMap) (image : List ℕ) (flags : ℕ) (s : State) : Type 0 where
-  pub execution : PlainExecution flags l.wait 3 (reset_with image) s
-  pub wait : s.regs.pc ≡ l.wait
-  pub idle : is_idle l s ≡ true
-  pub interruptible : IsInterruptible open_to image s
-
--- so it is beside handlers to which the free bytes are open
-abbrev pub IsArrived : MemoryMap → List ℕ → ℕ → State → Type 0
-IsArrived = IsArrivedBeside is_free
-
--- a sample's bytes and READY are written
-abbrev pub given : MemoryMap → List ℕ → State → State
-given l bytes s = record s { mem = slice_set (put s.mem l.samples bytes) l.sample_flag 1 }
-
--- From there at most so many whole instructions lead to where the code waits again, with the answers after those
--- before, and no more steps than that says.
+-- From where a sample is given at most so many whole instructions lead to where the code waits again, with the answers
+-- after those before, and no more steps than that says.
 pub record IsAnsweredBeside (open_to : ℕ → Bool) (l : MemoryMap) (b : Block) (w : Width) (most : ℕ) (image : List ℕ)
     (flags : ℕ) (before : ℕ → ℕ) (bytes : List ℕ) (s t : State) : Type 0 where
   pub ds : List ℕ
@@ -62,20 +46,6 @@ AnswersFrom b f = (flags : ℕ) (samples : List (List ℕ)) → flags < 2 ^ 8 �
 -- The firmware of a block does.
 abbrev pub FirmwareAnswers : Type 0
 FirmwareAnswers = (b : Block) (f : Firmware) → IsValid b → IsWithinLimits b → IsFirmwareOf b f → AnswersFrom b f
-
--- What is open to handlers leaves a memory map alone: it is neither what EVAL reads and writes, nor the stack, nor
--- between the first byte of the code and the tables, nor the reset vector.
-pub record LeavesMapped (open_to : ℕ → Bool) (l : MemoryMap) : Type 0 where
-  pub ready : open_to l.sample_flag ≡ false
-  pub reads : (at : ℕ) → Reads l at → open_to at ≡ false
-  pub writes : (at : ℕ) → Writes l at → open_to at ≡ false
-  pub stack : (at : ℕ) → stack_start ≤ at → at < stack_end → open_to at ≡ false
-  pub code : (at : ℕ) → l.code ≤ at → at < l.tables → open_to at ≡ false
-  pub reset : (at : ℕ) → 0xFFFE ≤ at → at < 2 ^ 16 → open_to at ≡ false
-
--- So do the free bytes.
-abbrev pub FreeBytesLeave : Type 0
-FreeBytesLeave = LeavesMapped is_free main_map
 
 -- The same beside handlers to which more is open.
 abbrev pub AnswersBeside : (ℕ → Bool) → Block → Firmware → Type 0

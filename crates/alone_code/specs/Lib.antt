@@ -1,15 +1,4 @@
-pub mod Code
-pub mod Images
 pub mod Firmwares
 pub mod Laws
-pub mod Interruptible
-pub mod Settings
-pub mod Calls
-pub mod Standing
-pub mod Frames
-pub mod Alike
 pub mod Answers
 pub mod Uninterrupted
-pub mod Mailboxes
-pub mod Turns
-pub mod SampleTurns

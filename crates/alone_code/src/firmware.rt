@@ -1,39 +1,20 @@
-//! Firmware.
-ghost use Rattle.std.specs.Prelude.{◌≡◌, ◌<◌, ◌^◌, length, IfOk, IfErr, OnOk};
+//! The firmware that stands alone.
+ghost use Rattle.std.specs.Prelude.{◌≡◌, IfOk, IfErr, OnOk};
 ghost use Rattle.fuzzy_meaning.specs.Blocks.{IsValid};
 ghost use Rattle.rule_layout.specs.Layouts.{IsWithinLimits, IsFaultOf};
-ghost use Rattle.cpu12_asm.specs.Items.{IsRising};
-ghost use Rattle.alone_code.specs.{Images.IsImageOf, Firmwares.IsFirmwareOf, Answers.AnswersFrom};
-ghost use Rattle.alone_code.specs.Uninterrupted.{AnswersUninterrupted};
+ghost use Rattle.firmware_code.specs.Uninterrupted.{AnswersUninterrupted};
+ghost use Rattle.alone_code.specs.{Firmwares.IsFirmwareOf, Answers.AnswersFrom};
 ghost use Rattle.byte_scaling.specs.declared.width.Width.TheVariants.{Byte, Word};
 
 use crate::items::firmware_items;
 use crate::laws::{firmware_answers, firmware_is_uninterrupted};
 use byte_scaling::Width;
-use cpu12_asm::{AsmFault, Image, Item, assemble_items};
 use eval_code::laws::blocks_are_placed;
 use eval_code::{MemoryMap, instruction_bound, steps_by};
+use firmware_code::{Firmware, image_of};
 use fuzzy_meaning::Block;
 use rule_layout::{LaidOut, LayoutFault, spread};
 use std::alloc::{AllocError, Global};
-
-/// The firmware of a block.
-#[derive(Drop)]
-pub struct Firmware {
-    /// The bytes of its memory, and where it starts.
-    pub image: Image,
-    /// The addresses of its parts.
-    pub memory_map: MemoryMap,
-    pub inputs: u8,
-    pub outputs: u8,
-    /// How wide an answer is: a byte, or two, the high one first.
-    pub width: Width,
-    /// The most instructions that a sample takes, REV, REVW and WAV counting as one each.
-    pub instr_bound: u32,
-    /// The most steps that a sample takes: an element of REV, REVW or WAV is a step, as is any
-    /// other instruction.
-    pub step_bound: u32,
-}
 
 /// The firmware of a block that answers bytes, and stands alone in memory. It is refused exactly where the block's
 /// rules are: where they spread into more than 512 conjunctions, or into a list of more than 9984 bytes.
@@ -72,22 +53,6 @@ pub fn compile16(alloc: Global, block: &Block) -> Result<Firmware, LayoutFault>
     ensures fault { IfErr result (IsFaultOf block.now) }
 {
     compile_for(alloc, Width::Word, block)
-}
-
-/// The image of items with ascending addresses.
-pub fn image_of(alloc: Global, items: &[Item]) -> Result<Image, AllocError>
-    requires few { length items.now < 2 ^ 32 }
-    requires rising { IsRising items.now }
-    ensures { IfOk result (IsImageOf items.now) }
-{
-    match assemble_items(alloc, items) {
-        Ok(image) => Ok(image),
-        Err(fault) => {
-            let is_memory = matches!(&fault, AsmFault::Memory);
-            prove!(is_memory);
-            Err(AllocError)
-        }
-    }
 }
 
 /// The same with answers of the given width.

@@ -6,7 +6,7 @@ use Rattle.cpu12_parts.specs.State.{State}
 use Rattle.run_law.specs.{Following.AllComplete, Uninterrupted.uninterrupted}
 use Rattle.run_forms.specs.Forms.{FormParts, plan_form}
 use Rattle.eval_code.specs.{declared.memory_map.MemoryMap.MemoryMap, MemoryMaps.main_map, Firing.AreInputBytes}
-use Rattle.alone_code.specs.{declared.firmware.Firmware.Firmware, Answers.LeavesMapped}
+use Rattle.firmware_code.specs.{declared.firmware.Firmware.Firmware, Arrivals.LeavesMapped}
 use Rattle.firmware_runs.specs.Ports.{given}
 use Rattle.alone_runs.specs.{Forms.stand_alone, Forms.with_writes, OpenBytes.AreOpenAlike, OpenBytes.GivenLeavesOpen}
 pub use Rattle.alone_runs.proofs.OpenBytes.{sp_of, step_left}

@@ -11,19 +11,20 @@ use Rattle.cpu12_isa.specs.Regions.{is_free}
 use Rattle.cpu12_parts.specs.{State.State, Executions.all_steps}
 use Rattle.cpu12_emul.specs.{Image.image_memory, Step.reset_with}
 use Rattle.interrupt_plan.specs.{declared.Request.Request, Plans.IsGood}
-use Rattle.alone_code.specs.{declared.firmware.Firmware.Firmware, Interruptible.is_idle}
-use Rattle.alone_code.specs.{Interruptible.IsInterruptible}
+use Rattle.firmware_code.specs.{declared.firmware.Firmware.Firmware, Interruptible.is_idle}
+use Rattle.firmware_code.specs.Interruptible.{IsInterruptible}
 use Rattle.eval_code.specs.{declared.memory_map.MemoryMap.MemoryMap, MemoryMaps.main_map, Widths.answer}
 use Rattle.eval_code.specs.Bounds.{instruction_bound, steps_by, step_bound}
 use Rattle.byte_scaling.specs.{Widths.places, declared.width.Width.Width, declared.width.Width.TheVariants.Byte}
 use Rattle.byte_scaling.specs.declared.width.Width.TheVariants.{Word}
-use Rattle.alone_code.specs.Answers as answers
+use Rattle.firmware_code.specs.Arrivals as arrivals
 use Rattle.cpu12_isa.specs.{declared.instr.Regs.Regs, Agreement.Agree}
-use Rattle.alone_code.specs.Answers.{LeavesMapped, IsArrivedBeside, FirmwareAnswersBeside, ArrivesAlike}
-use Rattle.alone_code.specs.Answers.{FirmwareArrivesAlike, IsArrived, AreAnswered, IsAnsweredBeside}
-use Rattle.alone_code.specs.Answers.{AreAnsweredBeside}
+use Rattle.firmware_code.specs.Arrivals.{LeavesMapped, IsArrivedBeside, IsArrived}
+use Rattle.alone_code.specs.Answers.{FirmwareAnswersBeside, ArrivesAlike, FirmwareArrivesAlike, AreAnswered}
+use Rattle.alone_code.specs.Answers.{IsAnsweredBeside, AreAnsweredBeside}
 use Rattle.alone_code.specs.Firmwares.{IsFirmwareOf}
-use Rattle.alone_code.specs.Uninterrupted.{Answer, values_in, answers_by, AreUninterrupted, AreAnswersOf}
+use Rattle.firmware_code.specs.Uninterrupted.{Answer, values_in, AreUninterrupted, AreAnswersOf}
+use Rattle.alone_code.specs.Uninterrupted.{answers_by}
 use Rattle.eval_code.specs.Firing.{AreInputBytes}
 use Rattle.run_law.specs.{Forms.RowSeen, Forms.rows_from, Uninterrupted.uninterrupted, Uninterrupted.counted}
 use Rattle.run_law.specs.Following.{Completes, AllComplete, AllWithin}
@@ -70,7 +71,7 @@ went : ExecutionLaws → (open_to : ℕ → Bool) (b : Block) (w : Width) (most 
 went laws open_to b w most image flags before bytes s t hf l a =
     subst (λ (u : State). AreSteps (IsServing open_to main_map image flags) flags a.ds u t)
     (sym (laws.given_is_put main_map bytes s (omega arith)))
-    (laws.steps open_to main_map image flags a.ds (answers.given main_map bytes s) t hf a.execution)
+    (laws.steps open_to main_map image flags a.ds (arrivals.given main_map bytes s) t hf a.execution)
 
 sampled : ExecutionLaws → (open_to : ℕ → Bool) (f : Firmware) (n : ℕ) (b : Block) (w : Width) (most : ℕ) (flags : ℕ)
     (before : ℕ → ℕ) (bytes : List ℕ) (s t : State) → flags < 2 ^ 8 → length bytes ≤ 8

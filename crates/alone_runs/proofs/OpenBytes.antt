@@ -14,8 +14,8 @@ use Rattle.cpu12_emul.specs.Step.{Left, Next, step_act, applied, next_of}
 use Rattle.cpu12_emul.specs.Simulation.{OnStackOrNone, Simulates, AreSumsReady, HasRoom, IsShownStep, StepAgrees}
 use Rattle.cpu12_emul.specs.Simulation.{WavrGoesOn}
 use Rattle.run_law.specs.Uninterrupted.{stepped, state_by}
-use Rattle.alone_code.specs.Interruptible.{IsStackOfOneCall}
-use Rattle.alone_code.proofs.Algebra.{sp_near}
+use Rattle.firmware_code.specs.Interruptible.{IsStackOfOneCall}
+use Rattle.firmware_code.proofs.Algebra.{sp_near}
 use Rattle.firmware_runs.specs.Facts.{Facts}
 use Rattle.alone_runs.specs.OpenBytes.{AreOpenAlike, StepsLeaveOpen, GivenLeavesOpen}
 use Rattle.run_forms.proofs.Algebra.{placed_in}

@@ -7,7 +7,7 @@ use Rattle.cpu12_parts.specs.State.{State}
 use Rattle.run_law.specs.{Forms.RowSeen, Following.AllComplete, Following.expected_rows, Moments.TakenAtOnce}
 use Rattle.run_law.specs.Uninterrupted.{uninterrupted, counted, taken_at, resumed_of, frames_of}
 use Rattle.interrupt_plan.specs.declared.Request.{Request}
-use Rattle.alone_code.specs.declared.firmware.Firmware.{Firmware}
+use Rattle.firmware_code.specs.declared.firmware.Firmware.{Firmware}
 use Rattle.firmware_runs.specs.Ports.{given, answers_in}
 use Rattle.alone_runs.specs.{Forms.with_writes, Rows.requests_of, SoundAloneProof.free_opens, Given.RequestsAreGood}
 use Rattle.alone_runs.specs.Following.{rows_of_samples, RunsFollowAlone, RunsFollowBeside}

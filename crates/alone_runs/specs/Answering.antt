@@ -6,8 +6,9 @@ use Rattle.rule_layout.specs.Layouts.{IsWithinLimits}
 use Rattle.cpu12_isa.specs.Agreement.{Agree}
 use Rattle.cpu12_parts.specs.State.{State}
 use Rattle.cpu12_emul.specs.{Image.image_memory, Simulation.Same, Step.reset_with}
-use Rattle.alone_code.specs.{Answers.LeavesMapped, Firmwares.IsFirmwareOf, declared.firmware.Firmware.Firmware}
-use Rattle.alone_code.specs.Uninterrupted.{Answer, AreUninterrupted, AreAnswersOf}
+use Rattle.firmware_code.specs.{Arrivals.LeavesMapped, declared.firmware.Firmware.Firmware}
+use Rattle.alone_code.specs.Firmwares.{IsFirmwareOf}
+use Rattle.firmware_code.specs.Uninterrupted.{Answer, AreUninterrupted, AreAnswersOf}
 use Rattle.interrupt_plan.specs.{declared.Request.Request, Plans.IsGood}
 use Rattle.eval_code.specs.{Bounds.step_bound, Firing.AreInputBytes}
 use Rattle.run_law.specs.{Forms.RowSeen, Following.AllComplete, Following.AllWithin}

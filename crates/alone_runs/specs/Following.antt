@@ -8,7 +8,7 @@ use Rattle.run_law.specs.Forms.{RowSeen, Rows, rows_from}
 use Rattle.run_law.specs.Uninterrupted.{uninterrupted, counted, resumed_of, frames_of}
 use Rattle.run_law.specs.Following.{AllComplete, AllWithin, RowsSimulate, last_uninterrupted, RunsFollow}
 use Rattle.interrupt_plan.specs.{declared.Request.Request, Plans.IsGoodRequest, Plans.IsGood}
-use Rattle.alone_code.specs.declared.firmware.Firmware.{Firmware}
+use Rattle.firmware_code.specs.declared.firmware.Firmware.{Firmware}
 use Rattle.byte_scaling.specs.Widths.{places}
 use Rattle.firmware_runs.specs.Ports.{given, answers_in}
 use Rattle.alone_runs.specs.{Forms.with_writes, Rows.requests_of}

@@ -5,7 +5,7 @@ use Rattle.cpu12_parts.specs.State.{State}
 use Rattle.cpu12_emul.specs.Take.{framed}
 use Rattle.run_law.specs.Forms.{Form}
 use Rattle.interrupt_plan.specs.declared.Request.{Request}
-use Rattle.alone_code.specs.{declared.firmware.Firmware.Firmware, Interruptible.is_idle}
+use Rattle.firmware_code.specs.{declared.firmware.Firmware.Firmware, Interruptible.is_idle}
 use Rattle.run_forms.specs.Forms.{FormParts, plan_form}
 use Rattle.firmware_runs.specs.Ports.{given, answers_in}
 

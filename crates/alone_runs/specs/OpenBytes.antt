@@ -6,7 +6,7 @@ use Rattle.cpu12_parts.specs.{State.State, Parts.suspended, Parts.wav}
 use Rattle.cpu12_emul.specs.Simulation.{OnStackOrNone, Simulates}
 use Rattle.run_law.specs.Uninterrupted.{stepped}
 use Rattle.eval_code.specs.declared.memory_map.MemoryMap.{MemoryMap}
-use Rattle.alone_code.specs.declared.firmware.Firmware.{Firmware}
+use Rattle.firmware_code.specs.declared.firmware.Firmware.{Firmware}
 use Rattle.firmware_runs.specs.{Ports.given, Facts.FactsBeside}
 
 -- the open bytes are as they were

@@ -5,7 +5,7 @@ use Rattle.cpu12_parts.specs.State.{State}
 use Rattle.run_law.specs.Forms.{RowSeen, Rows, rows_from}
 use Rattle.interrupt_plan.specs.declared.Request.{Request}
 use Rattle.trace_io.specs.declared.sample.Sample.{Sample}
-use Rattle.alone_code.specs.declared.firmware.Firmware.{Firmware}
+use Rattle.firmware_code.specs.declared.firmware.Firmware.{Firmware}
 use Rattle.run_forms.specs.declared.sample.Notes.{Notes}
 use Rattle.run_forms.specs.{Rooms.seen_notes, Forms.Harness, Rows.of_sample, Rows.frames_seen, Rows.arrived_at}
 use Rattle.alone_runs.specs.declared.rows.Row as declared

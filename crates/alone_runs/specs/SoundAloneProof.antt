@@ -13,7 +13,7 @@ use Rattle.cpu12_parts.specs.State.{State}
 use Rattle.cpu12_emul.specs.Simulation.{AreOpen, OnStackOnly, Same}
 use Rattle.run_law.specs.Soundness.{Sound, WritesAreQuiet}
 use Rattle.interrupt_plan.specs.Plans.{IsGoodRequest}
-use Rattle.alone_code.specs.{declared.firmware.Firmware.Firmware, Interruptible.is_idle}
+use Rattle.firmware_code.specs.{declared.firmware.Firmware.Firmware, Interruptible.is_idle}
 use Rattle.byte_scaling.specs.declared.width.{Width.Width, Width.TheVariants.Byte, Width.TheVariants.Word}
 use Rattle.byte_scaling.specs.Widths.{places}
 use Rattle.firmware_runs.specs.Ports.{given, answer_at, answers_at, answers_in}

@@ -10,9 +10,9 @@ ghost use Rattle.alone_runs.specs.{Forms.with_writes, Following.Alone, Following
 ghost use Rattle.firmware_runs.specs.Facts.{FactsBeside};
 
 use crate::rows::{Row, row_of};
-use alone_code::Firmware;
 use cpu12_emul::machine::Machine;
 use cpu12_isa::mem::Mem;
+use firmware_code::Firmware;
 use firmware_runs::{answers, give, is_busy_here, is_idle};
 use fz_list::Memory;
 use interrupt_plan::Request;

@@ -7,11 +7,11 @@ ghost use Rattle.trace_io.specs.Traces.{input_bytes};
 
 use crate::laws::answers_under_plans;
 use crate::session::Session;
-use alone_code::Firmware;
 use arrayvec::ArrayVec;
 use cpu12_emul::ends::Frame;
 use cpu12_isa::mem::Mem;
 use cpu12_isa::pages::PageMem;
+use firmware_code::Firmware;
 use firmware_runs::copy_of;
 use fz_list::{List, Memory};
 use interrupt_plan::Plan;

@@ -9,11 +9,11 @@ ghost use Rattle.run_forms.specs.RunRests.{from_here, at_position, of_run};
 
 use crate::form::AloneForm;
 use crate::rows::Row;
-use alone_code::Firmware;
 use cpu12_emul::machine::Machine;
 use cpu12_isa::instr::Regs;
 use cpu12_isa::mem::Mem;
 use cpu12_isa::watching::WatchedMem;
+use firmware_code::Firmware;
 use fz_list::Memory;
 use interrupt_plan::{Plan, Request};
 use run_forms::laws::rows_are_shown;

@@ -12,8 +12,10 @@ use Rattle.cpu12_asm.specs.Bytes.{FitsMemory, Holds, IsAscending, byte_at, start
 use Rattle.cpu12_asm.specs.{Items.given_by, Laws.GiveBytes}
 use Rattle.cpu12_asm.specs.declared.{image.Image.Image, items.Item.Item}
 use Rattle.cpu12_emul.specs.Image.{HoldsImage, byte_or_zero, image_memory}
-use Rattle.alone_code.specs.{Images.IsImageOf, Standing.FirmwareIsBytes, Standing.MailboxIsBytes}
-use Rattle.alone_code.specs.declared.firmware.Firmware.{Firmware}
+use Rattle.firmware_code.specs.Images.{IsImageOf}
+use Rattle.alone_code.specs.Firmwares.{FirmwareIsBytes}
+use Rattle.mailbox_code.specs.Mailboxes.{MailboxIsBytes}
+use Rattle.firmware_code.specs.declared.firmware.Firmware.{Firmware}
 use Rattle.watched_code.specs.Watched.{WatchedIsBytes}
 use Rattle.srecord.specs.{Images.ImageText, Laws.AreMemoryBytes, Laws.ImagesHaveTexts}
 use Rattle.command_parts.specs.Firmwares.{IsOfForm}

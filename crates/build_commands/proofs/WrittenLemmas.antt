@@ -5,7 +5,8 @@ use Rattle.cpu12_asm.specs.declared.image.Image.{Image}
 use Rattle.fuzzy_meaning.specs.declared.block.Block.{Block}
 use Rattle.eval_code.specs.Bounds.{instruction_bound, step_bound, steps_by}
 use Rattle.byte_scaling.specs.declared.width.Width.{Width}
-use Rattle.alone_code.specs.{Mailboxes.mailbox_bound, declared.firmware.Firmware.Firmware}
+use Rattle.firmware_code.specs.declared.firmware.Firmware.{Firmware}
+use Rattle.mailbox_code.specs.Mailboxes.{mailbox_bound}
 use Rattle.command_parts.specs.{Firmwares.IsOfForm, declared.firmware.Form.Form}
 use Rattle.command_parts.specs.declared.firmware.Form.TheVariants.{Alone, Mailbox, Watched}
 use Rattle.build_commands.specs.Compile.{bound_of}

@@ -5,7 +5,7 @@ use Rattle.std.specs.Prelude.{ℕ, List, [], ◌∷◌, Result}
 use Rattle.eval_code.specs.Bounds.{instruction_bound}
 use Rattle.byte_scaling.specs.declared.width.Width.TheVariants.{Byte}
 use Rattle.fuzzy_meaning.specs.declared.block.Block.{Block}
-use Rattle.alone_code.specs.Mailboxes.{mailbox_bound}
+use Rattle.mailbox_code.specs.Mailboxes.{mailbox_bound}
 use Rattle.watched_code.specs.Watched.{watched_bound}
 use Rattle.command_parts.specs.declared.firmware.Form.{Form}
 use Rattle.command_parts.specs.declared.firmware.Form.TheVariants.{Alone, Mailbox, Watched}

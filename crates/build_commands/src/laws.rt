@@ -15,6 +15,7 @@ use command_parts::laws::{
 use cpu12_asm::laws::{ascending_bytes_are_one, each_source_is_judged, sources_give_bytes};
 use cpu12_emul::laws::{holds_image, images_load_alike, runs_end_once};
 use error_certifier::laws::halvings_are_within_their_targets;
+use mailbox_code::laws::mailbox_is_bytes;
 use srecord::laws::{faults_are_one, image_texts_are_one, images_are_one, images_have_texts};
 use two_level_code::laws::two_stand_beside;
 use watched_code::laws::watched_is_bytes;
@@ -56,6 +57,7 @@ pub fn compile_is_settled()
     image_texts_are_one();
     holds_image();
     firmware_is_bytes();
+    mailbox_is_bytes();
     watched_is_bytes()
 }
 

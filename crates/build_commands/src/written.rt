@@ -3,10 +3,10 @@ ghost use Rattle.std.specs.Prelude.{◌≡◌, length, IfErr, IfOk};
 ghost use Rattle.command_parts.specs.SeenOutputs.{seen_output};
 ghost use Rattle.build_commands.specs.Written.{WritesImage, compile_lines};
 
-use alone_code::Firmware;
 use command_parts::lines::labelled;
 use command_parts::output::Output;
 use cpu12_asm::Image;
+use firmware_code::Firmware;
 use fz_shelf::Line;
 use fz_status::Status;
 use std::alloc::{AllocError, Global};

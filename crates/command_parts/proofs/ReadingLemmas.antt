@@ -3,7 +3,9 @@ use Rattle.std.proofs.Common.{◌≡◌, ◌≢◌, ◌∙◌, ◌-◌, ◌≤�
 use Rattle.std.proofs.Common.{◌+◌, inl, inr, refl, subst, sym}
 use Rattle.std.proofs.{lemmas.Bool.cases_lt, lemmas.List.Sums.sum_by-cons, Math.Seq.take-length}
 use Rattle.std.specs.Prelude.{Result, Ok, Err}
-use Rattle.alone_code.specs.{Alike.FirmwaresAreOne, Alike.MailboxesAreOne, declared.firmware.Firmware.Firmware}
+use Rattle.firmware_code.specs.declared.firmware.Firmware.{Firmware}
+use Rattle.alone_code.specs.Firmwares.{FirmwaresAreOne}
+use Rattle.mailbox_code.specs.Mailboxes.{MailboxesAreOne}
 use Rattle.box_tree.specs.declared.{cert.Cert.Cert, cert.CertFormat.CertFormat}
 use Rattle.byte_scaling.specs.Widths.{parts}
 use Rattle.cert_check.specs.Laws.{TextAnswersAreOne}

@@ -4,7 +4,9 @@ use Rattle.std.specs.Prelude.{◌≡◌, ℕ, List}
 use Rattle.fuzzy_meaning.specs.declared.block.Block.{Block}
 use Rattle.byte_scaling.specs.declared.width.Width.TheVariants.{Byte}
 use Rattle.rule_layout.specs.Layouts.{IsWithinLimits, IsFaultOf as IsLayoutFault}
-use Rattle.alone_code.specs.{Firmwares.IsFirmwareOf, Mailboxes.IsMailboxOf, declared.firmware.Firmware.Firmware}
+use Rattle.firmware_code.specs.declared.firmware.Firmware.{Firmware}
+use Rattle.alone_code.specs.Firmwares.{IsFirmwareOf}
+use Rattle.mailbox_code.specs.Mailboxes.{IsMailboxOf}
 use Rattle.watched_code.specs.Watched.{IsWatchedFirmwareOf}
 use Rattle.fcl_syntax.specs.Text.{IsFirstFault}
 use Rattle.fcl_check.specs.Texts.{SpellsBlock, HasLoadFault}

@@ -7,12 +7,14 @@ ghost use Rattle.command_parts.specs.Firmwares.{GivesBlock, GivesFirmware, IsOfF
 ghost use Rattle.fz_status.specs.Refusals.{IsRefusal};
 
 use crate::contents::Content;
-use alone_code::{Firmware, compile_for, compile_post};
+use alone_code::compile_for;
 use byte_scaling::Width;
 use fcl_check::load;
 use fcl_syntax::parse;
+use firmware_code::Firmware;
 use fuzzy_meaning::Block;
 use fz_status::Status;
+use mailbox_code::compile_post;
 use rule_layout::{LayoutFault, require_limits};
 use std::alloc::Global;
 use watched_code::compile_scrub;

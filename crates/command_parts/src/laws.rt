@@ -6,7 +6,7 @@ ghost use Rattle.command_parts.specs.Judged.{HandlersAreJudged, ImagesAreJudged,
 ghost use Rattle.command_parts.specs.{Handlers.HandlersAreExact, Images.GivenRecordsHaveNoFault, Images.ImagesAreExact};
 ghost use Rattle.command_parts.specs.{Twos.GivenBlocksHaveTwos, Twos.TwosAreExact};
 
-use alone_code::laws::{blocks_have_firmware, firmwares_are_one, mailboxes_are_one};
+use alone_code::laws::{blocks_have_firmware, firmwares_are_one};
 use cert_check::laws::{each_cert_text_is_judged, text_answers_are_one};
 use error_certifier::laws::{
     answers_for_targets_are_one, cells_are_out_of_reach, each_block_is_halved,
@@ -14,6 +14,7 @@ use error_certifier::laws::{
 use fcl_check::laws::{each_text_is_judged, load_faults_are_one, spelled_blocks_are_one};
 use fcl_syntax::laws::first_faults_are_one;
 use handler_check::laws::{answers_are_one, each_image_is_judged, handlers_have_no_fault};
+use mailbox_code::laws::{blocks_have_mailboxes, mailboxes_are_one};
 use rule_layout::laws::limits_have_no_fault;
 use srecord::laws::{faults_are_one, images_are_one};
 use two_level_code::laws::{blocks_have_twos, twos_are_one};
@@ -24,6 +25,7 @@ pub fn given_blocks_have_firmware()
     ensures { GivenBlocksHaveFirmware }
 {
     blocks_have_firmware();
+    blocks_have_mailboxes();
     blocks_have_watched_firmware()
 }
 

@@ -14,13 +14,13 @@ ghost use Rattle.debug_script.specs.{Noting.KeepsNotes, Noting.NotesBytes, Place
 use crate::marks::Marks;
 use crate::order::Order;
 use crate::shown::Shown;
-use alone_code::Firmware;
 use alone_runs::laws::answers_under_plans;
 use alone_runs::{Row, Session};
 use cpu12_isa::laws::nothing_is_watched;
 use cpu12_isa::mem::Mem;
 use cpu12_isa::pages::PageMem;
 use cpu12_isa::watching::WatchedMem;
+use firmware_code::Firmware;
 use fz_list::{List, Memory};
 use interrupt_plan::Plan;
 use std::alloc::{AllocError, Global};

@@ -7,7 +7,7 @@ use Rattle.cpu12_parts.specs.State.{State}
 use Rattle.eval_code.specs.Evaluation as evaluation
 use Rattle.byte_scaling.specs.declared.width.{Width.Width, Width.TheVariants.Byte, Width.TheVariants.Word}
 use Rattle.byte_scaling.specs.Widths.{places}
-use Rattle.alone_code.specs.Uninterrupted.{values_from}
+use Rattle.firmware_code.specs.Uninterrupted.{values_from}
 use Rattle.firmware_runs.specs.Ports.{answer_at, answers_at, AnswersAreValues, GivenIsPut}
 
 pub write_last : (ws : List (ℕ × ℕ)) (at v : ℕ) (m : List ℕ)

@@ -13,9 +13,9 @@ use Rattle.cpu12_parts.specs.Rules.{RuleOperands, Rule, rev_operands, revw_opera
 use Rattle.cpu12_parts.specs.{Executions.Execution, Touching.Each, Touching.IsInstructionOver, Touching.IsRulesOver}
 use Rattle.cpu12_emul.specs.{declared.ends.Stepped.TheVariants.Plain, Simulation.AreSumsReady}
 use Rattle.eval_code.specs.declared.memory_map.MemoryMap.{MemoryMap}
-use Rattle.alone_code.specs.Interruptible.{is_idle, IsInterruptible, IsInterruptibleStep, IsShownPlain, IsShownRules}
-use Rattle.alone_code.specs.Interruptible.{IsShownAverage, IsShownInstruction, IsStackOfOneCall}
-use Rattle.alone_code.proofs.Algebra.{in_room}
+use Rattle.firmware_code.specs.Interruptible.{is_idle, IsInterruptible, IsInterruptibleStep, IsShownPlain, IsShownRules}
+use Rattle.firmware_code.specs.Interruptible.{IsShownAverage, IsShownInstruction, IsStackOfOneCall}
+use Rattle.firmware_code.proofs.Algebra.{in_room}
 use Rattle.run_forms.specs.Arrival.{PlainIsOneStep}
 use Rattle.run_law.specs.{Steps.StepLaws, Uninterrupted.uninterrupted}
 use Rattle.run_law.proofs.Algebra.{one_stretch}

@@ -6,7 +6,7 @@ use Rattle.cpu12_isa.specs.Regions.{stack_end, is_free, is_hidden}
 use Rattle.cpu12_parts.specs.{declared.temps.Temps.Temps, Laws.addresses, State.State}
 use Rattle.cpu12_parts.specs.declared.temps.Temps.TheVariants.{Free, Running, OnStack}
 use Rattle.cpu12_emul.specs.{Image.image_memory, Simulation.IsShownStep}
-use Rattle.alone_code.specs.{declared.firmware.Firmware.Firmware, Interruptible.IsStackOfOneCall}
+use Rattle.firmware_code.specs.{declared.firmware.Firmware.Firmware, Interruptible.IsStackOfOneCall}
 
 -- the sums are none or running
 abbrev pub AreNoneOrRunning : Temps → Type 0

@@ -4,7 +4,7 @@ use Rattle.std.specs.Prelude.{◌≡◌, ℕ, ◌^◌, ◌<◌, Bool, false, Lis
 use Rattle.cpu12_isa.specs.{Agreement.AgreeFrom, Regions.stack_end}
 use Rattle.cpu12_parts.specs.{State.State, Executions.Execution, Executions.all_steps}
 use Rattle.eval_code.specs.declared.memory_map.MemoryMap.{MemoryMap}
-use Rattle.alone_code.specs.Interruptible.{is_idle, IsInterruptibleStep, IsStackOfOneCall}
+use Rattle.firmware_code.specs.Interruptible.{is_idle, IsInterruptibleStep, IsStackOfOneCall}
 use Rattle.run_law.specs.{Uninterrupted.uninterrupted, Uninterrupted.counted, Soundness.Before}
 use Rattle.firmware_runs.specs.Facts.{Facts}
 

@@ -6,8 +6,8 @@ use Rattle.byte_scaling.specs.declared.width.{Width.Width, Width.TheVariants.Byt
 use Rattle.byte_scaling.specs.Widths.{places}
 use Rattle.cpu12_isa.specs.{Act.write_all, Memory.plus, Memory.placed, Memory.word_of}
 use Rattle.cpu12_parts.specs.State.{State}
-use Rattle.alone_code.specs.Answers as answers
-use Rattle.alone_code.specs.{Uninterrupted.values_in, declared.firmware.Firmware.Firmware}
+use Rattle.firmware_code.specs.Arrivals as arrivals
+use Rattle.firmware_code.specs.{Uninterrupted.values_in, declared.firmware.Firmware.Firmware}
 use Rattle.eval_code.specs.declared.memory_map.MemoryMap.{MemoryMap}
 
 -- the input bytes are written, and READY 1
@@ -30,7 +30,7 @@ answers_in f s = answers_at f.width f.outputs f.memory_map.outputs s.mem
 -- Bytes that end in memory are given as whole instructions are.
 abbrev pub GivenIsPut : Type 0
 GivenIsPut = (l : MemoryMap) (bytes : List ℕ) (s : State) → l.samples + length bytes ≤ 65535
-    → given l bytes s ≡ answers.given l bytes s
+    → given l bytes s ≡ arrivals.given l bytes s
 
 -- Answers, each of two bytes at most, that end in memory are the values of the outputs.
 abbrev pub AnswersAreValues : Type 0

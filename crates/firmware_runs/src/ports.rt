@@ -2,15 +2,15 @@
 ghost use Rattle.std.specs.Prelude.{◌≡◌, ◌≤◌, true, false, length};
 ghost use Rattle.cpu12_parts.specs.State.{State};
 ghost use Rattle.cpu12_emul.specs.Step.{SameMachine};
-ghost use Rattle.alone_code.specs.Interruptible.{is_idle};
+ghost use Rattle.firmware_code.specs.Interruptible.{is_idle};
 ghost use Rattle.firmware_runs.specs.Ports.{given, answer_at, answers_at, answers_in};
 
-use alone_code::Firmware;
 use arrayvec::ArrayVec;
 use byte_scaling::Width;
 use cpu12_emul::machine::Machine;
 use cpu12_isa::mem::{Mem, word_of};
 use eval_code::MemoryMap;
+use firmware_code::Firmware;
 
 /// Whether the firmware waits for a sample: PC is where it waits, and READY is 0.
 pub fn is_idle<M: Mem>(memory_map: &MemoryMap, m: &Machine<M>) -> bool

@@ -6,8 +6,6 @@ pub use Rattle.std.proofs.Common.{Err, List, [], ap, ap₂, arith, length, refl,
 pub use Rattle.std.proofs.Common.{◌+◌, ◌-◌, ◌<◌, ◌^◌, ◌∙◌, ◌∷◌, ◌≡◌, ◌≤◌}
 pub use Rattle.std.proofs.lemmas.List.Elements.{All-cons, All-head, All-nil, All-tail}
 pub use Rattle.std.specs.Prelude.{All, codes, decimal, map, string_bytes}
-pub use Rattle.alone_code.specs.{Mailboxes.mailbox_bound, Uninterrupted.AreAnswersOf}
-pub use Rattle.alone_code.specs.{declared.firmware.Firmware.Firmware}
 pub use Rattle.alone_runs.specs.{Answering.AnswersItsBlock, Answering.AnswersUnderPlans, Rows.bytes_of}
 pub use Rattle.box_tree.specs.{Texts.format_of, declared.cert.CertKind.CertKind}
 pub use Rattle.byte_scaling.specs.{declared.width.Width.TheVariants.Byte}
@@ -17,6 +15,7 @@ pub use Rattle.command_parts.specs.{Readings.Reading, declared.firmware.Compiled
 pub use Rattle.command_parts.specs.{declared.firmware.Form.TheVariants.Alone}
 pub use Rattle.command_parts.specs.{declared.firmware.Form.TheVariants.Mailbox}
 pub use Rattle.cpu12_emul.specs.{declared.ends.Frame.Frame}
+pub use Rattle.firmware_code.specs.{Uninterrupted.AreAnswersOf, declared.firmware.Firmware.Firmware}
 pub use Rattle.form_commands.specs.{Hrun.handled_report, Hrun.handled_row_lines, Mrun.answer_line}
 pub use Rattle.form_commands.specs.{Mrun.mrun_lines, Mrun.mailbox_report}
 pub use Rattle.fuzzy_meaning.specs.{declared.block.Block.Block}
@@ -24,6 +23,7 @@ pub use Rattle.fz_shelf.proofs.{Algebra.bare-append, Algebra.bare-decimal}
 pub use Rattle.fz_status.specs.{declared.status.Status.Status}
 pub use Rattle.handled_runs.specs.{Forms.handled_seen, declared.rows.HandledRow.HandledRow}
 pub use Rattle.interrupt_plan.specs.{declared.Request.Request}
+pub use Rattle.mailbox_code.specs.{Mailboxes.mailbox_bound}
 pub use Rattle.mailbox_runs.specs.{Runs.answer_seen, Runs.run_under_posts}
 pub use Rattle.run_forms.specs.{Rows.boundary_seen, Rows.frames_seen}
 pub use Rattle.run_law.specs.{Forms.RowSeen}

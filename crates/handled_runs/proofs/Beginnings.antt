@@ -11,7 +11,7 @@ use Rattle.cpu12_asm.proofs.Algebra.{or_else, byte_at-append}
 use Rattle.cpu12_parts.specs.State.{State}
 use Rattle.cpu12_emul.specs.Image.{byte_or_zero, image_memory, HoldsImage, ImagesLoadAlike}
 use Rattle.handler_check.specs.{Images.IsWhole, Running.HasImage}
-use Rattle.alone_code.specs.{declared.firmware.Firmware.Firmware, Answers.LeavesMapped}
+use Rattle.firmware_code.specs.{declared.firmware.Firmware.Firmware, Arrivals.LeavesMapped}
 use Rattle.eval_code.specs.{MemoryMaps.main_map, Evaluation.Reads, Evaluation.Writes}
 use Rattle.alone_runs.specs.Answering.{FirstAlike}
 use Rattle.handled_runs.specs.{Open.is_open_to_code, Joint.joint_bytes, Joint.joint_memory}

@@ -13,7 +13,8 @@ use Rattle.run_law.specs.Following.{AllComplete, RunsFollow, expected_row, expec
 use Rattle.handler_check.specs.Images.{IsHandler}
 use Rattle.interrupt_plan.specs.{declared.Request.Request, Plans.IsGoodRequest, Plans.IsGood}
 use Rattle.eval_code.specs.{declared.memory_map.MemoryMap.MemoryMap, Firing.AreInputBytes}
-use Rattle.alone_code.specs.{declared.firmware.Firmware.Firmware, Answers.LeavesMapped, Firmwares.IsFirmwareOf}
+use Rattle.firmware_code.specs.{declared.firmware.Firmware.Firmware, Arrivals.LeavesMapped}
+use Rattle.alone_code.specs.Firmwares.{IsFirmwareOf}
 use Rattle.firmware_runs.specs.Ports.{given}
 use Rattle.alone_runs.specs.{Forms.with_writes, Following.RunsFollowBeside, Given.RequestsAreGood}
 use Rattle.alone_runs.specs.OpenBytes.{GivenLeavesOpen}

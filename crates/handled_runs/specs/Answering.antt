@@ -10,7 +10,8 @@ use Rattle.run_law.specs.Following.{AllComplete, RowsSimulate}
 use Rattle.cpu12_asm.specs.Bytes.{byte_at}
 use Rattle.handler_check.specs.{Images.IsHandler, Running.HasImage, Running.CanBegin, Running.IsCodeTake}
 use Rattle.interrupt_plan.specs.{declared.Request.Request, Plans.IsGood}
-use Rattle.alone_code.specs.{declared.firmware.Firmware.Firmware, Firmwares.IsFirmwareOf}
+use Rattle.firmware_code.specs.declared.firmware.Firmware.{Firmware}
+use Rattle.alone_code.specs.Firmwares.{IsFirmwareOf}
 use Rattle.eval_code.specs.Firing.{AreInputBytes}
 use Rattle.run_forms.specs.Rows.{tellings}
 use Rattle.firmware_runs.specs.Facts.{FactsBeside}

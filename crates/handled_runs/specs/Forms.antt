@@ -5,7 +5,7 @@ use Rattle.cpu12_parts.specs.State.{State}
 use Rattle.run_law.specs.Forms.{Form, RowSeen, Rows, rows_from}
 use Rattle.handler_check.specs.Running.{Returned, until_rti, step_limit, at_code}
 use Rattle.interrupt_plan.specs.declared.Request.{Request}
-use Rattle.alone_code.specs.declared.firmware.Firmware.{Firmware}
+use Rattle.firmware_code.specs.declared.firmware.Firmware.{Firmware}
 use Rattle.trace_io.specs.{declared.sample.Sample.Sample, Traces.input_bytes}
 use Rattle.run_forms.specs.{declared.sample.Notes.Notes, Rooms.seen_notes, Rows.arrived_at, Rows.shown}
 use Rattle.run_forms.specs.Forms.{FormParts, plan_form, Harness}

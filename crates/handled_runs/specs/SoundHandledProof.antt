@@ -19,7 +19,7 @@ use Rattle.run_law.specs.Soundness.{Begins, Quiet, Sound, SumsFitBelow, WritesAr
 use Rattle.handler_check.specs.Images.{IsWhole, IsHandler}
 use Rattle.handler_check.specs.Running.{HasImage, CanBegin, IsQuietCode, HandlersAreQuiet}
 use Rattle.interrupt_plan.specs.{declared.Request.Request, Plans.IsGoodRequest}
-use Rattle.alone_code.specs.{declared.firmware.Firmware.Firmware, Interruptible.IsStackOfOneCall}
+use Rattle.firmware_code.specs.{declared.firmware.Firmware.Firmware, Interruptible.IsStackOfOneCall}
 use Rattle.firmware_runs.specs.Facts.{FactsBeside}
 use Rattle.alone_runs.specs.Following.{IsLow, OpensFree}
 use Rattle.alone_runs.specs.OpenBytes.{AreOpenAlike, StepsLeaveOpen}

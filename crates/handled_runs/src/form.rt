@@ -12,10 +12,10 @@ ghost use Rattle.handled_runs.specs.SoundHandledProof.{Handled, HandlerStands, s
 
 use crate::back::{HandlerEnd, until_rti};
 use crate::rows::HandledRow;
-use alone_code::Firmware;
 use alone_runs::row_of;
 use cpu12_emul::machine::Machine;
 use cpu12_isa::mem::Mem;
+use firmware_code::Firmware;
 use firmware_runs::{answers, give, is_busy_here, is_idle};
 use fz_list::Memory;
 use interrupt_plan::Request;

@@ -8,12 +8,12 @@ ghost use Rattle.handled_runs.specs.{Forms.row_seen, Forms.handled_seen, Answeri
 use crate::form::HandledForm;
 use crate::joint::joint_image;
 use crate::laws::handled_answers;
-use alone_code::Firmware;
 use alone_runs::Row;
 use alone_runs::laws::plans_are_in_order;
 use cpu12_asm::Image;
 use cpu12_emul::laws::images_load_alike;
 use cpu12_isa::pages::PageMem;
+use firmware_code::Firmware;
 use fz_list::Memory;
 use interrupt_plan::Plan;
 use run_forms::{Start, run_form};

@@ -13,7 +13,7 @@ use Rattle.cpu12_isa.specs.{Agreement.WritesAgree, Agreement.WritesStay, Memory.
 use Rattle.cpu12_parts.specs.{declared.temps.Temps.TheVariants.Running, declared.temps.Temps.TheVariants.OnStack}
 use Rattle.cpu12_parts.specs.{Parts.sum_bytes, Laws.IsOff}
 use Rattle.cpu12_emul.specs.{Simulation.OnStackOrNone, Simulation.Simulates}
-use Rattle.alone_code.specs.{Uninterrupted.values_from}
+use Rattle.firmware_code.specs.Uninterrupted.{values_from}
 use Rattle.run_law.specs.Soundness.{below_sums, Begins, Sound, WritesAreQuiet}
 use Rattle.mailbox_runs.proofs.Mailing.{leaves_stack, open_post, post_mailed, mailed_over, clash}
 use Rattle.eval_code.proofs.Algebra.{written_shown}

@@ -11,8 +11,8 @@ use Rattle.mailbox_runs.proofs.Words.{true, turn_form, TurnEnds, TurnForm, write
 use Rattle.cpu12_isa.specs.{Act.read_by, Agreement.Uncovers}
 use Rattle.cpu12_emul.specs.{Simulation.PlainIsStep}
 use Rattle.run_law.specs.{Forms.ended}
-use Rattle.alone_code.specs.{Interruptible.IsSteady, Interruptible.IsShownPlain}
-use Rattle.alone_code.proofs.Algebra.{in_room}
+use Rattle.firmware_code.specs.Interruptible.{IsSteady, IsShownPlain}
+use Rattle.firmware_code.proofs.Algebra.{in_room}
 use Rattle.std.specs.Prelude.{◌==◌}
 use Rattle.cpu12_isa.specs.Meaning.{Effect, act_of, effect}
 use Rattle.cpu12_isa.proofs.Algebra.{shown_append}

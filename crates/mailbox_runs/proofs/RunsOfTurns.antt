@@ -8,9 +8,10 @@ use Rattle.mailbox_runs.proofs.Words.{run_of_turns, samples_of, State, state_by,
 use Rattle.mailbox_runs.proofs.Words.{true, Turn, uninterrupted, Width, zero, ℕ}
 use Rattle.cpu12_parts.specs.{Whole.PlainExecution}
 use Rattle.cpu12_emul.specs.{Step.reset_with}
-use Rattle.alone_code.specs.{Mailboxes.mailbox_bound, Uninterrupted.UninterruptedAreOne}
+use Rattle.firmware_code.specs.Uninterrupted.{UninterruptedAreOne}
+use Rattle.mailbox_code.specs.Mailboxes.{mailbox_bound}
 use Rattle.eval_code.specs.{Bounds.instruction_bound}
-use Rattle.alone_code.specs.{SampleTurns.MailboxTakesSamples, Turns.MailboxTakesPosts, Turns.MailboxIsUninterrupted}
+use Rattle.mailbox_code.specs.{SampleTurns.MailboxTakesSamples, Turns.MailboxTakesPosts, Turns.MailboxIsUninterrupted}
 use Rattle.mailbox_runs.proofs.{Alone.IsAlone, Alone.alone, Looking.alike_self, TurnSteps.Setting, TurnSteps.Waits}
 use Rattle.mailbox_runs.proofs.WholeTurns.{IsBusy, no_step, one_step, steps_on}
 use Rattle.mailbox_runs.proofs.TurnRuns.{all_run, sample_bytes}

@@ -5,7 +5,7 @@ use Rattle.mailbox_runs.proofs.Words.{InstructionsAreSteps, is_idle, is_postable
 use Rattle.mailbox_runs.proofs.Words.{IsMailboxOf, IsServing, IsUntil, LdaaExtended, length, List, MemoryMap, next_of}
 use Rattle.mailbox_runs.proofs.Words.{Ok, Orcc, Plain, PlainIsOneStep, State, state_by, steps_by, subst, suc, sym}
 use Rattle.mailbox_runs.proofs.Words.{true, uninterrupted, uninterrupted_add, ℕ}
-use Rattle.alone_code.specs.{SampleTurns.IsSampleTurn, Turns.IsCopied, Turns.call_of}
+use Rattle.mailbox_code.specs.{SampleTurns.IsSampleTurn, Turns.IsCopied, Turns.call_of}
 use Rattle.cpu12_parts.proofs.Algebra.{steps_append}
 use Rattle.mailbox_runs.proofs.WholeTurns.{IsBusy, one_step, steps_on, masked_steps, masked_count}
 use Rattle.mailbox_runs.proofs.Serving.{IsServed, served, busy_by, facts_by}

@@ -7,7 +7,7 @@ use Rattle.mailbox_runs.proofs.Words.{inr, is_postable, IsAnswerRun, IsIdleRun, 
 use Rattle.mailbox_runs.proofs.Words.{run_of_turns, samples_of, State, steps_of, subst, suc, sym, true, Turn}
 use Rattle.mailbox_runs.proofs.Words.{uninterrupted, values_in, zero, ℕ}
 use Rattle.mailbox_runs.specs.{Runs.steps_from, Answering.AllKeepFacts, UninterruptedTurns.IsTurnRun}
-use Rattle.alone_code.specs.{Uninterrupted.AreAnswersTo}
+use Rattle.firmware_code.specs.Uninterrupted.{AreAnswersTo}
 use Rattle.mailbox_runs.proofs.Looking.{AreAlike, alike_self}
 use Rattle.mailbox_runs.proofs.TurnSteps.{Setting, Waits, idled, Answered, answered}
 

@@ -6,9 +6,10 @@ use Rattle.mailbox_runs.proofs.Words.{is_part, IsAnswerRun, IsAt, IsIdleRun, IsL
 use Rattle.mailbox_runs.proofs.Words.{LdaaExtended, length, List, nat_tests, Next, next_of, not, Ok, one_if, Plain}
 use Rattle.mailbox_runs.proofs.Words.{PlainIsOneStep, Result, State, state_by, subst, suc, sym, true, uninterrupted}
 use Rattle.mailbox_runs.proofs.Words.{values_in, zero_result, ℕ}
-use Rattle.alone_code.specs.{SampleTurns.TakesSamples, Uninterrupted.IsAnswerTo}
+use Rattle.firmware_code.specs.Uninterrupted.{IsAnswerTo}
+use Rattle.mailbox_code.specs.SampleTurns.{TakesSamples}
 use Rattle.eval_code.specs.{Evaluation.HasAnswers}
-use Rattle.alone_code.specs.{Turns.TakesTurns}
+use Rattle.mailbox_code.specs.Turns.{TakesTurns}
 use Rattle.mailbox_runs.proofs.{Looking.AreAlike, Looking.idle_alike, Looking.same_look, SampleRuns.sample_run}
 use Rattle.mailbox_runs.proofs.Alone.{IsAlone, alone, same_alone}
 

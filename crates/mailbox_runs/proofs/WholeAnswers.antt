@@ -6,7 +6,7 @@ use Rattle.mailbox_runs.proofs.Words.{MailboxRunsTurns, map, MemoryMap, most_tur
 use Rattle.mailbox_runs.proofs.Words.{refl, run_of_turns, RunsAreTurns, RunSeen, samples_of, State, steps_of, subst}
 use Rattle.mailbox_runs.proofs.Words.{suc, sym, TurnsHaveSteps, Width, Word, ℕ}
 use Rattle.interrupt_plan.specs.{Posts.NoLater}
-use Rattle.alone_code.specs.{Mailboxes.MailboxStepsAreFew}
+use Rattle.mailbox_code.specs.Mailboxes.{MailboxStepsAreFew}
 use Rattle.mailbox_runs.specs.{Runs.run_under_posts, Runs.last_boundary, Answering.AnswersUnderAllPosts}
 use Rattle.std.specs.Prelude.{All}
 use Rattle.interrupt_plan.specs.Rows as rows

@@ -1,9 +1,10 @@
 -- The names that most proofs of this crate cite, passed on from one place.
-pub use Rattle.alone_code.specs.Turns.{IsAt, IsChoice, IsLook, IsMaskedStep}
-pub use Rattle.alone_code.specs.Uninterrupted.{AreAnswersOf, AreUninterrupted, is_waiting, values_in}
 pub use Rattle.cpu12_emul.specs.Simulation.{AreSumsReady, HasRoom, IsShownStep, OnStackOnly, Same}
 pub use Rattle.cpu12_emul.specs.Step.{Left, Next, applied, is_part, next_of, step_act}
 pub use Rattle.cpu12_emul.specs.Take.{FrameSeen, frame_of, framed, may_interrupt}
+pub use Rattle.firmware_code.specs.Uninterrupted.{AreAnswersOf, AreUninterrupted, is_waiting, values_in}
+pub use Rattle.mailbox_code.specs.Mailboxes.{IsMailboxOf, is_mail, is_postable}
+pub use Rattle.mailbox_code.specs.Turns.{IsAt, IsChoice, IsLook, IsMaskedStep}
 pub use Rattle.mailbox_runs.specs.Answering.{answer_in, answer_of, begun, ended, frames_in, resumed_in, run_of_turns}
 pub use Rattle.mailbox_runs.specs.Behind.{HoldsMail, not_mail, part_form, posted_by}
 pub use Rattle.mailbox_runs.specs.PostedTurns.{End, TurnEnds, part_taken, plain_frame}
@@ -24,8 +25,6 @@ pub use Rattle.std.proofs.Common.{All, Bool, List, None, Ok, Option, Result, Som
 pub use Rattle.std.proofs.Common.{ap₂, arith, drop, false, get_or, inl, inr, length, length-append, map, max, min}
 pub use Rattle.std.proofs.Common.{nat_le, nat_lt, not, refl, set, subst, suc, sym, take, true, zero, ℕ, ◌&&◌, ◌*◌}
 pub use Rattle.std.proofs.Common.{◌++◌, ◌+◌, ◌-◌, ◌<◌, ◌==◌, ◌^◌, ◌∙◌, ◌∷◌, ◌≡◌, ◌≢◌, ◌≤◌, ◌⊎◌}
-pub use Rattle.alone_code.specs.{Answers.given, Interruptible.is_idle, Mailboxes.IsMailboxOf, Mailboxes.is_mail}
-pub use Rattle.alone_code.specs.{Mailboxes.is_postable, declared.firmware.Firmware.Firmware}
 pub use Rattle.alone_runs.specs.{Rows.bytes_of}
 pub use Rattle.byte_scaling.specs.{Widths.places, declared.width.Width.TheVariants.Byte}
 pub use Rattle.byte_scaling.specs.{declared.width.Width.TheVariants.Word, declared.width.Width.Width}
@@ -42,6 +41,7 @@ pub use Rattle.cpu12_parts.specs.{Parts.wav, State.State, Whole.IsPlainStep, dec
 pub use Rattle.cpu12_parts.specs.{declared.temps.Temps.TheVariants.Free}
 pub use Rattle.eval_code.specs.{Evaluation.put, Firing.AreInputBytes, Widths.answer}
 pub use Rattle.eval_code.specs.{declared.memory_map.MemoryMap.MemoryMap}
+pub use Rattle.firmware_code.specs.{Arrivals.given, Interruptible.is_idle, declared.firmware.Firmware.Firmware}
 pub use Rattle.firmware_runs.specs.{Facts.Facts, Facts.FactsBeside, Instructions.AreSteps}
 pub use Rattle.firmware_runs.specs.{Instructions.InstructionsAreSteps, Instructions.IsServing}
 pub use Rattle.fuzzy_meaning.specs.{declared.block.Block.Block}

@@ -10,9 +10,10 @@ use Rattle.cpu12_emul.specs.{Simulation.OnStackOnly, Simulation.Same, Take.Frame
 use Rattle.run_law.specs.{Forms.Ran, Soundness.AllSimulate}
 use Rattle.run_law.specs.Uninterrupted.{uninterrupted, counted, resumed_of, frames_after}
 use Rattle.interrupt_plan.specs.{declared.Post.Post, Posts.AreGoodPosts}
-use Rattle.alone_code.specs.declared.firmware.Firmware.{Firmware}
-use Rattle.alone_code.specs.Uninterrupted.{Answer, values_in, AreUninterrupted, AreAnswersOf}
-use Rattle.alone_code.specs.{Answers.given, Mailboxes.is_postable, Mailboxes.IsMailboxOf}
+use Rattle.firmware_code.specs.declared.firmware.Firmware.{Firmware}
+use Rattle.firmware_code.specs.Uninterrupted.{Answer, values_in, AreUninterrupted, AreAnswersOf}
+use Rattle.firmware_code.specs.Arrivals.{given}
+use Rattle.mailbox_code.specs.Mailboxes.{is_postable, IsMailboxOf}
 use Rattle.eval_code.specs.Firing.{AreInputBytes}
 use Rattle.firmware_runs.specs.Facts.{FactsBeside}
 use Rattle.mailbox_runs.specs.Turns.{Turn, AreTurns, samples_of}

@@ -6,7 +6,8 @@ use Rattle.cpu12_parts.specs.State.{State}
 use Rattle.cpu12_emul.specs.Simulation.{OnStackOnly}
 use Rattle.run_law.specs.{Soundness.Sound, Soundness.WritesAreQuiet, Following.RunFollows}
 use Rattle.interrupt_plan.specs.{declared.Post.Post, Posts.IsGoodPost}
-use Rattle.alone_code.specs.{declared.firmware.Firmware.Firmware, Mailboxes.is_mail, Mailboxes.is_postable}
+use Rattle.firmware_code.specs.declared.firmware.Firmware.{Firmware}
+use Rattle.mailbox_code.specs.Mailboxes.{is_mail, is_postable}
 use Rattle.eval_code.specs.declared.memory_map.MemoryMap.{MemoryMap}
 use Rattle.byte_scaling.specs.Widths.{places}
 use Rattle.firmware_runs.specs.Facts.{FactsBeside}

@@ -8,7 +8,8 @@ use Rattle.run_law.specs.{Forms.Ran, Forms.run_from, Following.asked}
 use Rattle.run_law.specs.Soundness.{AllSimulate, AllGood, Ascend}
 use Rattle.run_law.specs.Uninterrupted.{uninterrupted, counted, taken_at, resumed_of, frames_after}
 use Rattle.interrupt_plan.specs.{declared.Post.Post, Posts.IsGoodPost}
-use Rattle.alone_code.specs.{declared.firmware.Firmware.Firmware, Mailboxes.is_postable, Turns.IsAt}
+use Rattle.firmware_code.specs.declared.firmware.Firmware.{Firmware}
+use Rattle.mailbox_code.specs.{Mailboxes.is_postable, Turns.IsAt}
 use Rattle.byte_scaling.specs.Widths.{places}
 use Rattle.mailbox_runs.specs.{Turns.up_to, Turns.behind, Turns.waiting, Runs.turn_form, Shifts.frames_from}
 use Rattle.mailbox_runs.specs.Postings.{posted, IsBox, AreOfSize}

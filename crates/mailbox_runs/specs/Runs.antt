@@ -11,8 +11,8 @@ use Rattle.run_forms.specs.declared.sample.Notes.{Notes}
 use Rattle.run_forms.specs.{Rooms.seen_notes, Forms.FormParts, Forms.plan_form, Forms.Harness}
 use Rattle.interrupt_plan.specs.declared.Post.{Post}
 use Rattle.trace_io.specs.declared.sample.Sample.{Sample}
-use Rattle.alone_code.specs.declared.firmware.Firmware.{Firmware}
-use Rattle.alone_code.specs.{Answers.given, Uninterrupted.is_waiting, Uninterrupted.values_in}
+use Rattle.firmware_code.specs.declared.firmware.Firmware.{Firmware}
+use Rattle.firmware_code.specs.{Arrivals.given, Uninterrupted.is_waiting, Uninterrupted.values_in}
 use Rattle.eval_code.specs.declared.memory_map.MemoryMap.{MemoryMap}
 use Rattle.alone_runs.specs.Rows.{bytes_of}
 use Rattle.mailbox_runs.specs.declared.run.Answer as declared

@@ -8,10 +8,11 @@ use Rattle.cpu12_parts.specs.State.{State}
 use Rattle.cpu12_emul.specs.Image.{image_memory}
 use Rattle.run_law.specs.Uninterrupted.{uninterrupted}
 use Rattle.interrupt_plan.specs.{declared.Post.Post, Posts.AreGoodPosts}
-use Rattle.alone_code.specs.declared.firmware.Firmware.{Firmware}
-use Rattle.alone_code.specs.Turns.{IsAt, IsLook, IsChoice, IsCopied}
-use Rattle.alone_code.specs.Uninterrupted.{AreUninterrupted, AreAnswersOf}
-use Rattle.alone_code.specs.{Answers.given, Mailboxes.is_postable, Mailboxes.IsMailboxOf}
+use Rattle.firmware_code.specs.declared.firmware.Firmware.{Firmware}
+use Rattle.mailbox_code.specs.Turns.{IsAt, IsLook, IsChoice, IsCopied}
+use Rattle.firmware_code.specs.Uninterrupted.{AreUninterrupted, AreAnswersOf}
+use Rattle.firmware_code.specs.Arrivals.{given}
+use Rattle.mailbox_code.specs.Mailboxes.{is_postable, IsMailboxOf}
 use Rattle.eval_code.specs.Firing.{AreInputBytes}
 use Rattle.firmware_runs.specs.Facts.{FactsBeside}
 use Rattle.mailbox_runs.specs.{Turns.Turn, Turns.AreTurns, Turns.samples_of, Runs.arrival, Runs.steps_of}

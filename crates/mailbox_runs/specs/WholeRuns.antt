@@ -6,7 +6,7 @@ use Rattle.cpu12_parts.specs.State.{State}
 use Rattle.cpu12_emul.specs.Simulation.{Same}
 use Rattle.run_law.specs.Soundness.{AllGood, Ascend}
 use Rattle.interrupt_plan.specs.{declared.Post.Post, Posts.IsGoodPost}
-use Rattle.alone_code.specs.declared.firmware.Firmware.{Firmware}
+use Rattle.firmware_code.specs.declared.firmware.Firmware.{Firmware}
 use Rattle.byte_scaling.specs.Widths.{places}
 use Rattle.mailbox_runs.specs.{Turns.Turn, Turns.AreTurns, Runs.turns_from, Answering.run_of_turns}
 use Rattle.mailbox_runs.specs.{Answering.SimulateTurns, UninterruptedTurns.AllTurnRuns}

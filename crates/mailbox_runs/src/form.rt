@@ -5,15 +5,15 @@ ghost use Rattle.interrupt_plan.specs.Posts.{IsGoodPost};
 ghost use Rattle.mailbox_runs.specs.Runs.{writes_from, post_writes, input_bytes, turn_harness};
 ghost use Rattle.cpu12_emul.specs.Simulation.{OnStackOnly};
 ghost use Rattle.interrupt_plan.specs.declared.Post as plan;
-ghost use Rattle.alone_code.specs.Mailboxes.{is_postable};
+ghost use Rattle.mailbox_code.specs.Mailboxes.{is_postable};
 ghost use Rattle.firmware_runs.specs.Facts.{FactsBeside};
 ghost use Rattle.mailbox_runs.specs.Behind.{part_form, Copied, HoldsMail};
 
-use alone_code::Firmware;
 use cpu12_emul::machine::Machine;
 use cpu12_isa::instr::Write;
 use cpu12_isa::mem::Mem;
 use eval_code::MemoryMap;
+use firmware_code::Firmware;
 use interrupt_plan::Post;
 use run_forms::{Notes, SampleForm};
 use run_law::laws::SoundForm;

@@ -8,16 +8,16 @@ ghost use Rattle.mailbox_runs.specs.UninterruptedTurns.{MailboxRunsTurns, TurnsH
 ghost use Rattle.mailbox_runs.specs.UsedLaws.{PostingLaws, TurnLaws};
 
 use crate::form::MailboxForm;
-use alone_code::laws::{
-    mailbox_is_uninterrupted, mailbox_steps_are_few, mailbox_takes_posts, mailbox_takes_samples,
-    uninterrupted_are_one,
-};
 use cpu12_emul::laws::{
     frame_is_on_stack, plain_is_step, step_agrees, step_keeps, takes_quietly, wavr_goes_on,
 };
 use cpu12_isa::laws::{stack_is_hidden, writes_agree, writes_stay};
 use cpu12_parts::laws::wav_suspends;
+use firmware_code::laws::uninterrupted_are_one;
 use firmware_runs::laws::instructions_are_steps;
+use mailbox_code::laws::{
+    mailbox_is_uninterrupted, mailbox_steps_are_few, mailbox_takes_posts, mailbox_takes_samples,
+};
 use run_forms::laws::plain_is_one_step;
 use run_law::laws::{run_follows, taken_at_first_open};
 

@@ -4,7 +4,7 @@ ghost use Rattle.std.specs.Prelude.{if◌then◌else◌, suc, All, length, map, 
 ghost use Rattle.cpu12_emul.specs.Step.{SameMachine};
 ghost use Rattle.run_law.specs.{Forms.takes, Forms.is_empty, Following.asked};
 ghost use Rattle.interrupt_plan.specs.Posts.{IsGoodPost, AreGoodPosts};
-ghost use Rattle.alone_code.specs.Uninterrupted.{values_in};
+ghost use Rattle.firmware_code.specs.Uninterrupted.{values_in};
 ghost use Rattle.mailbox_runs.specs.Turns.{up_to, behind, waiting};
 ghost use Rattle.mailbox_runs.specs.Runs.{turn_form, answers_by, waits_by, input_bytes, answer_seen, turns_from};
 ghost use Rattle.mailbox_runs.specs.Runs.{most_turns};
@@ -15,10 +15,10 @@ ghost use Rattle.run_forms.specs.{Rest.with_before, Rooms.Fits, SampleRests.IsSt
 use crate::form::MailboxForm;
 use crate::run::Answer;
 use crate::turn::turn;
-use alone_code::Firmware;
 use arrayvec::ArrayVec;
 use cpu12_emul::machine::Machine;
 use cpu12_isa::mem::Mem;
+use firmware_code::Firmware;
 use firmware_runs::laws::answers_are_values;
 use firmware_runs::{answers, copy_of};
 use interrupt_plan::Post;

@@ -4,7 +4,7 @@ use Rattle.std.specs.Prelude.{false, not, ◌≢◌}
 use Rattle.cpu12_parts.specs.{State.State, Whole.IsPlainStep, Whole.PlainExecution}
 use Rattle.cpu12_parts.specs.declared.temps.Temps.TheVariants.{Free}
 use Rattle.cpu12_emul.specs.Take.{framed}
-use Rattle.alone_code.specs.{declared.firmware.Firmware.Firmware, Interruptible.is_idle}
+use Rattle.firmware_code.specs.{declared.firmware.Firmware.Firmware, Interruptible.is_idle}
 use Rattle.eval_code.specs.{MemoryMaps.main_map, declared.memory_map.MemoryMap.MemoryMap}
 use Rattle.byte_scaling.specs.declared.width.Width.{Width}
 use Rattle.firmware_runs.specs.Ports.{answers_at, given}

@@ -8,7 +8,7 @@ use Rattle.interrupt_plan.specs.Posts.{AreGoodPosts}
 use Rattle.run_law.specs.{Forms.RowSeen, Moments.TakenAtOnce}
 use Rattle.run_forms.specs.Arrival.{PlainIsOneStep}
 use Rattle.run_reports.specs.Laws.{SpelledBytesFit}
-use Rattle.alone_code.specs.Turns.{MailboxTakesPosts}
+use Rattle.mailbox_code.specs.Turns.{MailboxTakesPosts}
 use Rattle.mailbox_runs.specs.UninterruptedTurns.{MailboxRunsTurns, TurnsHaveSteps}
 use Rattle.mailbox_runs.specs.{Runs.steps_of}
 use Rattle.watched_code.specs.Watched.{Watched}

@@ -11,7 +11,8 @@ use Rattle.fuzzy_meaning.specs.{Blocks.IsValid, declared.block.Block.Block}
 use Rattle.rule_layout.specs.Layouts.{IsWithinLimits}
 use Rattle.cpu12_parts.specs.State.{State}
 use Rattle.cpu12_emul.specs.{Image.image_memory, Step.reset_with}
-use Rattle.alone_code.specs.{Answers.FirmwareAnswers, Firmwares.IsFirmwareOf, declared.firmware.Firmware.Firmware}
+use Rattle.firmware_code.specs.declared.firmware.Firmware.{Firmware}
+use Rattle.alone_code.specs.{Answers.FirmwareAnswers, Firmwares.IsFirmwareOf}
 use Rattle.eval_code.specs.Bounds.{BoundsAreFew, instruction_bound, step_bound, steps_by}
 use Rattle.eval_code.specs.declared.memory_map.MemoryMap.{MemoryMap}
 use Rattle.byte_scaling.specs.declared.width.Width.{Width}

@@ -7,8 +7,9 @@ use Rattle.std.proofs.lemmas.Bool.Decides.{nat_tests}
 use Rattle.fuzzy_meaning.specs.{Blocks.IsValid, declared.block.Block.Block}
 use Rattle.cpu12_parts.specs.{Executions.Execution, State.State}
 use Rattle.cpu12_emul.specs.{Image.image_memory, Step.Next, Step.is_part, Step.next_of, Step.reset_with}
-use Rattle.alone_code.specs.declared.firmware.Firmware.{Firmware}
-use Rattle.alone_code.specs.{Answers.given, Mailboxes.IsMailboxOf, Turns.IsMaskedStep, Turns.MailboxTakesPosts}
+use Rattle.firmware_code.specs.declared.firmware.Firmware.{Firmware}
+use Rattle.firmware_code.specs.Arrivals.{given}
+use Rattle.mailbox_code.specs.{Mailboxes.IsMailboxOf, Turns.IsMaskedStep, Turns.MailboxTakesPosts}
 use Rattle.alone_runs.specs.Rows.{bytes_of}
 use Rattle.eval_code.specs.declared.memory_map.MemoryMap.{MemoryMap}
 use Rattle.mailbox_runs.specs.Answering.{begun, ended}

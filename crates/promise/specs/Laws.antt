@@ -2,8 +2,9 @@
 -- Beside the promise.
 use Rattle.box_tree.specs.declared.cert.CertFormat.{CertFormat}
 use Rattle.command_parts.specs.{Certs.AcceptsCert, Readings.GivesSome}
-use Rattle.alone_code.specs.{Firmwares.IsFirmwareOf, Images.IsImageOf, Images.firmware_items}
-use Rattle.alone_code.specs.declared.firmware.Firmware.{Firmware}
+use Rattle.firmware_code.specs.Images.{IsImageOf}
+use Rattle.alone_code.specs.Firmwares.{IsFirmwareOf, firmware_items}
+use Rattle.firmware_code.specs.declared.firmware.Firmware.{Firmware}
 use Rattle.cpu12_asm.specs.declared.image.Image.{Image}
 use Rattle.eval_code.specs.MemoryMaps.{main_map}
 use Rattle.byte_scaling.specs.declared.width.Width.{Width}

@@ -2,7 +2,7 @@
 -- Beside the promise.
 use Rattle.std.specs.Prelude.{◌≢◌, ℕ, List, [], ◌∷◌}
 use Rattle.cpu12_parts.specs.State.{State}
-use Rattle.alone_code.specs.declared.firmware.Firmware.{Firmware}
+use Rattle.firmware_code.specs.declared.firmware.Firmware.{Firmware}
 use Rattle.mailbox_runs.specs.{Answering.begun, Answering.ended, Runs.turn_form, Turns.Turn}
 use Rattle.promise.specs.Bench.{EndsAfter}
 

@@ -9,10 +9,11 @@ ghost use Rattle.promise.specs.Laws.{AcceptedFilesGiveFirmware, AcceptedFilesKee
 ghost use Rattle.promise.specs.Laws.{PrintedNumbersAreOne};
 ghost use Rattle.promise.specs.{OneRun.PromisedRowsAreOne, OtherRuns.OtherRunsServe};
 
-use alone_code::laws::{firmware_answers, mailbox_takes_posts};
+use alone_code::laws::firmware_answers;
 use cpu12_emul::laws::images_load_alike;
 use eval_code::laws::bounds_are_few;
 use fcl_check::laws::spelled_blocks_are_one;
+use mailbox_code::laws::mailbox_takes_posts;
 use mailbox_runs::laws::{mailbox_runs_turns, turns_have_steps};
 use run_commands::laws::accepted_runs_make_output;
 use run_forms::laws::{arrives_plainly, plain_is_one_step};

@@ -3,7 +3,7 @@ use Rattle.run_commands.proofs.Words.{[], ◌++◌, ◌∙◌, ◌∷◌, ◌≡
 use Rattle.run_commands.proofs.Words.{arith, Byte, codes, firmware_rows, frames_of, generate_lines, input_bytes}
 use Rattle.run_commands.proofs.Words.{length, line, List, made_with, map, refl, report_of, resumed_of, RowSeen, ℕ}
 use Rattle.run_commands.proofs.Words.{Block, format_of, generated_target, Named, subst, sym}
-use Rattle.alone_code.specs.{Alike.FirmwaresAreOne, Firmwares.IsFirmwareOf}
+use Rattle.alone_code.specs.Firmwares.{FirmwaresAreOne, IsFirmwareOf}
 use Rattle.box_tree.specs.declared.cert.Cert.{Cert}
 use Rattle.byte_scaling.specs.Widths.{parts}
 use Rattle.command_parts.proofs.Algebra.{settled}

@@ -4,7 +4,6 @@ pub use Rattle.run_commands.specs.Generate.{GenerateMakes, answers_of, frames_of
 pub use Rattle.run_commands.specs.Generate.{resumed_of}
 pub use Rattle.std.proofs.Common.{Err, List, [], ap, ap₂, arith, drop, length, map, refl, rules, subst, sym, take}
 pub use Rattle.std.proofs.Common.{true, ℕ, ◌*◌, ◌++◌, ◌-◌, ◌∙◌, ◌∷◌, ◌≡◌, ◌≤◌}
-pub use Rattle.alone_code.specs.{declared.firmware.Firmware.Firmware}
 pub use Rattle.alone_runs.specs.{Answering.AnswersUnderPlans, Rows.firmware_rows}
 pub use Rattle.alone_runs.specs.{Rows.row_seen, declared.rows.Row.Row}
 pub use Rattle.box_tree.specs.{Texts.format_of, declared.cert.CertKind.TheVariants.Named}
@@ -15,6 +14,7 @@ pub use Rattle.command_parts.specs.{Lines.line, SeenOutputs.only_lines}
 pub use Rattle.command_parts.specs.{declared.firmware.Form.TheVariants.Alone}
 pub use Rattle.cpu12_isa.specs.{Regions.free_start, Regions.stack_end}
 pub use Rattle.debug_script.specs.{Showing.shown}
+pub use Rattle.firmware_code.specs.{declared.firmware.Firmware.Firmware}
 pub use Rattle.fuzzy_meaning.specs.{declared.block.Block.Block}
 pub use Rattle.fz_shelf.proofs.{Algebra.bare-address, Algebra.bare-append}
 pub use Rattle.fz_status.specs.{declared.status.Status.Status}

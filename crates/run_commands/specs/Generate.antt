@@ -4,7 +4,7 @@ use Rattle.std.specs.Prelude.{◌≡◌, ℕ, List, [], ◌∷◌, ◌++◌, len
 use Rattle.std.specs.Prelude.{Result}
 use Rattle.fuzzy_meaning.specs.declared.block.Block.{Block}
 use Rattle.byte_scaling.specs.{Widths.parts, declared.width.Width.TheVariants.Byte}
-use Rattle.alone_code.specs.declared.firmware.Firmware.{Firmware}
+use Rattle.firmware_code.specs.declared.firmware.Firmware.{Firmware}
 use Rattle.box_tree.specs.{Texts.format_of, declared.cert.Cert.Cert, declared.cert.CertKind.TheVariants.Named}
 use Rattle.error_certifier.specs.{Halving.IsHalvingFor, Targets.targets_of, declared.targets.Targets.Targets}
 use Rattle.error_certifier.specs.declared.targets.Targets.TheVariants.{All}

@@ -3,7 +3,7 @@
 -- Beside the promise.
 use Rattle.std.specs.Prelude.{◌≡◌, ◌<◌, ◌^◌, ℕ, List, [], ◌∷◌, map, Option, option_map, Result}
 use Rattle.fuzzy_meaning.specs.declared.block.Block.{Block}
-use Rattle.alone_code.specs.declared.firmware.Firmware.{Firmware}
+use Rattle.firmware_code.specs.declared.firmware.Firmware.{Firmware}
 use Rattle.alone_runs.specs.Rows.{firmware_rows}
 use Rattle.box_tree.specs.declared.cert.CertFormat.{CertFormat}
 use Rattle.interrupt_plan.specs.declared.Request.{Request}

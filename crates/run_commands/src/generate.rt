@@ -12,7 +12,7 @@ ghost use Rattle.run_commands.specs.Generate.{GenerateMakes, generate_in, genera
 ghost use Rattle.run_commands.specs.Generate.{frames_of, resumed_of, answers_of};
 ghost use Rattle.workload.specs.Workloads.{IsWorkload};
 
-use alone_code::{Firmware, compile};
+use alone_code::compile;
 use alone_runs::{Row, run};
 use box_tree::CertFormat;
 use command_parts::certs::halved;
@@ -20,6 +20,7 @@ use command_parts::lines::push_errors;
 use command_parts::output::Output;
 use command_parts::words::number32_in;
 use error_certifier::Targets;
+use firmware_code::Firmware;
 use fuzzy_meaning::Block;
 use fz_shelf::Line;
 use fz_status::{Status, word};

@@ -11,7 +11,7 @@ use Rattle.run_forms.specs.Rows.{boundary_seen, frames_seen}
 use Rattle.cpu12_emul.specs.{Take.FrameSeen, declared.ends.Frame.Frame}
 use Rattle.run_law.specs.Forms.{RowSeen}
 use Rattle.fuzzy_meaning.specs.declared.block.Block.{Block}
-use Rattle.alone_code.specs.declared.firmware.Firmware.{Firmware}
+use Rattle.firmware_code.specs.declared.firmware.Firmware.{Firmware}
 use Rattle.alone_runs.specs.{Answering.AnswersUnder, Rows.firmware_rows}
 use Rattle.interrupt_plan.specs.declared.Request.{Request}
 use Rattle.command_parts.proofs.Algebra.{faulted, made_next, made_with, settled}

@@ -13,7 +13,7 @@ use Rattle.byte_scaling.specs.Cells.{bytes_of, nearest_byte, value_in}
 use Rattle.point_slope.specs.Bytes.{ByteShare, answer_in, byte_shares, centre, resting_answer}
 use Rattle.cert_check.specs.Laws.{AcceptedAnswersAreNear, answer_to, HasDefaults}
 use Rattle.cpu12_emul.specs.Image.{image_memory}
-use Rattle.alone_code.specs.declared.firmware.Firmware.{Firmware}
+use Rattle.firmware_code.specs.declared.firmware.Firmware.{Firmware}
 use Rattle.watched_code.specs.Watched.{Watched, is_upset, watched_answer, watched_fault}
 use Rattle.interrupt_plan.specs.declared.upsets.Upset.{Upset}
 use Rattle.trace_io.specs.Traces.{input_bytes}

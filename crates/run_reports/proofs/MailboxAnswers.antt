@@ -6,7 +6,7 @@ use Rattle.std.proofs.lemmas.List.Elements.{All-cons, All-get_or, All-head, All-
 use Rattle.fuzzy_meaning.specs.{declared.block.Block.Block, Blocks.AreInputs}
 use Rattle.byte_scaling.specs.Cells as cells
 use Rattle.cert_check.specs.Laws.{AcceptedAnswersAreNear}
-use Rattle.alone_code.specs.Uninterrupted.{AreAnswersOf}
+use Rattle.firmware_code.specs.Uninterrupted.{AreAnswersOf}
 use Rattle.trace_io.specs.{Traces.Fields, Traces.SpellSamples, declared.sample.Sample.Sample}
 use Rattle.trace_io.specs.Traces.{input_bytes}
 use Rattle.alone_runs.specs.Rows.{bytes_of}

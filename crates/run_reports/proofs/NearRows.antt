@@ -13,7 +13,7 @@ use Rattle.byte_scaling.specs.declared.{width.Width.Width, width.Width.TheVarian
 use Rattle.point_slope.specs.Bytes.{answer_in}
 use Rattle.box_tree.specs.declared.cert.Cert.{Cert}
 use Rattle.cert_check.specs.{Acceptance.IsAccepted, Laws.AcceptedAnswersAreNear, Laws.answer_to}
-use Rattle.alone_code.specs.Uninterrupted.{Answer, AreAnswersOf}
+use Rattle.firmware_code.specs.Uninterrupted.{Answer, AreAnswersOf}
 use Rattle.eval_code.specs.Widths.{answer}
 use Rattle.trace_io.specs.{Traces.AreWithin, Traces.Fields, Traces.SpellSamples, declared.sample.Sample.Sample}
 use Rattle.alone_runs.specs.Answering.{answer_of_row}

@@ -10,7 +10,7 @@ use Rattle.byte_scaling.specs.declared.width.Width.{Width}
 use Rattle.cert_check.specs.Acceptance.{IsAccepted}
 use Rattle.eval_code.specs.{Bounds.instruction_bound, Firing.AreInputBytes}
 use Rattle.eval_code.specs.Widths.{answer}
-use Rattle.alone_code.specs.{Uninterrupted.Answer, Uninterrupted.AreAnswersOf, declared.firmware.Firmware.Firmware}
+use Rattle.firmware_code.specs.{Uninterrupted.Answer, Uninterrupted.AreAnswersOf, declared.firmware.Firmware.Firmware}
 use Rattle.interrupt_plan.specs.declared.Request.{Request}
 use Rattle.trace_io.specs.Traces.{AreWithin, Fields, SpellSamples, Spells, input_bytes}
 use Rattle.trace_io.specs.declared.sample.Sample.{Sample}

@@ -3,7 +3,8 @@
 use Rattle.std.specs.Prelude.{◌≡◌, ◌≢◌, ℕ, ◌≤◌, true, List, [], ◌∷◌, ◌++◌, All, length, map}
 use Rattle.fuzzy_meaning.specs.declared.block.Block.{Block}
 use Rattle.cpu12_emul.specs.Take.{FrameSeen}
-use Rattle.alone_code.specs.{Mailboxes.mailbox_bound, declared.firmware.Firmware.Firmware}
+use Rattle.firmware_code.specs.declared.firmware.Firmware.{Firmware}
+use Rattle.mailbox_code.specs.Mailboxes.{mailbox_bound}
 use Rattle.box_tree.specs.declared.cert.CertKind.{CertKind}
 use Rattle.box_tree.specs.Texts.{format_of}
 use Rattle.byte_scaling.specs.declared.width.Width.TheVariants.{Byte}

@@ -7,7 +7,7 @@ use Rattle.fuzzy_meaning.specs.{Blocks.IsValid, Blocks.output_at, Meaning.exact_
 use Rattle.byte_scaling.specs.{Cells.value_in, Widths.parts}
 use Rattle.box_tree.specs.declared.cert.Cert.{Cert}
 use Rattle.cert_check.specs.Acceptance.{IsAccepted}
-use Rattle.alone_code.specs.declared.firmware.Firmware.{Firmware}
+use Rattle.firmware_code.specs.declared.firmware.Firmware.{Firmware}
 use Rattle.trace_io.specs.{Traces.Spells, declared.sample.Sample.Sample}
 use Rattle.run_law.specs.Forms.{RowSeen}
 use Rattle.alone_runs.specs.Answering.{AnswerBlock}

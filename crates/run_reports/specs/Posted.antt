@@ -6,7 +6,7 @@ use Rattle.fz_num.specs.declared.dec.Dec.{Dec}
 use Rattle.fuzzy_meaning.specs.{declared.block.Block.Block, Blocks.IsValid}
 use Rattle.box_tree.specs.declared.cert.Cert.{Cert}
 use Rattle.cert_check.specs.Acceptance.{IsAccepted}
-use Rattle.alone_code.specs.Uninterrupted.{Answer, AreAnswersOf}
+use Rattle.firmware_code.specs.Uninterrupted.{Answer, AreAnswersOf}
 use Rattle.byte_scaling.specs.{Widths.parts, declared.width.Width.Width}
 use Rattle.trace_io.specs.{Traces.Spells, declared.sample.Sample.Sample}
 use Rattle.trace_io.specs.Traces.{input_bytes}

@@ -4,7 +4,7 @@ use Rattle.std.specs.Prelude.{◌≡◌, ℕ, ◌≤◌, List, All, map}
 use Rattle.fuzzy_meaning.specs.declared.block.Block.{Block}
 use Rattle.eval_code.specs.Bounds.{instruction_bound}
 use Rattle.byte_scaling.specs.{Widths.parts, declared.width.Width.Width}
-use Rattle.alone_code.specs.declared.firmware.Firmware.{Firmware}
+use Rattle.firmware_code.specs.declared.firmware.Firmware.{Firmware}
 use Rattle.trace_io.specs.{declared.sample.Sample.Sample, Traces.input_bytes}
 use Rattle.interrupt_plan.specs.declared.Request.{Request}
 use Rattle.run_law.specs.Forms.{RowSeen}

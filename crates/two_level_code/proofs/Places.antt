@@ -6,7 +6,7 @@ use Rattle.cpu12_isa.specs.declared.instr.Instr.TheVariants.{Rts}
 use Rattle.cpu12_asm.specs.Items.{IsRisingFrom, IsRising}
 use Rattle.byte_scaling.specs.declared.width.Width.TheVariants.{Byte}
 use Rattle.eval_code.specs.{MemoryMaps.main_map, Items.IsApart, Placed.IsInOrder, Placed.BlockRises}
-use Rattle.alone_code.specs.{Code.frame_code, Images.vector_items}
+use Rattle.firmware_code.specs.{Code.frame_code, Images.vector_items}
 use Rattle.two_level_code.specs.MemoryMaps.{fast_front, fast_back, fast_map, slow_map}
 use Rattle.two_level_code.specs.Images.{slow_items, two_items}
 use Rattle.alone_code.proofs.Algebra.{main_in_order}

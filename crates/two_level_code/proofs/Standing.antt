@@ -20,8 +20,10 @@ use Rattle.eval_code.specs.{MemoryMaps.main_map, Code.code_bytes, Items.block_it
 use Rattle.eval_code.specs.{Evaluation.Reads, Evaluation.Writes, Standing.ImageIsBytes}
 use Rattle.eval_code.specs.Placed.{BlockStaysInside, GivesBehind, GiveBytes, BlockGivesBytes}
 use Rattle.byte_scaling.specs.{declared.width.Width.Width, declared.width.Width.TheVariants.Byte}
-use Rattle.alone_code.specs.{Code.frame_code, Images.vector_items, Images.firmware_items}
-use Rattle.alone_code.specs.Answers.{LeavesMapped, FirmwareAnswersBeside, FirmwareArrivesAlike}
+use Rattle.firmware_code.specs.{Code.frame_code, Images.vector_items}
+use Rattle.alone_code.specs.Firmwares.{firmware_items}
+use Rattle.firmware_code.specs.Arrivals.{LeavesMapped}
+use Rattle.alone_code.specs.Answers.{FirmwareAnswersBeside, FirmwareArrivesAlike}
 use Rattle.two_level_code.specs.{declared.two.Two.Two, Standing.TwoStandBeside}
 use Rattle.two_level_code.specs.MemoryMaps.{fast_front, fast_back, fast_map, slow_map, is_fast_ram, is_fast_rom}
 use Rattle.two_level_code.specs.MemoryMaps.{is_open_to_fast}

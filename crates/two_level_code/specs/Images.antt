@@ -5,8 +5,9 @@ use Rattle.fuzzy_meaning.specs.{declared.block.Block.Block, Blocks.IsValid}
 use Rattle.rule_layout.specs.Layouts.{IsWithinLimits}
 use Rattle.cpu12_isa.specs.declared.instr.Instr.TheVariants.{Rts}
 use Rattle.cpu12_asm.specs.declared.items.Item.{Item}
-use Rattle.alone_code.specs.declared.firmware.Firmware.{Firmware}
-use Rattle.alone_code.specs.{Code.frame_code, Images.vector_items, Images.IsImageOf, Firmwares.IsFirmwareOf}
+use Rattle.firmware_code.specs.declared.firmware.Firmware.{Firmware}
+use Rattle.firmware_code.specs.{Code.frame_code, Images.vector_items, Images.IsImageOf}
+use Rattle.alone_code.specs.Firmwares.{IsFirmwareOf}
 use Rattle.byte_scaling.specs.declared.width.Width.TheVariants.{Byte}
 use Rattle.eval_code.specs.{MemoryMaps.main_map, Bounds.instruction_bound, Bounds.step_bound, Items.block_items}
 use Rattle.two_level_code.specs.declared.two.{FastCode.FastCode, Two.Two}

@@ -7,7 +7,8 @@ use Rattle.cpu12_isa.specs.{Agreement.Agree, Fits.AreBytes, Regions.vector_word}
 use Rattle.cpu12_emul.specs.Image.{image_memory}
 use Rattle.byte_scaling.specs.declared.width.Width.TheVariants.{Byte}
 use Rattle.eval_code.specs.Evaluation.{HasAnswers}
-use Rattle.alone_code.specs.Answers.{LeavesMapped, AnswersBeside, ArrivesAlike}
+use Rattle.firmware_code.specs.Arrivals.{LeavesMapped}
+use Rattle.alone_code.specs.Answers.{AnswersBeside, ArrivesAlike}
 use Rattle.two_level_code.specs.declared.two.Two.{Two}
 use Rattle.two_level_code.specs.{MemoryMaps.fast_map, MemoryMaps.is_open_to_fast, Images.IsTwoOf, Running.LetsIn}
 

@@ -2,11 +2,11 @@
 ghost use Rattle.std.specs.Prelude.{◌≡◌, IfOk};
 ghost use Rattle.two_level_code.specs.{Images.two_items, MemoryMaps.fast_map, MemoryMaps.slow_map};
 
-use alone_code::{frame_code, push_vectors};
 use byte_scaling::Width;
 use cpu12_asm::Item;
 use cpu12_isa::instr::Instr;
 use eval_code::{Around, MemoryMap, push_block};
+use firmware_code::{frame_code, push_vectors};
 use rule_layout::LaidOut;
 use std::alloc::{AllocError, Global};
 

@@ -5,11 +5,11 @@ ghost use Rattle.two_level_code.specs.Standing.{TwoStandBeside};
 
 use alone_code::laws::{
     blocks_have_firmware, firmware_answers_beside, firmware_arrives_alike, firmwares_are_one,
-    images_are_one, items_have_images,
 };
 use cpu12_emul::laws::holds_image;
 use cpu12_isa::laws::{decodes_encoded, stays_fit};
 use eval_code::laws::{blocks_are_placed, eval_answers, frames_leave, placed_items_stand};
+use firmware_code::laws::{images_are_one, items_have_images};
 
 /// Wherever an interrupt enters the fast code, it reaches its return with its block's answers, within its bounds,
 /// accesses only what is the fast block's, and leaves X unchanged.

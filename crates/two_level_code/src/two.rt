@@ -6,11 +6,12 @@ ghost use Rattle.two_level_code.specs.{Running.AnswersEntered, Standing.StandsBe
 
 use crate::items::two_items;
 use crate::laws::{fast_answers_entered, two_stand_beside};
-use alone_code::{Firmware, compile_laid_out, image_of};
+use alone_code::compile_laid_out;
 use byte_scaling::Width;
 use cpu12_asm::Image;
 use eval_code::laws::blocks_are_placed;
 use eval_code::{instruction_bound, steps_by};
+use firmware_code::{Firmware, image_of};
 use fuzzy_meaning::Block;
 use rule_layout::{LaidOut, LayoutFault, spread};
 use std::alloc::{AllocError, Global};

@@ -8,7 +8,7 @@ use Rattle.std.specs.{Prelude.flat_map}
 use Rattle.two_level_runs.specs.{Rows.with_fast, Levels.IsAnswerTold, Levels.AreAnswersTold, Answering.runs_told}
 use Rattle.two_level_runs.specs.{Answering.fast_runs, Answering.outputs_told}
 use Rattle.std.specs.List.{cons_option}
-use Rattle.alone_code.specs.Uninterrupted.{AreAnswersOf}
+use Rattle.firmware_code.specs.Uninterrupted.{AreAnswersOf}
 use Rattle.run_forms.specs.Rows.{shown_rows}
 
 -- those of all samples

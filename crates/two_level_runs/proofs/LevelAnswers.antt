@@ -11,9 +11,10 @@ use Rattle.alone_runs.specs.{Answering.FirstStatesAgree}
 use Rattle.firmware_runs.specs.{Facts.FactsAlone}
 use Rattle.two_level_runs.specs.{Levels.Levels, Rows.two_level_parts, Rows.two_rows, Answering.fast_runs_of}
 use Rattle.two_level_runs.specs.{Answering.AnswersUnderLevels, Answering.UninterruptedValues}
-use Rattle.alone_code.specs.{Firmwares.IsFirmwareOf, Uninterrupted.AreAnswersOf, Uninterrupted.FirmwareIsUninterrupted}
-use Rattle.alone_code.specs.Uninterrupted as whole
-use Rattle.alone_code.specs.declared.firmware.Firmware.{Firmware}
+use Rattle.firmware_code.specs.Uninterrupted.{AreAnswersOf}
+use Rattle.alone_code.specs.{Firmwares.IsFirmwareOf, Uninterrupted.FirmwareIsUninterrupted}
+use Rattle.firmware_code.specs.Uninterrupted as whole
+use Rattle.firmware_code.specs.declared.firmware.Firmware.{Firmware}
 use Rattle.two_level_code.specs.Images.{IsAlone}
 use Rattle.alone_runs.specs.Following.{AllWait}
 use Rattle.byte_scaling.specs.declared.width.Width.{Width}

@@ -9,8 +9,8 @@ use Rattle.two_level_runs.proofs.Words.{Two, uninterrupted, with_writes, ℕ, ca
 use Rattle.run_law.specs.Following.{expected_rows, expected_taken, RowsSimulate}
 use Rattle.alone_runs.specs.Following.{AllWait}
 use Rattle.firmware_runs.specs.{Facts.WaitsAlone, Ports.answers_in}
-use Rattle.alone_code.specs.declared.firmware.Firmware.{Firmware}
-use Rattle.alone_code.proofs.Algebra.{in_room}
+use Rattle.firmware_code.specs.declared.firmware.Firmware.{Firmware}
+use Rattle.firmware_code.proofs.Algebra.{in_room}
 use Rattle.two_level_runs.proofs.Frames.{HasFrameRoom, frames_fit, low_all}
 use Rattle.two_level_runs.proofs.LevelPlans.{requests_are, resumed_each, frames_of_each}
 

@@ -10,7 +10,7 @@ use Rattle.two_level_runs.proofs.Words.{List, nat_tests, None, OnStack, OnStackO
 use Rattle.two_level_runs.proofs.Words.{OuterIsQuiet, OuterIsServable, OuterServes, outputs_after, Quiet, Ran, refl}
 use Rattle.two_level_runs.proofs.Words.{Regs, Running, RunsFast, sample_of, seen_of, served_by, slice_get, Some}
 use Rattle.two_level_runs.proofs.Words.{State, subst, suc, sym, Temps, told_by, true, Two, word_of, zero, ℕ}
-use Rattle.alone_code.specs.Interruptible.{IsStackOfOneCall}
+use Rattle.firmware_code.specs.Interruptible.{IsStackOfOneCall}
 use Rattle.std.specs.{Prelude.slice_index_or}
 use Rattle.fuzzy_meaning.specs.{Blocks.IsValid}
 use Rattle.cpu12_emul.specs.{Simulation.TakesQuietly}

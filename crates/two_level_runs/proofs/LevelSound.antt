@@ -10,7 +10,7 @@ use Rattle.std.proofs.{Common.Option}
 use Rattle.eval_code.specs.{MemoryMaps.main_map}
 use Rattle.byte_scaling.specs.{declared.width.Width.Width, declared.width.Width.TheVariants.Byte, Widths.places}
 use Rattle.alone_runs.specs.{Following.IsLow, OpenBytes.StepLeavesOpen}
-use Rattle.alone_code.specs.Answers.{LeavesMapped}
+use Rattle.firmware_code.specs.Arrivals.{LeavesMapped}
 use Rattle.alone_runs.specs.SoundAloneProof.{LeavesPorts, given_alike, answered_alike, ended_alike}
 use Rattle.two_level_runs.proofs.Bytes.{step_bytes, push_bytes, given_bytes}
 use Rattle.two_level_runs.proofs.{Serving.open_apart, Standing.stands}

@@ -8,7 +8,7 @@ use Rattle.two_level_runs.proofs.Words.{true, zero, ℕ, ◌∷◌}
 use Rattle.eval_code.specs.{Widths.answer}
 use Rattle.two_level_code.specs.{Running.IsEntered}
 use Rattle.two_level_runs.specs.{Answering.run_of_level}
-use Rattle.alone_code.specs.Uninterrupted.{Answer, AreAnswersOf, IsAnswerOf}
+use Rattle.firmware_code.specs.Uninterrupted.{Answer, AreAnswersOf, IsAnswerOf}
 use Rattle.byte_scaling.specs.declared.width.Width.{Width}
 use Rattle.std.proofs.lemmas.List.{ext_get_or}
 use Rattle.two_level_runs.proofs.Frames.{HasFrameRoom, frame_at}

@@ -13,8 +13,8 @@ use Rattle.run_law.specs.Uninterrupted.{uninterrupted, counted, taken_before, re
 use Rattle.interrupt_plan.specs.{declared.Request.Request, declared.levels.Level.Level, Levels.AreGoodLevels}
 use Rattle.byte_scaling.specs.declared.width.Width.TheVariants.{Byte}
 use Rattle.eval_code.specs.{Widths.answer, Firing.AreInputBytes}
-use Rattle.alone_code.specs.{declared.firmware.Firmware.Firmware, Uninterrupted.Answer, Uninterrupted.AreAnswersOf}
-use Rattle.alone_code.specs.Uninterrupted.{AreUninterrupted}
+use Rattle.firmware_code.specs.{declared.firmware.Firmware.Firmware, Uninterrupted.Answer, Uninterrupted.AreAnswersOf}
+use Rattle.firmware_code.specs.Uninterrupted.{AreUninterrupted}
 use Rattle.two_level_code.specs.declared.two.Two.{Two}
 use Rattle.two_level_code.specs.{Images.fast_most, Images.IsAlone, Images.IsTwoOf, MemoryMaps.is_open_to_fast}
 use Rattle.two_level_code.specs.Running.{IsEntered}

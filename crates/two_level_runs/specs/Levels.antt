@@ -9,7 +9,7 @@ use Rattle.run_law.specs.Soundness.{Sound, WritesAreQuiet}
 use Rattle.interrupt_plan.specs.{declared.levels.Level.Level, Levels.IsGoodLevel}
 use Rattle.byte_scaling.specs.declared.width.Width.TheVariants.{Byte}
 use Rattle.eval_code.specs.Evaluation.{HasAnswers}
-use Rattle.alone_code.specs.Uninterrupted.{IsAnswerOf}
+use Rattle.firmware_code.specs.Uninterrupted.{IsAnswerOf}
 use Rattle.two_level_code.specs.{declared.two.Two.Two, Images.fast_most, MemoryMaps.fast_map}
 use Rattle.two_level_code.specs.{MemoryMaps.is_open_to_fast}
 use Rattle.firmware_runs.specs.Facts.{FactsBeside}

@@ -2,7 +2,7 @@
 -- Beside the promise.
 use Rattle.std.specs.Prelude.{◌≡◌}
 use Rattle.fuzzy_meaning.specs.declared.block.Block.{Block}
-use Rattle.alone_code.specs.declared.firmware.Firmware.{Firmware}
+use Rattle.firmware_code.specs.declared.firmware.Firmware.{Firmware}
 use Rattle.watched_code.specs.Watched.{IsWatchedFirmwareOf}
 
 abbrev pub WatchedFirmwaresAreOne : Type 0

@@ -14,9 +14,9 @@ use Rattle.cpu12_emul.specs.Image.{image_memory}
 use Rattle.eval_code.specs.declared.memory_map.MemoryMap.{MemoryMap}
 use Rattle.eval_code.specs.{Widths.answer, MemoryMaps.main_map, Bounds.instruction_bound, Bounds.steps_by}
 use Rattle.eval_code.specs.{Items.block_items, Firing.AreInputBytes, Evaluation.HasAnswers}
-use Rattle.alone_code.specs.declared.firmware.Firmware.{Firmware}
-use Rattle.alone_code.specs.Interruptible.{is_idle, IsInterruptible, IsInterruptibleStep}
-use Rattle.alone_code.specs.{Images.vector_items, Images.IsImageOf, Answers.given, Answers.IsArrived}
+use Rattle.firmware_code.specs.declared.firmware.Firmware.{Firmware}
+use Rattle.firmware_code.specs.Interruptible.{is_idle, IsInterruptible, IsInterruptibleStep}
+use Rattle.firmware_code.specs.{Images.vector_items, Images.IsImageOf, Arrivals.given, Arrivals.IsArrived}
 use Rattle.watched_code.specs.declared.segments.Segment.{Segment}
 use Rattle.watched_code.specs.WatchedCode.{segments_of, fault_at, watched_front, watched_map}
 

@@ -14,7 +14,7 @@ use Rattle.cpu12_isa.specs.declared.instr.Instr.TheVariants.{AddbPostIncrementX}
 use Rattle.eval_code.specs.{declared.memory_map.MemoryMap.MemoryMap, MemoryMaps.main_map, Code.code_bytes}
 use Rattle.eval_code.specs.Data.{table_bytes, singleton_bytes, rule_bytes}
 use Rattle.watched_code.specs.{declared.segments.Segment.Segment, Checksums.check_byte}
-use Rattle.alone_code.specs.Code.{frame_code}
+use Rattle.firmware_code.specs.Code.{frame_code}
 
 -- FAULT, which is 1 where the tables are not what they were, and else 0
 abbrev pub fault_at : ℕ

@@ -6,11 +6,11 @@ ghost use Rattle.watched_code.specs.WatchedCode.{AreSegments, bad_code, check_co
 ghost use Rattle.watched_code.specs.WatchedCode.{segments_code, watched_front_over};
 
 use crate::segments::{Segment, check_byte};
-use alone_code::frame_code;
 use byte_scaling::near;
 use cpu12_isa::encode::encode;
 use cpu12_isa::instr::Instr;
 use eval_code::MemoryMap;
+use firmware_code::frame_code;
 use fuzzy_meaning::Output;
 use std::alloc::{AllocError, Global};
 

@@ -3,13 +3,13 @@ ghost use Rattle.watched_code.specs.Alike.{WatchedFirmwaresAreOne};
 ghost use Rattle.watched_code.specs.Watched.{BlocksHaveWatchedFirmware, WatchedAnswers, WatchedIsBytes};
 ghost use Rattle.watched_code.specs.Checksums.{OneChangeIsSeen, TwoChangesMayPass, UnchangedSumIsZero};
 
-use alone_code::laws::{
-    called_eval_returns, frames_lead, free_bytes_leave, image_has_firmware, images_are_one,
-    instructions_go_on, items_have_images, live_states_wait,
-};
 use byte_scaling::laws::nearest_is_byte;
 use cpu12_isa::laws::stays_fit;
 use eval_code::laws::{blocks_are_placed, code_is_decoded};
+use firmware_code::laws::{
+    called_eval_returns, frames_lead, free_bytes_leave, image_has_firmware, images_are_one,
+    instructions_go_on, items_have_images, live_states_wait,
+};
 
 /// With its check byte the sum of bytes is 0. If one byte is changed to another value it is not 0; if two are, it
 /// may be.

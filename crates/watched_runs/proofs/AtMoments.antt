@@ -6,7 +6,7 @@ use Rattle.cpu12_parts.specs.State.{State}
 use Rattle.run_law.specs.Uninterrupted.{uninterrupted, counted, taken_at, resumed_of, frames_of}
 use Rattle.run_law.specs.{Following.AllComplete, Following.expected_rows, Moments.TakenAtOnce}
 use Rattle.interrupt_plan.specs.declared.Request.{Request}
-use Rattle.alone_code.specs.declared.firmware.Firmware.{Firmware}
+use Rattle.firmware_code.specs.declared.firmware.Firmware.{Firmware}
 use Rattle.firmware_runs.specs.Ports.{answers_in}
 use Rattle.alone_runs.specs.{Following.row_of_sample, Rows.requests_of}
 use Rattle.watched_code.specs.{Watched.Watched, Watched.restored, WatchedCode.fault_at}

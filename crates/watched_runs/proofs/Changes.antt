@@ -10,7 +10,7 @@ use Rattle.cpu12_asm.specs.Bytes.{byte_at}
 use Rattle.cpu12_parts.specs.State.{State}
 use Rattle.cpu12_emul.specs.Image.{image_memory}
 use Rattle.interrupt_plan.specs.{declared.upsets.Upset.Upset, Upsets.is_there, Upsets.IsGoodUpset}
-use Rattle.alone_code.specs.{declared.firmware.Firmware.Firmware, Interruptible.IsInterruptible}
+use Rattle.firmware_code.specs.{declared.firmware.Firmware.Firmware, Interruptible.IsInterruptible}
 use Rattle.eval_code.specs.declared.memory_map.MemoryMap.{MemoryMap}
 use Rattle.watched_code.specs.Watched.{Change, changed, restored, IsTableChange}
 use Rattle.firmware_runs.specs.Facts.{WaitsAlone}

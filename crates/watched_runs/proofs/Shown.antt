@@ -3,7 +3,7 @@ use Rattle.std.proofs.Common.{◌≡◌, ℕ, suc, false, List, [], ◌∷◌, �
 use Rattle.std.specs.Prelude.{map, Option, slice_index}
 use Rattle.cpu12_parts.specs.State.{State}
 use Rattle.run_law.specs.Forms.{Form, RowSeen, row_of, rows_from, run_from}
-use Rattle.alone_code.specs.declared.firmware.Firmware.{Firmware}
+use Rattle.firmware_code.specs.declared.firmware.Firmware.{Firmware}
 use Rattle.eval_code.specs.declared.memory_map.MemoryMap.{MemoryMap}
 use Rattle.watched_code.specs.{Watched.Change, Watched.Watched, Watched.changed, WatchedCode.fault_at}
 use Rattle.run_forms.specs.declared.{sample.Notes.Notes, sample.Counts.Counts}

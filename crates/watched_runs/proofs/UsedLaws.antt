@@ -4,7 +4,7 @@ use Rattle.cpu12_isa.specs.Regions.{is_free}
 use Rattle.cpu12_emul.specs.Simulation.{OnStackOnly}
 use Rattle.run_law.specs.{Following.RunsFollow, Moments.TakenAtOnce}
 use Rattle.interrupt_plan.specs.Plans.{IsGoodRequest}
-use Rattle.alone_code.specs.declared.firmware.Firmware.{Firmware}
+use Rattle.firmware_code.specs.declared.firmware.Firmware.{Firmware}
 use Rattle.watched_code.specs.Watched.{WatchedAnswers}
 use Rattle.run_forms.specs.Arrival.{ArrivesPlainly}
 use Rattle.alone_runs.specs.{Following.IsLow, Following.Nothing, Given.RequestsAreGood}

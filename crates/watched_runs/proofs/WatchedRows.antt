@@ -11,7 +11,7 @@ use Rattle.cpu12_parts.specs.{State.State, Executions.all_steps}
 use Rattle.cpu12_emul.specs.{Image.image_memory, Step.reset_with, Simulation.OnStackOnly}
 use Rattle.interrupt_plan.specs.declared.{Request.Request, upsets.Upset.Upset}
 use Rattle.interrupt_plan.specs.{Plans.IsGood, Upsets.IsGoodUpset}
-use Rattle.alone_code.specs.{declared.firmware.Firmware.Firmware, Answers.IsArrived, Interruptible.is_idle}
+use Rattle.firmware_code.specs.{declared.firmware.Firmware.Firmware, Arrivals.IsArrived, Interruptible.is_idle}
 use Rattle.eval_code.specs.declared.memory_map.MemoryMap.{MemoryMap}
 use Rattle.eval_code.specs.{Bounds.steps_by, Bounds.instruction_bound, Firing.AreInputBytes}
 use Rattle.byte_scaling.specs.{declared.width.Width.Width, declared.width.Width.TheVariants.Byte, Widths.places}

@@ -6,7 +6,8 @@ use Rattle.cpu12_parts.specs.State.{State}
 use Rattle.cpu12_emul.specs.{Image.image_memory, Take.framed}
 use Rattle.run_law.specs.Forms.{Form}
 use Rattle.interrupt_plan.specs.declared.Request.{Request}
-use Rattle.alone_code.specs.{declared.firmware.Firmware.Firmware, Interruptible.is_idle, Interruptible.IsStackOfOneCall}
+use Rattle.firmware_code.specs.{declared.firmware.Firmware.Firmware, Interruptible.is_idle}
+use Rattle.firmware_code.specs.{Interruptible.IsStackOfOneCall}
 use Rattle.eval_code.specs.declared.memory_map.MemoryMap.{MemoryMap}
 use Rattle.watched_code.specs.{Watched.Watched, Watched.changed, Watched.restored, WatchedCode.fault_at}
 use Rattle.firmware_runs.specs.Facts.{Facts}

@@ -5,7 +5,7 @@ use Rattle.cpu12_parts.specs.State.{State}
 use Rattle.cpu12_emul.specs.Image.{image_memory}
 use Rattle.run_law.specs.{Forms.RowSeen, Forms.Rows, Forms.rows_from, Uninterrupted.uninterrupted}
 use Rattle.interrupt_plan.specs.declared.{Request.Request, upsets.Upset.Upset}
-use Rattle.alone_code.specs.declared.firmware.Firmware.{Firmware}
+use Rattle.firmware_code.specs.declared.firmware.Firmware.{Firmware}
 use Rattle.watched_code.specs.{Watched.Watched, Watched.restored, WatchedCode.fault_at}
 use Rattle.trace_io.specs.declared.sample.Sample.{Sample}
 use Rattle.run_forms.specs.{declared.sample.Notes.Notes, Rooms.seen_notes, Forms.Harness}

@@ -7,7 +7,7 @@ use Rattle.cpu12_parts.specs.State.{State}
 use Rattle.cpu12_emul.specs.{Image.image_memory, Simulation.OnStackOnly, Simulation.Same}
 use Rattle.run_law.specs.Soundness.{Sound, WritesAreQuiet}
 use Rattle.interrupt_plan.specs.Plans.{IsGoodRequest}
-use Rattle.alone_code.specs.declared.firmware.Firmware.{Firmware}
+use Rattle.firmware_code.specs.declared.firmware.Firmware.{Firmware}
 use Rattle.watched_code.specs.{Watched.Change, Watched.changed, Watched.restored, WatchedCode.fault_at}
 use Rattle.alone_runs.specs.Following.{IsLow, Nothing}
 use Rattle.firmware_runs.specs.Ports.{given}

@@ -12,10 +12,10 @@ ghost use Rattle.alone_runs.specs.Following.{Alone, Nothing};
 ghost use Rattle.watched_runs.specs.{Forms.watched_form, Forms.FactsWatched, SoundWatchedProof.sound};
 
 use crate::upsets::{change, restore, upset_of};
-use alone_code::Firmware;
 use alone_runs::{Row, row_of};
 use cpu12_emul::machine::Machine;
 use cpu12_isa::mem::Mem;
+use firmware_code::Firmware;
 use firmware_runs::{answers, give, is_busy_here, is_idle};
 use fz_list::Memory;
 use interrupt_plan::{Request, Upset};

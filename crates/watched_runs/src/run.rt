@@ -7,9 +7,9 @@ ghost use Rattle.watched_runs.specs.{Rows.row_seen, Rows.upset_rows, Rows.faults
 use crate::form::{WatchedForm, WatchedRow};
 use crate::laws::answers_under_all_upsets;
 use crate::upsets::ascending;
-use alone_code::Firmware;
 use alone_runs::laws::plans_are_in_order;
 use cpu12_isa::pages::PageMem;
+use firmware_code::Firmware;
 use fz_list::Memory;
 use interrupt_plan::{Plan, Upsets};
 use run_forms::{Start, run_form};

@@ -1,20 +1,30 @@
 -- The firmware of a block answers every list of samples by the byte answer.
-use Rattle.alone_code.proofs.Words.{[], ◌<◌, ◌^◌, ◌∙◌, ◌∷◌, ◌≡◌, ◌≤◌, ◌⊎◌, Agree, All, ap, AreAnsweredBeside}
-use Rattle.alone_code.proofs.Words.{AreInputBytes, arith, Block, BlockIsShort, BlockRises, Bool, code_bytes, false}
-use Rattle.alone_code.proofs.Words.{firmware_items, FirmwareAnswers, FitCode, frame_code, given_by, HasBytes}
-use Rattle.alone_code.proofs.Words.{HasFirmware, Holds, image_memory, inl, inr, instruction_bound, is_free, IsApart}
-use Rattle.alone_code.proofs.Words.{IsFramed, IsInCode, IsInOrder, IsRising, IsShut, IsStarted, IsValid}
-use Rattle.alone_code.proofs.Words.{IsWithinLimits, length, List, LowerLaws, main_map, MemoryMap, nat_tests, Reads}
-use Rattle.alone_code.proofs.Words.{refl, Rts, Setting, start_code, State, subst, sym, Width, Writes, ℕ}
-use Rattle.alone_code.specs.{Answers.IsArrivedBeside, Answers.LeavesMapped, Frames.Arrived}
-use Rattle.alone_code.specs.Answers.{FreeBytesLeave, FirmwareAnswersBeside, ArrivesAlike, FirmwareArrivesAlike}
-use Rattle.alone_code.specs.Standing.{FirmwareIsBytes}
-use Rattle.alone_code.proofs.runs.Stepping.{interruptible_of}
-use Rattle.alone_code.proofs.runs.Founding.{frame_bytes, has_frame}
-use Rattle.alone_code.proofs.runs.Placing.{whole_rises, whole_is_short}
-use Rattle.alone_code.proofs.runs.Arriving.{arrive, arrive_alike}
-use Rattle.alone_code.proofs.runs.Framing.{HasFrame, Samples, waits}
-use Rattle.alone_code.proofs.{runs.Standing.has_firmware, runs.Sampling.are_answered}
+use Rattle.alone_code.proofs.Words.{[], ℕ, ◌<◌, ◌^◌, ◌∙◌, ◌∷◌, ◌≡◌, ◌≤◌, All, ap, AreAnsweredBeside, AreInputBytes}
+use Rattle.alone_code.proofs.Words.{arith, Block, false, firmware_items, FirmwareAnswers, HasBytes, image_memory}
+use Rattle.alone_code.proofs.Words.{instruction_bound, is_free, IsApart, IsFramed, IsRising, IsValid, IsWithinLimits}
+use Rattle.alone_code.proofs.Words.{length, List, main_map, refl, Setting, State, subst, sym, Width}
+use Rattle.cpu12_isa.specs.Agreement.{Agree}
+use Rattle.eval_code.specs.Placed.{BlockIsShort, BlockRises, IsInOrder}
+use Rattle.std.proofs.Common.{Bool, inl}
+use Rattle.eval_code.specs.Code.{code_bytes, FitCode}
+use Rattle.firmware_code.specs.Code.{frame_code}
+use Rattle.cpu12_asm.specs.Items.{given_by}
+use Rattle.firmware_code.specs.Standing.{HasFirmware}
+use Rattle.cpu12_asm.specs.Bytes.{Holds}
+use Rattle.firmware_code.specs.Calls.{IsInCode}
+use Rattle.firmware_code.specs.Settings.{IsShut}
+use Rattle.firmware_code.specs.Frames.{IsStarted, start_code, Arrived, StartArrivesAlike}
+use Rattle.alone_code.specs.Laws.{LowerLaws}
+use Rattle.eval_code.specs.declared.memory_map.MemoryMap.{MemoryMap}
+use Rattle.cpu12_isa.specs.declared.instr.Instr.TheVariants.{Rts, LdaaExtended, Beq, JsrExtended, ClrExtended, Bra, Rti}
+use Rattle.firmware_code.specs.Arrivals.{IsArrivedBeside, LeavesMapped, FreeBytesLeave}
+use Rattle.alone_code.specs.Answers.{FirmwareAnswersBeside, ArrivesAlike, FirmwareArrivesAlike}
+use Rattle.alone_code.specs.Firmwares.{FirmwareIsBytes}
+use Rattle.eval_code.proofs.Algebra.{bytes_front}
+use Rattle.cpu12_isa.specs.declared.instr.Instr.{Instr}
+use Rattle.firmware_code.proofs.Algebra.{idles, steady_of, whole_is_short, whole_rises}
+use Rattle.alone_code.proofs.runs.Framing.{Samples}
+use Rattle.alone_code.proofs.runs.Sampling.{are_answered}
 
 pub main_apart : IsApart main_map
 main_apart = search arith
@@ -45,37 +55,13 @@ main_shut open_to h = record {
   high = omega arith;
 }
 
--- so do the free bytes
-pub not_free : (at : ℕ) → (at < 0x1800) ⊎ (0x1FE0 ≤ at) → is_free at ≡ false
-not_free at (inl h) = grind (arith, nat_tests)
-not_free at (inr h) = grind (arith, nat_tests)
-
-free_read : (at : ℕ) → Reads main_map at → is_free at ≡ false
-free_read at (inl o) = not_free at (inl (omega (arith, o.1)))
-free_read at (inr (inl o)) = not_free at (inl (omega (arith, o.1)))
-free_read at (inr (inr (inl o))) = not_free at (inr (omega (arith, o.0)))
-free_read at (inr (inr (inr (inl o)))) = not_free at (inr (omega (arith, o.0)))
-free_read at (inr (inr (inr (inr (inl o))))) = not_free at (inr (omega (arith, o.0)))
-free_read at (inr (inr (inr (inr (inr (inl o)))))) = not_free at (inr (omega (arith, o.0)))
-free_read at (inr (inr (inr (inr (inr (inr o)))))) = absurd o
-
-free_written : (at : ℕ) → Writes main_map at → is_free at ≡ false
-free_written at (inl o) = not_free at (inl (omega (arith, o.1)))
-free_written at (inr (inl o)) = not_free at (inl (omega (arith, o.1)))
-free_written at (inr (inr o)) = absurd o
-
-pub free_leaves : FreeBytesLeave
-free_leaves = record {
-  ready = refl;
-  reads = free_read;
-  writes = free_written;
-  stack = λ at from to. not_free at (inr from);
-  code = λ at from to. not_free at (inr (omega arith));
-  reset = λ at from to. not_free at (inr (omega arith));
-}
-
 main_inside : IsInCode main_map
 main_inside = record { from = omega arith; to = omega arith }
+
+-- the frame behind its start
+abbrev turn_code : List Instr
+turn_code = LdaaExtended main_map.sample_flag ∷ Beq 0xFB ∷ JsrExtended main_map.eval ∷ ClrExtended main_map.sample_flag
+    ∷ Bra 0xF3 ∷ Rti ∷ []
 
 main_frame_fits : FitCode (frame_code main_map)
 main_frame_fits = (
@@ -135,7 +121,7 @@ in_memory : LowerLaws → (b : Block) (w : Width) (image : List (ℕ × ℕ)) �
     → HasFirmware main_map b w (frame_code main_map) (image_memory image)
 in_memory laws b w image v limits h =
     let frame = frame_code main_map in
-    has_firmware laws image main_map b w frame main_in_order main_apart main_inside (omega arith)
+    laws.firmware image main_map b w frame main_in_order main_apart main_inside (omega arith)
     (laws.code_is_bytes frame main_frame_fits) (omega arith) (omega arith) v limits h
 
 pub firmware_is_bytes : LowerLaws → FirmwareIsBytes
@@ -151,7 +137,8 @@ founded laws open_to leaves b w image flags fits v limits h =
     let mem = image_memory image in
     let c : Setting = over_main laws open_to leaves mem flags fits in
     let firmware : HasFirmware main_map b w frame mem = in_memory laws b w image v limits h in
-    let fb = frame_bytes mem main_map firmware.stands.front in
+    let start = bytes_front mem main_map.code (code_bytes (start_code main_map)) (code_bytes turn_code)
+    firmware.stands.front in
     record {
       samples = record {
         apart = main_apart;
@@ -159,25 +146,29 @@ founded laws open_to leaves b w image flags fits v limits h =
         limits = limits;
         called = laws.called;
         routine = firmware.routine;
-        frame = has_frame c leaves.ready main_framed main_apart fb;
+        framed = main_framed;
+        shown = leaves.ready;
+        turns = laws.turns c leaves.ready main_framed main_apart firmware.stands.front;
+        given = laws.given;
       };
       firmware = firmware;
-      start = fb.start;
-      arrived = arrive c b w frame main_framed.started main_apart v fb.start firmware;
+      start = start;
+      arrived = laws.arrives c b w frame main_framed.started main_apart v start firmware;
     }
 
-arrived_at : (c : Setting) (b : Block) (w : Width) → HasFrame c → (a : Arrived c b w)
+arrived_at : (c : Setting) (b : Block) (w : Width) → IsStarted c.memory_map → (a : Arrived c b w)
     → IsArrivedBeside c.open_to c.memory_map c.image c.flags a.t
 arrived_at c b w h a =
-    let from = h.from in
-    let to = h.to in
+    let lo = h.low in
+    let hi = h.high in
+    let wait = h.wait in
     let at = a.home.pc_is in
     record {
       execution = a.execution;
       wait = at;
-      idle = waits c.memory_map a.t at a.home.ready_is;
+      idle = idles c.memory_map a.t at a.home.ready_is;
       interruptible =
-          interruptible_of c a.t a.home.live (omega arith) (omega arith);
+          steady_of c false a.t a.home.live (omega arith) (omega arith);
     }
 
 -- from the first arrival on, the samples are answered within a bound
@@ -191,7 +182,7 @@ from_arrival : (c : Setting) (b : Block) (w : Width) (samples : List (List ℕ))
     → Answers c.open_to c.memory_map b w (instruction_bound w b) c.image c.flags samples
 from_arrival c b w samples h all =
     let a = h.arrived in
-    (a.t, (arrived_at c b w h.samples.frame a, are_answered c b w samples (λ o. 0) a.t h.samples a.home all))
+    (a.t, (arrived_at c b w h.samples.framed.started a, are_answered c b w samples (λ o. 0) a.t h.samples a.home all))
 
 pub firmware_answers_beside : LowerLaws → FirmwareAnswersBeside
 firmware_answers_beside laws open_to b f leaves v limits h flags samples fits all =
@@ -203,21 +194,22 @@ firmware_answers_beside laws open_to b f leaves v limits h flags samples fits al
     (subst (λ (most : ℕ). Answers open_to main_map b w most image flags samples) (sym h.instructions)
     (from_arrival c b w samples (founded laws open_to mine b w f.image.bytes flags fits v limits h.image.bytes) all))
 
-pub firmware_answers : FirmwareAnswersBeside → FirmwareAnswers
-firmware_answers beside b f v limits h =
-    beside is_free b f (subst (λ (l : MemoryMap). LeavesMapped is_free l) (sym h.memory_map) free_leaves) v limits h
+pub firmware_answers : FreeBytesLeave → FirmwareAnswersBeside → FirmwareAnswers
+firmware_answers free beside b f v limits h =
+    beside is_free b f (subst (λ (l : MemoryMap). LeavesMapped is_free l) (sym h.memory_map) free) v limits h
 
 -- the arrival over a memory that agrees
-alike : (c : Setting) (b : Block) (w : Width) (mem : List ℕ) → Founded c b w → IsStarted c.memory_map
+alike : StartArrivesAlike → (c : Setting) (b : Block) (w : Width) (mem : List ℕ) → Founded c b w
     → ((at : ℕ) → 0xFFFE ≤ at → at < 2 ^ 16 → c.open_to at ≡ false)
     → Agree c.open_to mem c.image → ArrivesAlike c.open_to c.memory_map c.image mem c.flags
-alike c b w mem h started reset agree =
+alike arrives c b w mem h reset agree =
     let a = h.arrived in
-    let r = arrive_alike c mem started h.samples.frame.shown reset h.firmware.reset h.start h.firmware.size agree in
+    let started = h.samples.framed.started in
+    let r = arrives c mem started h.samples.shown reset h.firmware.reset h.start h.firmware.size agree in
     record {
       image_state = a.t;
       state = r.state;
-      image_arrived = arrived_at c b w h.samples.frame a;
+      image_arrived = arrived_at c b w h.samples.framed.started a;
       execution = r.execution;
       regs = r.regs ∙ ap (λ (s : State). s.regs) (sym a.first);
       temps = r.temps ∙ ap (λ (s : State). s.temps) (sym a.first);
@@ -232,5 +224,5 @@ firmware_arrives_alike laws open_to b f mem flags fits leaves v limits h agree =
     let mine : LeavesMapped open_to main_map = subst (λ (l : MemoryMap). LeavesMapped open_to l) h.memory_map leaves in
     let c = over_main laws open_to mine image flags fits in
     subst (λ (l : MemoryMap). ArrivesAlike open_to l image mem flags) (sym h.memory_map)
-    (alike c b w mem (founded laws open_to mine b w f.image.bytes flags fits v limits h.image.bytes) main_framed.started
+    (alike laws.alike c b w mem (founded laws open_to mine b w f.image.bytes flags fits v limits h.image.bytes)
     mine.reset agree)

@@ -1,22 +1,24 @@
 -- A list of samples is answered.
-use Rattle.alone_code.proofs.Words.{[], ◌∷◌, All, answer, AreAnsweredBeside, AreInputBytes, arith, Block, given, Home}
-use Rattle.alone_code.proofs.Words.{instruction_bound, List, Setting, State, suc, Width, ℕ}
-use Rattle.alone_code.specs.{Answers.IsAnsweredBeside}
-use Rattle.alone_code.proofs.runs.Stepping.{interruptible_of}
-use Rattle.alone_code.proofs.runs.Framing.{Samples, Sampled, sample_run, waits}
+use Rattle.alone_code.proofs.Words.{[], ℕ, ◌∷◌, All, answer, AreAnsweredBeside, AreInputBytes, arith, Block, given}
+use Rattle.alone_code.proofs.Words.{false, Home, instruction_bound, List, Setting, State, Width}
+use Rattle.std.proofs.Common.{suc}
+use Rattle.alone_code.specs.Answers.{IsAnsweredBeside}
+use Rattle.firmware_code.proofs.Algebra.{idles, steady_of}
+use Rattle.alone_code.proofs.runs.Framing.{Samples, Sampled, sample_run}
 
 answered : (c : Setting) (b : Block) (w : Width) (bytes : List ℕ) (before : ℕ → ℕ) (s : State) → Samples c b w
     → (r : Sampled c b w bytes before (given c.memory_map bytes s))
     → IsAnsweredBeside c.open_to c.memory_map b w (instruction_bound w b) c.image c.flags before bytes s r.t
 answered c b w bytes before s h r =
-    let lo = h.frame.from in
-    let hi = h.frame.to in
+    let lo = h.framed.started.low in
+    let hi = h.framed.started.high in
+    let wait = h.framed.started.wait in
     let ep = r.home.pc_is in
     record {
       ds = r.ds;
       execution = r.execution;
-      idle = waits c.memory_map r.t r.home.pc_is r.home.ready_is;
-      interruptible = interruptible_of c r.t r.home.live (omega arith) (omega arith);
+      idle = idles c.memory_map r.t r.home.pc_is r.home.ready_is;
+      interruptible = steady_of c false r.t r.home.live (omega arith) (omega arith);
       answers = r.home.outs;
       instructions = r.instructions;
       steps = r.steps;

@@ -9,11 +9,11 @@ use Rattle.std.proofs.{Common.nat_lt}
 use Rattle.cpu12_isa.specs.{declared.instr.Ccr.Ccr, declared.instr.Instr.TheVariants.LdxImmediate}
 use Rattle.cpu12_isa.specs.{declared.instr.Instr.TheVariants.CpxImmediate}
 use Rattle.cpu12_isa.specs.{declared.instr.Instr.TheVariants.AddbPostIncrementX, Flags.put, Memory.plus}
-use Rattle.alone_code.specs.{Settings.Here, Settings.Next}
+use Rattle.firmware_code.specs.Settings.{Here, Next}
 pub use Rattle.watched_code.specs.WatchedCode.{AreSegments}
 use Rattle.cpu12_isa.proofs.Algebra.{masked_tested, masked_four, masked_five}
 use Rattle.eval_code.proofs.Algebra.{zero_four}
-use Rattle.alone_code.proofs.Algebra.{high_shown}
+use Rattle.firmware_code.proofs.Algebra.{high_shown}
 
 -- Z where H is put too
 zero_five : (c : Ccr) (h n z v k : Bool) → has (put (put (put (put (put c 5 h) 3 n) 2 z) 1 v) 0 k) 2 ≡ z

@@ -10,12 +10,12 @@ use Rattle.cpu12_asm.specs.{Bytes.Holds}
 use Rattle.eval_code.specs.{Code.eval_code, Placed.IsInOrder, Placed.BlockRises, Placed.BlockIsShort}
 use Rattle.eval_code.specs.{Placed.BlockHasParts, Standing.CodeIsBytes}
 use Rattle.byte_scaling.specs.Cells.{NearestIsByte}
-use Rattle.alone_code.specs.{Answers.IsArrived, Standing.HasFirmware, Frames.Arrived, Settings.IsShut}
-use Rattle.alone_code.specs.{Standing.ImageHasFirmware}
+use Rattle.firmware_code.specs.{Arrivals.IsArrived, Standing.HasFirmware, Frames.Arrived, Settings.IsShut}
+use Rattle.firmware_code.specs.Standing.{ImageHasFirmware}
 use Rattle.watched_code.specs.{WatchedCode.watched_map, Watched.IsTableChange, Watched.IsGoodSample}
 use Rattle.watched_code.specs.{Watched.WatchedAnswers, Watched.WatchedIsBytes}
 use Rattle.cpu12_emul.specs.Image.{image_memory}
-use Rattle.alone_code.proofs.Algebra.{not_free}
+use Rattle.firmware_code.proofs.Algebra.{not_free}
 use Rattle.watched_code.proofs.{watching.Adding.count_in, watching.Laws.WatchingLaws, watching.Located.located}
 use Rattle.watched_code.proofs.watching.Fronts.{IsWatchedMap, length-more, length-bad, length-front, fits_front}
 use Rattle.watched_code.proofs.watching.Fronts.{fit_defaults, start_bytes}

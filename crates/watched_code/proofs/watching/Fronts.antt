@@ -10,7 +10,8 @@ use Rattle.cpu12_isa.specs.declared.instr.Instr.TheVariants.{LdaaExtended, Beq, 
 use Rattle.watched_code.specs.WatchedCode.{back_to_bad, check_code, bad_at, check_at}
 use Rattle.std.specs.{Prelude.IfSome}
 use Rattle.fuzzy_meaning.specs.{Blocks.IsValidOutput, Blocks.IsWithin}
-use Rattle.alone_code.specs.{Code.frame_code, Frames.IsStarted, Frames.start_code, Frames.IsFramed}
+use Rattle.firmware_code.specs.Frames.{IsStarted, start_code, IsFramed}
+use Rattle.firmware_code.specs.{Code.frame_code}
 use Rattle.std.proofs.lemmas.Grind.{flat_map-append}
 use Rattle.eval_code.proofs.Algebra.{length-le-code_size, length-code_bytes, bytes_front, bytes_back, fit_append}
 use Rattle.watched_code.proofs.watching.Adding.{IsShutAbove, AreSegments}

@@ -12,7 +12,7 @@ use Rattle.watched_code.specs.Watched.{changed, is_upset, watched_answer, watche
 use Rattle.watched_code.specs.Watched.{IsWatchAnswered}
 use Rattle.eval_code.proofs.Algebra.{bytes_after_set, bytes_put_out, has_put, length-put}
 use Rattle.cpu12_isa.specs.{Fits.AreBytes}
-use Rattle.alone_code.specs.{Interruptible.IsInterruptible, Answers.given}
+use Rattle.firmware_code.specs.{Interruptible.IsInterruptible, Arrivals.given}
 use Rattle.eval_code.specs.{Evaluation.put}
 use Rattle.std.proofs.lemmas.List.{set-get_or}
 use Rattle.watched_code.proofs.{watching.Defaults.FitDefaults, watching.Tables.sum_high, watching.Laws.WatchingLaws}

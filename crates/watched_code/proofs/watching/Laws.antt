@@ -2,11 +2,11 @@
 use Rattle.watched_code.proofs.Words.{BlockGivesAtParts, FrameCallsAndLeaves, FreeBytesLeave, InstructionGoesOn}
 use Rattle.watched_code.proofs.Words.{InstructionsStand, NearestIsByte}
 use Rattle.eval_code.specs.{Placed.BlockHasParts}
-use Rattle.alone_code.specs.{Calls.CalledEvalReturns, Standing.ImageHasFirmware, Frames.StartArrives}
-use Rattle.alone_code.specs.{Settings.ReturnGoesOn, Settings.LiveIsInterruptible}
+use Rattle.firmware_code.specs.{Calls.CalledEvalReturns, Standing.ImageHasFirmware, Frames.StartArrives}
+use Rattle.firmware_code.specs.Settings.{ReturnGoesOn, LiveIsInterruptible}
 use Rattle.cpu12_isa.specs.Fits.{StaysFit}
 use Rattle.eval_code.specs.Standing.{DecodesWhereItStands, CodeIsBytes}
-use Rattle.alone_code.specs.Settings.{LiveIsIdle, GivenIsLive}
+use Rattle.firmware_code.specs.Settings.{LiveIsIdle, GivenIsLive}
 
 -- the laws of lower crates
 pub record WatchingLaws : Type 0 where

@@ -11,11 +11,12 @@ use Rattle.watched_code.proofs.Words.{steps_by, subst, sum_by, sum_by-cons, sym,
 use Rattle.std.proofs.{Common.◌/◌}
 use Rattle.cpu12_parts.specs.{Executions.all_steps}
 use Rattle.eval_code.specs.{Bounds.output_bound, Evaluation.HasAnswers}
-use Rattle.alone_code.specs.{Calls.IsInCode, Calls.IsCalled, Calls.Back, Frames.CallsAndLeaves, Frames.Called}
-use Rattle.alone_code.specs.{Frames.Left}
+use Rattle.firmware_code.specs.Calls.{IsInCode, IsCalled, Back}
+use Rattle.firmware_code.specs.{Frames.CallsAndLeaves, Frames.Called}
+use Rattle.firmware_code.specs.Frames.{Left}
 use Rattle.cpu12_parts.proofs.{Algebra.execution_on, Algebra.steps_append}
 use Rattle.watched_code.proofs.{watching.Segments.Apart, watching.Segments.sum_below, watching.Laws.WatchingLaws}
-use Rattle.alone_code.proofs.Algebra.{pushed_word, pushed_bytes}
+use Rattle.firmware_code.proofs.Algebra.{pushed_word, pushed_bytes}
 use Rattle.watched_code.proofs.watching.Adding.{sum_in, count_in, Step}
 use Rattle.watched_code.proofs.watching.Checking.{HasCheck, Leads, passed, failed}
 use Rattle.watched_code.proofs.watching.Defaults.{Stored, stored, all_defaulted, defaults_run, default_else}

@@ -1,5 +1,7 @@
-use Rattle.alone_code.proofs.Words.{◌<◌, ◌^◌, ◌∙◌, ap, IsImageOf, IsRising, Item, length, List, refl, rules}
-use Rattle.alone_code.proofs.Words.{steps_by, subst, sym}
+use Rattle.alone_code.proofs.Words.{◌<◌, ◌^◌, ◌∙◌, ap, IsImageOf, IsRising, length, List, refl, subst, sym}
+use Rattle.cpu12_asm.specs.declared.items.Item.{Item}
+use Rattle.std.proofs.Common.{rules}
+unfoldable use Rattle.eval_code.specs.Bounds.{steps_by}
 use Rattle.alone_code.proofs.runs.Law.{main_rises, length-main_items}
 use Rattle.alone_code.proofs.firmware.compile_laid_out.Goals as goal
 

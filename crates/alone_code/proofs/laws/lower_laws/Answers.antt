@@ -2,19 +2,13 @@ use Rattle.alone_code.proofs.laws.lower_laws.Goals as goal
 
 pub returns : goal.returns
 returns c = record {
-  layout_law = c.layout_law.ensures;
-  nearest_is_byte = c.nearest_is_byte.ensures;
   stays_fit = c.stays_fit.ensures;
   decodes = c.code_is_decoded.ensures.decoded;
   code_is_bytes = c.code_is_decoded.ensures.bytes;
-  bytes_stand = c.placed_items_stand.ensures.bytes;
-  zero_below = c.placed_items_stand.ensures.below;
-  image_is_bytes = c.placed_items_stand.ensures.fits;
+  given = c.live_states_wait.ensures.given;
   called = c.called_eval_returns.ensures;
-  rises = c.blocks_are_placed.ensures.rises;
-  short = c.blocks_are_placed.ensures.short;
-  parts = c.blocks_are_placed.ensures.parts;
-  behind = c.blocks_are_placed.ensures.behind;
-  bytes = c.blocks_are_placed.ensures.bytes;
-  stands = c.blocks_are_placed.ensures.stands;
+  arrives = c.frames_lead.ensures.arrives;
+  alike = c.frames_lead.ensures.alike;
+  turns = c.frames_lead.ensures.turns;
+  firmware = c.image_has_firmware.ensures;
 }

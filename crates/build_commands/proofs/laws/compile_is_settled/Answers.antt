@@ -7,7 +7,7 @@ returns c = compile_settled c.firmwares_are_exact.ensures c.given_blocks_have_fi
     (record {
       texts = c.images_have_texts.ensures;
       holds = c.holds_image.ensures;
-      alone = c.firmware_is_bytes.ensures.alone;
-      mailbox = c.firmware_is_bytes.ensures.mailbox;
+      alone = c.firmware_is_bytes.ensures;
+      mailbox = c.mailbox_is_bytes.ensures;
       watched = c.watched_is_bytes.ensures;
     })

@@ -14,7 +14,7 @@ returns c slow fast slow_valid slow_limits fast_valid fast_limits =
       fast_limits = fast_limits;
     } in
     let (image, is) = c.items_have_images.ensures (two_items slow fast) rise in
-    let its_slow = c.blocks_have_firmware.ensures.alone Byte slow slow_valid slow_limits in
+    let its_slow = c.blocks_have_firmware.ensures Byte slow slow_valid slow_limits in
     let code : FastCode = record {
       outputs = length fast.outputs;
       instr_bound = instruction_bound Byte fast;

@@ -1,6 +1,7 @@
 use Rattle.std.proofs.Common.{◌≡◌, sym, ◌∙◌}
 use Rattle.fuzzy_meaning.specs.declared.block.Block.{Block}
-use Rattle.alone_code.specs.{Alike.FirmwaresAreOne, declared.firmware.Firmware.Firmware}
+use Rattle.firmware_code.specs.declared.firmware.Firmware.{Firmware}
+use Rattle.alone_code.specs.Firmwares.{FirmwaresAreOne}
 use Rattle.two_level_code.specs.Images.{IsAlone, two_items}
 use Rattle.two_level_code.proofs.laws.twos_are_one.Goals as goal
 

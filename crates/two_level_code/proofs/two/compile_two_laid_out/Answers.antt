@@ -1,6 +1,6 @@
 use Rattle.std.proofs.Common.{List, ◌∙◌, ap, rules, subst}
 use Rattle.cpu12_asm.specs.declared.items.Item.{Item}
-use Rattle.alone_code.specs.Images.{IsImageOf}
+use Rattle.firmware_code.specs.Images.{IsImageOf}
 use Rattle.eval_code.specs.Bounds.{steps_by}
 use Rattle.two_level_code.proofs.two.compile_two_laid_out.Goals as goal
 

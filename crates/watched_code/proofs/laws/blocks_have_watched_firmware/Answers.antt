@@ -1,6 +1,6 @@
 use Rattle.watched_code.proofs.Words.{Byte, refl, watched_bound, watched_items}
 use Rattle.watched_code.specs.WatchedCode.{watched_map}
-use Rattle.alone_code.proofs.Algebra.{firmware_with}
+use Rattle.firmware_code.proofs.Algebra.{firmware_with}
 use Rattle.watched_code.proofs.watching.Answering.{watched_rise}
 use Rattle.watched_code.proofs.laws.blocks_have_watched_firmware.Goals as goal
 

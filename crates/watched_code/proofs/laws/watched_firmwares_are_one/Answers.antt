@@ -1,5 +1,5 @@
 use Rattle.watched_code.proofs.Words.{◌∙◌, sym, watched_items}
-use Rattle.alone_code.proofs.Algebra.{of_parts}
+use Rattle.firmware_code.proofs.Algebra.{of_parts}
 use Rattle.watched_code.proofs.laws.watched_firmwares_are_one.Goals as goal
 
 pub returns : goal.returns

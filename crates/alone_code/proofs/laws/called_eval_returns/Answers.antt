@@ -1,5 +1,0 @@
-use Rattle.alone_code.proofs.runs.Calling.{called}
-use Rattle.alone_code.proofs.laws.called_eval_returns.Goals as goal
-
-pub returns : goal.returns
-returns c = called c.eval_answers.ensures c.frames_leave.ensures

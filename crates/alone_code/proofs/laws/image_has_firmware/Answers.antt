@@ -1,5 +1,0 @@
-use Rattle.alone_code.proofs.runs.Standing.{has_firmware}
-use Rattle.alone_code.proofs.laws.image_has_firmware.Goals as goal
-
-pub returns : goal.returns
-returns c = has_firmware c.lower_laws.ensures

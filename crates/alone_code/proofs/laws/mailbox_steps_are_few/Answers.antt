@@ -1,5 +1,0 @@
-use Rattle.alone_code.proofs.turns.FewSteps.{steps_are_few}
-use Rattle.alone_code.proofs.laws.mailbox_steps_are_few.Goals as goal
-
-pub returns : goal.returns
-returns c = steps_are_few c.bounds_are_few.ensures

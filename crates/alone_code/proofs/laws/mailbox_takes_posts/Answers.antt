@@ -1,5 +1,0 @@
-use Rattle.alone_code.proofs.turns.Law.{mailbox_takes_posts}
-use Rattle.alone_code.proofs.laws.mailbox_takes_posts.Goals as goal
-
-pub returns : goal.returns
-returns c = mailbox_takes_posts c.lower_laws.ensures

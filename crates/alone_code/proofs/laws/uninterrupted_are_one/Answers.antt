@@ -1,5 +1,0 @@
-use Rattle.alone_code.proofs.runs.Uninterrupted.{uninterrupted_are_one}
-use Rattle.alone_code.proofs.laws.uninterrupted_are_one.Goals as goal
-
-pub returns : goal.returns
-returns c = uninterrupted_are_one c.executions_are_one.ensures

@@ -1,0 +1,10 @@
+pub mod Code
+pub mod Images
+pub mod Interruptible
+pub mod Arrivals
+pub mod Settings
+pub mod Calls
+pub mod Laws
+pub mod Standing
+pub mod Frames
+pub mod Uninterrupted

@@ -1,0 +1,3 @@
+pub mod turns
+pub mod AlikeLemmas
+pub mod Words

@@ -1,0 +1,4 @@
+pub mod Mailboxes
+pub mod Turns
+pub mod SampleTurns
+pub mod Laws
