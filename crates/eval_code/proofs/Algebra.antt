@@ -5,7 +5,7 @@ pub use Rattle.eval_code.proofs.phases.RuleMemory.{Below, From, apart_by, below_
 pub use Rattle.eval_code.proofs.steps.Addresses.{each_more, shown_each, all_shown, six_each, written_shown}
 pub use Rattle.eval_code.proofs.steps.Addresses.{hidden_unwritten}
 pub use Rattle.eval_code.proofs.steps.Stepping.{written_low}
-pub use Rattle.eval_code.proofs.steps.Decoding.{fit_append, decode_same}
+pub use Rattle.eval_code.proofs.steps.Decoding.{fit_append, decode_same, stands_back, instructions_stand}
 pub use Rattle.eval_code.proofs.steps.Flags.{masked_tested, masked_four, masked_on, unmasked}
 pub use Rattle.eval_code.proofs.steps.Flags.{zero_tested, zero_four}
 pub use Rattle.eval_code.proofs.steps.Memory.{length-put, has_put, bytes_by, bytes_front, bytes_back, same_bytes}

@@ -2,7 +2,7 @@
 -- Beside the promise.
 use Rattle.std.specs.Prelude.{ℕ, ◌+◌, ◌^◌, ◌<◌, ◌≤◌, List, ◌∷◌, ◌++◌, map}
 use Rattle.fuzzy_meaning.specs.declared.block.Block.{Block}
-use Rattle.cpu12_isa.specs.declared.instr.Instr.{Instr}
+use Rattle.cpu12_isa.specs.{declared.instr.Instr.Instr, Regions.free_start, Regions.stack_end}
 use Rattle.cpu12_asm.specs.declared.items.Item.{Item}
 use Rattle.cpu12_asm.specs.declared.items.Item.TheVariants.{Place, Byte, Op}
 use Rattle.eval_code.specs.{declared.memory_map.MemoryMap.MemoryMap, Code.block_code}
@@ -36,14 +36,14 @@ pub record HasRoom (l : MemoryMap) : Type 0 where
 pub record IsApart (l : MemoryMap) : Type 0 where
   pub inputs : l.inputs + 8 ≤ l.outputs
   pub outputs : l.outputs + 8 ≤ l.slots
-  pub slots : l.slots + 300 ≤ 0x1800
-  pub eval : 0x2000 ≤ l.eval
+  pub slots : l.slots + 300 ≤ free_start
+  pub eval : stack_end ≤ l.eval
   pub eval_end : l.eval + 2432 < 2 ^ 16
-  pub tables : 0x2000 ≤ l.tables
+  pub tables : stack_end ≤ l.tables
   pub tables_end : l.tables + 480 < 2 ^ 16
-  pub singletons : 0x2000 ≤ l.singletons
+  pub singletons : stack_end ≤ l.singletons
   pub singletons_end : l.singletons + 60 < 2 ^ 16
-  pub weights : 0x2000 ≤ l.weights
+  pub weights : stack_end ≤ l.weights
   pub weights_end : l.weights + 512 < 2 ^ 16
-  pub rules : 0x2000 ≤ l.rules
+  pub rules : stack_end ≤ l.rules
   pub rules_end : l.rules + 9984 < 2 ^ 16

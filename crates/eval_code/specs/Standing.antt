@@ -1,12 +1,17 @@
 -- What stands in memory: instructions where their bytes do, and what items place in that of their image.
 -- Beside the promise.
-use Rattle.std.specs.Prelude.{◌≡◌, ℕ, ◌+◌, ◌^◌, ◌<◌, Ok, List, ◌∷◌, ◌++◌, map, length, All, slice_index}
+use Rattle.std.specs.Prelude.{◌≡◌, ℕ, ◌+◌, ◌^◌, ◌<◌, Ok, List, [], ◌∷◌, ◌++◌, map, length, All, slice_index}
 use Rattle.cpu12_isa.specs.declared.instr.Instr.{Instr}
 use Rattle.cpu12_isa.specs.{Code.encode_of, Code.decode_at, Code.FitsOperands, Fits.AreBytes}
 use Rattle.cpu12_asm.specs.{declared.items.Item.Item, Bytes.Holds, Items.given_by, Items.IsRising}
 use Rattle.cpu12_asm.specs.declared.items.Item.TheVariants.{Place, Byte, Op}
 use Rattle.cpu12_emul.specs.Image.{image_memory}
 use Rattle.eval_code.specs.{Code.code_bytes, Code.FitCode, Evaluation.HasBytes, Placed.GiveBytes}
+
+-- instructions one after another, each of which is there at its address
+abbrev pub StandsWhere : (ℕ → Instr → Type 0) → ℕ → List Instr → Type 0
+StandsWhere IsThere p [] = Unit {0}
+StandsWhere IsThere p (i ∷ is) = IsThere p i × StandsWhere IsThere (p + length (encode_of i)) is
 
 -- An instruction is decoded where its bytes stand.
 abbrev pub DecodesWhereItStands : Type 0

@@ -1,19 +1,19 @@
 -- Runs of the code around EVAL: what they are under, what each state keeps, and how one instruction leads on.
 -- Beside the promise.
-use Rattle.std.specs.Prelude.{◌≡◌, ◌≢◌, ℕ, ◌+◌, ◌-◌, ◌^◌, ◌<◌, ◌≤◌, Bool, true, false, Ok, List, [], ◌∷◌}
+use Rattle.std.specs.Prelude.{◌≡◌, ◌≢◌, ℕ, ◌+◌, ◌-◌, ◌^◌, ◌<◌, ◌≤◌, Bool, true, false, Ok, List}
 use Rattle.std.specs.Prelude.{length, slice_index, All}
 use Rattle.cpu12_isa.specs.declared.instr.Instr.{Instr}
 use Rattle.cpu12_isa.specs.declared.instr.Instr.TheVariants.{JsrExtended, Rts}
 use Rattle.cpu12_isa.specs.{Act.read_by, Agreement.AgreeFrom, Agreement.AllShown, Code.encode_of, Code.decode_at}
 use Rattle.cpu12_isa.specs.{Code.FitsOperands, Fits.FitsRegs, Fits.AreBytes, Fits.StaysFit, Flags.has}
 use Rattle.cpu12_isa.specs.{Flags.interrupts_masked, Meaning.act_of, Meaning.effect, Meaning.is_plain, Memory.word_of}
-use Rattle.cpu12_isa.specs.Plain.{interrupt_masks}
+use Rattle.cpu12_isa.specs.Plain.{interrupt_masks, is_straight}
 use Rattle.cpu12_isa.specs.Regions.{free_start, stack_start, stack_end, is_hidden}
 use Rattle.cpu12_parts.specs.declared.temps.Temps.TheVariants.{Free}
 use Rattle.cpu12_parts.specs.{Laws.addresses, State.State, Touching.Each, Whole.after_plain}
 use Rattle.eval_code.specs.declared.memory_map.MemoryMap.{MemoryMap}
 use Rattle.eval_code.specs.Evaluation.{HasBytes, Reads, Writes}
-use Rattle.eval_code.specs.{Standing.DecodesWhereItStands, Code.code_bytes, Code.FitCode}
+use Rattle.eval_code.specs.{Standing.DecodesWhereItStands, Standing.StandsWhere, Code.code_bytes, Code.FitCode}
 use Rattle.firmware_code.specs.Arrivals.{given}
 use Rattle.firmware_code.specs.Interruptible.{is_idle, IsStackOfOneCall, IsInterruptible, IsInterruptibleStep}
 use Rattle.firmware_code.specs.Interruptible.{IsShownPlain}
@@ -54,8 +54,7 @@ pub record Here (c : Setting) (p : ℕ) (i : Instr) : Type 0 where
 
 -- instructions one after another
 abbrev pub Stands : Setting → ℕ → List Instr → Type 0
-Stands c p [] = Unit {0}
-Stands c p (i ∷ is) = Here c p i × Stands c (p + length (encode_of i)) is
+Stands c = StandsWhere (Here c)
 
 -- Code that stands in the image behind where the code waits is there, instruction by instruction.
 abbrev pub InstructionsStand : Type 0
@@ -137,6 +136,15 @@ abbrev pub CallGoesOn : Type 0
 CallGoesOn =
     (c : Setting) (s : State) (p to : ℕ) → Live c s → s.regs.pc ≡ p → Here c p (JsrExtended to)
     → s.regs.sp ≡ stack_end → Next c s (after_plain c.flags (JsrExtended to) s) to
+
+-- One that goes straight on leads to what stands behind it.
+abbrev pub StraightInstructionGoesOn : Type 0
+StraightInstructionGoesOn =
+    (c : Setting) (s : State) (p : ℕ) (i : Instr) → Live c s → s.regs.pc ≡ p → Here c p i → is_straight i ≡ true
+    → AllShown (is_hidden c.open_to s.regs.sp) (read_by (act_of c.flags i s.regs) s.mem)
+    → Each (λ at. at < free_start) (addresses (effect c.flags i s.regs s.mem).writes)
+    → AllShown c.open_to (addresses (effect c.flags i s.regs s.mem).writes)
+    → Next c s (after_plain c.flags i s) (p + length (encode_of i))
 
 -- the return address that a call has put on the empty stack
 abbrev pub return_address : List ℕ → ℕ

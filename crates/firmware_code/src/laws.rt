@@ -3,12 +3,13 @@ ghost use Rattle.firmware_code.specs.Frames.{FrameCallsAndLeaves, StartArrives, 
 ghost use Rattle.firmware_code.specs.Images.{ImagesAreOne, ItemsHaveImages};
 ghost use Rattle.firmware_code.specs.Settings.{CallGoesOn, GivenIsLive, InstructionGoesOn, InstructionsStand};
 ghost use Rattle.firmware_code.specs.Settings.{LiveIsIdle, LiveIsInterruptible, MaskedGoesOn, ReturnGoesOn};
+ghost use Rattle.firmware_code.specs.Settings.{StraightInstructionGoesOn};
 ghost use Rattle.firmware_code.specs.{Arrivals.FreeBytesLeave, Calls.CalledEvalReturns, Laws.LowerLaws};
 ghost use Rattle.firmware_code.specs.{Standing.ImageHasFirmware, Uninterrupted.UninterruptedAreOne};
 
 use byte_scaling::laws::nearest_is_byte;
 use cpu12_asm::laws::{ascending_bytes_are_one, rising_items};
-use cpu12_isa::laws::stays_fit;
+use cpu12_isa::laws::{encoded_are_bytes, plain_instructions_leave, stays_fit};
 use cpu12_parts::laws::executions_are_one;
 use eval_code::laws::{
     blocks_are_placed, code_is_decoded, eval_answers, frames_leave, placed_items_stand,
@@ -28,15 +29,20 @@ fn lower_laws()
     blocks_are_placed();
 }
 
-/// One instruction of the code around EVAL continues: a plain one that leaves SP, a call from an empty stack, or the
+/// One instruction of the code around EVAL continues: a plain one that leaves SP, which leads to the next one where it
+/// goes straight on, a call from an empty stack, or the
 /// return from one. Code whose bytes are in the image consists of such instructions.
 pub fn instructions_go_on()
     ensures stand { InstructionsStand }
     ensures plain { InstructionGoesOn }
+    ensures straight { StraightInstructionGoesOn }
     ensures masked { MaskedGoesOn }
     ensures calls { CallGoesOn }
     ensures returns { ReturnGoesOn }
-{}
+{
+    plain_instructions_leave();
+    encoded_are_bytes();
+}
 
 /// A state that the code's runs keep may be interrupted, is idle where the code waits and READY is 0, and remains
 /// such a state when a sample is given.

@@ -20,8 +20,9 @@ use Rattle.eval_code.proofs.phases.Fuzzify.{grades, length-grades, fuzzify_run}
 use Rattle.eval_code.proofs.phases.Filling.{fill_count, slots_run}
 use Rattle.eval_code.proofs.phases.Ruling.{AreFull, address, AtRules, rev_run, revw_run}
 use Rattle.eval_code.proofs.phases.RuleFacts.{BlockFacts, HasRules, has_rules, all_below, weights_below, rev_is_plain}
-use Rattle.eval_code.proofs.steps.Stepping.{Ctx, Live, Stands, Goes, goes_one, goes_on, stands_front, stands_back}
-use Rattle.eval_code.proofs.steps.Stepping.{Reaches, reaches_at, reaches_after}
+use Rattle.eval_code.proofs.steps.Decoding.{stands_front, stands_back}
+use Rattle.eval_code.proofs.steps.Stepping.{Ctx, Here, Live, Stands, Goes, goes_one, goes_on, Reaches, reaches_at}
+use Rattle.eval_code.proofs.steps.Stepping.{reaches_after}
 use Rattle.eval_code.proofs.steps.Instructions.{straight}
 use Rattle.eval_code.proofs.phases.Outputs.{outputs_run, output_answers, all_bytes, length-all_bytes, places_few}
 use Rattle.rule_layout.specs.declared.flat.RuleInstruction.TheVariants as instruction
@@ -236,9 +237,9 @@ rules_on c b w bytes bs m s p h live ep st lm em hb =
     let rest = outputs_part c.memory_map b w in
     let r =
     rules_run c m (slots_before b bytes) (instruction_of b) s p (conjunctions_of b) (weights_of b) (has_rules b h.facts)
-    (rules_here c b w bytes bs m s p h live ep (stands_front c p code rest st) lm em) in
+    (rules_here c b w bytes bs m s p h live ep (stands_front (Here c) p code rest st) lm em) in
     let q = outputs_on c b w bytes bs m r.t (p + code_size code) h r.live r.pc_is
-    (stands_back c p code rest st) lm r.mem_is hb in
+    (stands_back (Here c) p code rest st) lm r.mem_is hb in
     behind c code rest (5 + revw_bound (instruction_of b)) (element_count b - 1) (sum_by (output_most w) b.outputs)
     (output_parts b.outputs) s p r.t (evaluated c.memory_map b w bytes bs m) r.goes r.sp_is q
 
@@ -291,9 +292,9 @@ slots_on : (c : Ctx) (b : Block) (w : Width) (bytes bs m : List ℕ) (s : State)
 slots_on c b w bytes bs m s p h live ep st lm em hb =
     let code = slots_code c.memory_map.slots b.inputs c.memory_map.slots (slots_of b) in
     let rest = rules_part c.memory_map b w in
-    let r = fill_run c b w bytes bs m s p h live ep (stands_front c p code rest st) lm em in
+    let r = fill_run c b w bytes bs m s p h live ep (stands_front (Here c) p code rest st) lm em in
     let q = rules_on c b w bytes bs m r.t (p + code_size code) h r.live r.pc_is
-    (stands_back c p code rest st) lm r.mem_is hb in
+    (stands_back (Here c) p code rest st) lm r.mem_is hb in
     behind c code rest (3 * complement_count b + output_term_count b) 0
     (5 + revw_bound (instruction_of b) + sum_by (output_most w) b.outputs) (element_count b - 1 + output_parts b.outputs) s
     p r.t (evaluated c.memory_map b w bytes bs m) r.goes r.sp_is q
@@ -319,10 +320,10 @@ inputs_on c b w bytes bs s p h live ep ex ey st hi hb =
     let t = sum_by-term_count b.inputs h.valid.few_inputs h.valid.inputs in
     let r =
     fuzzify_run c b.inputs bytes c.memory_map.inputs s p c.memory_map.tables c.memory_map.slots live ep
-    (stands_front c p code rest st) ex ey h.input.count hi h.rom.tables (omega arith) (omega arith) (omega arith)
+    (stands_front (Here c) p code rest st) ex ey h.input.count hi h.rom.tables (omega arith) (omega arith) (omega arith)
     (omega (arith, h.input.count, h.valid.few_inputs)) (omega arith) (omega arith) in
     let q = slots_on c b w bytes bs s.mem r.t (p + code_size code) h r.live r.pc_is
-    (stands_back c p code rest st) live.size
+    (stands_back (Here c) p code rest st) live.size
     r.mem_is hb in
     behind c code rest (length b.inputs + input_term_count b) 0 _ _ s p r.t (evaluated c.memory_map b w bytes bs s.mem)
     r.goes r.sp_is q

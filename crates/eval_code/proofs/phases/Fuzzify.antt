@@ -6,8 +6,9 @@ use Rattle.eval_code.proofs.Words.{rows_of, set, State, subst, suc, sum_by, sum_
 use Rattle.eval_code.proofs.Words.{zero, ℕ}
 use Rattle.eval_code.proofs.Sizes.{code_size, code_size-append}
 use Rattle.eval_code.proofs.steps.Memory.{HasBytes, bytes_front, bytes_back, bytes_put_out, put_append}
-use Rattle.eval_code.proofs.steps.Stepping.{Ctx, Live, Stands, Next, Goes, goes_none, goes_one, goes_on, goes_most}
-use Rattle.eval_code.proofs.steps.Stepping.{stands_front, stands_back, stands_at}
+use Rattle.eval_code.proofs.steps.Decoding.{stands_front, stands_back}
+use Rattle.eval_code.proofs.steps.Stepping.{Ctx, Here, Live, Stands, Next, Goes, goes_none, goes_one, goes_on}
+use Rattle.eval_code.proofs.steps.Stepping.{goes_most, stands_at}
 use Rattle.eval_code.proofs.steps.Instructions.{straight, mem, mem_grade}
 
 abbrev pub row_bytes : Input → List Trapezoid → List ℕ
@@ -139,7 +140,8 @@ fuzzify_run c (i ∷ is) (v ∷ vs) at s p x y l ep st ex ey el hv hb lo hi a0 a
     let hb' : HasBytes c.image x (row_bytes i i.terms ++ input_rows is) =
     subst (HasBytes c.image x) (rows_cons i is) hb in
     let lr = length-row_bytes i i.terms in
-    let r = mems_run c i i.terms s1 (p + 3) x y n1.live n1.pc_is (stands_front c (p + 3) (replicate n Mem) rest st.1) ex
+    let r = mems_run c i i.terms s1 (p + 3) x y n1.live n1.pc_is
+    (stands_front (Here c) (p + 3) (replicate n Mem) rest st.1) ex
     ey (bytes_front c.image x (row_bytes i i.terms) (input_rows is) hb') lo (omega arith) (omega arith)
     (omega arith) in
     then_rest n1 r (λ u lu eu su xu yu hu bu. fuzzify_run c is vs (at + 1) u (p + 3 + n) (x + 4 * n)
@@ -186,7 +188,7 @@ fuzzify_run c (i ∷ is) (v ∷ vs) at s p x y l ep st ex ey el hv hb lo hi a0 a
         (bytes_back c.image x (row_bytes i i.terms) (input_rows is) hb') in
         let epp : p + 3 + code_size (replicate n Mem) ≡ p + 3 + n = omega arith in
         let st1 = stands_at c (p + 3 + code_size (replicate n Mem)) (p + 3 + n) rest epp
-        (stands_back c (p + 3) (replicate n Mem) rest st.1) in
+        (stands_back (Here c) (p + 3) (replicate n Mem) rest st.1) in
         let q = go u r.live r.pc_is st1 r.x_is r.y_is hv1 hb1 in
         let em : put u.mem (y + n) (grades vs is) ≡ put s.mem y (g ++ grades vs is) =
         ap₂ (λ m k. put m (y + k) (grades vs is)) eu (sym lg) ∙ sym (put_append s.mem y g (grades vs is)) in

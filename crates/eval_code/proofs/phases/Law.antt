@@ -1,7 +1,8 @@
 -- EVAL goes to its end over what it owns.
 use Rattle.eval_code.proofs.Words.{[], ◌*◌, ◌+◌, ◌-◌, ◌<◌, ◌∙◌, ◌∷◌, ◌≡◌, ◌≤◌, ◌⊎◌, All, answer, ap, AreInputBytes}
-use Rattle.eval_code.proofs.Words.{arith, Block, bytes_of, Conjunction, conjunctions_of, Dec, DecodesWhereItStands}
-use Rattle.eval_code.proofs.Words.{element_count, encode_of, entry_count, eval_code, get_or, HasBytes, HasEval, inl}
+use Rattle.eval_code.proofs.Words.{arith, Block, bytes_of, Conjunction, conjunctions_of, Dec, decode_at}
+use Rattle.eval_code.proofs.Words.{DecodesWhereItStands, Ok}
+use Rattle.eval_code.proofs.Words.{element_count, entry_count, eval_code, get_or, HasBytes, HasEval, inl}
 use Rattle.eval_code.proofs.Words.{inr, Instr, instruction_bound, interrupt_masks, IsValid, IsValidOutput}
 use Rattle.eval_code.proofs.Words.{IsWithinLimits, LayoutLaw, length, List, NearestIsByte, None, Option, Output}
 use Rattle.eval_code.proofs.Words.{output_bound, places, put, refl, RulesGiveMasses, singleton_count, slots_after}
@@ -9,41 +10,27 @@ use Rattle.eval_code.proofs.Words.{slots_of, Some, State, StaysFit, steps_by, su
 use Rattle.eval_code.proofs.Words.{Width, Word, ℕ}
 use Rattle.byte_scaling.specs.{declared.width.Width.TheVariants.Byte}
 use Rattle.eval_code.specs.{Bounds.step_bound, Evaluation.IsAtEval, Evaluation.IsEvaluated, Evaluation.EvalAnswers}
-use Rattle.cpu12_isa.specs.{Fits.EncodedIsShort, Plain.StraightGoesOn}
+use Rattle.cpu12_isa.specs.{Code.FitsOperands, Fits.EncodedIsShort, Plain.StraightGoesOn}
 use Rattle.cpu12_parts.specs.{Executions.all_steps}
 use Rattle.eval_code.proofs.{masses.Answering.answers_are, phases.Operands.fit_answer, phases.Operands.answer_size}
-use Rattle.eval_code.proofs.steps.Memory.{has_put, at_put_out, length-put, bytes_front, bytes_back}
+use Rattle.eval_code.proofs.steps.Memory.{has_put, at_put_out, length-put}
 use Rattle.eval_code.proofs.Sizes.{code_size, length-code_bytes}
-use Rattle.eval_code.proofs.steps.Decoding.{FitCode, code_bytes}
+use Rattle.eval_code.proofs.steps.Decoding.{instructions_stand}
 use Rattle.eval_code.proofs.phases.Quotients.{output_parts, output_most}
 use Rattle.eval_code.proofs.phases.Evaluating.{masses, length-after, HasParts, Evals, evaluated, eval_most}
 use Rattle.eval_code.proofs.phases.Evaluating.{eval_parts, eval_run}
 use Rattle.eval_code.proofs.phases.Outputs.{output_answers, all_bytes, length-all_bytes, length-output_answers}
 use Rattle.eval_code.proofs.phases.Outputs.{one_stands, listed, length-listed, listed_at, listed_stand, places_few}
 use Rattle.eval_code.proofs.phases.RuleFacts.{BlockFacts, block_facts, HasRules, has_rules}
-use Rattle.eval_code.proofs.steps.Stepping.{Ctx, Live, Stands, Reaches, between_of}
+use Rattle.eval_code.proofs.steps.Stepping.{Ctx, Here, Live, Reaches, between_of}
 
--- code that stands in memory among EVAL's
-stands_of : DecodesWhereItStands → (c : Ctx) (p : ℕ) (is : List Instr) → FitCode is → HasBytes c.image p (code_bytes is)
-    → c.memory_map.eval ≤ p
-    → p + code_size is + 6 ≤ c.memory_map.eval + 2432
-    → Stands c p is
-stands_of decodes c p [] u h lo hi = tt
-stands_of decodes c p (i ∷ is) u h lo hi =
+-- an instruction that is decoded among EVAL's
+here_of : (c : Ctx) (p : ℕ) (i : Instr) → c.memory_map.eval ≤ p → p + 6 ≤ c.memory_map.eval + 2432 → FitsOperands i
+    → decode_at c.image p ≡ Ok i → Here c p i
+here_of c p i lo hi fits decoded =
     let low = c.apart.eval in
-    let high = c.apart.eval_end in (
-      record {
-        low = omega arith;
-        high = omega arith;
-        above = lo;
-        below = omega arith;
-        fits = u.0;
-        decoded = decodes c.image p i u.0 (omega arith) (bytes_front c.image p (encode_of i) (code_bytes is) h);
-      },
-      stands_of decodes c (p + length (encode_of i)) is u.1 (bytes_back c.image p (encode_of i) (code_bytes is) h)
-          (omega arith)
-          (omega arith),
-    )
+    let high = c.apart.eval_end in
+    record { low = omega arith; high = omega arith; above = lo; below = hi; fits = fits; decoded = decoded }
 
 parts_of : DecodesWhereItStands → NearestIsByte → (c : Ctx) (b : Block) (w : Width) → IsValid b → BlockFacts b
     → HasEval c.memory_map b w c.image
@@ -53,9 +40,11 @@ parts_of decodes near c b w v facts h = record {
   singletons = h.singletons;
   weights = h.weights;
   rules = h.rules;
-  code = stands_of decodes c c.memory_map.eval (eval_code c.memory_map b w)
-      (fit_answer near c.memory_map b w c.apart v facts) h.code
-      (omega arith) (omega (arith, answer_size c.memory_map b w v facts));
+  code = (let code = eval_code c.memory_map b w in
+      let size = answer_size c.memory_map b w v facts in
+      instructions_stand decodes (Here c) c.image c.memory_map.eval (c.memory_map.eval + 2432) code c.apart.eval_end
+      (here_of c) (fit_answer near c.memory_map b w c.apart v facts) h.code
+      (omega (arith, length-code_bytes code)));
 }
 
 -- the bounds are those of the parts

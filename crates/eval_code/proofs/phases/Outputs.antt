@@ -9,7 +9,8 @@ use Rattle.eval_code.proofs.Words.{sum_by-cons, sym, take, take-append-drop, tot
 use Rattle.byte_scaling.specs.{declared.width.Width.TheVariants.Byte}
 use Rattle.eval_code.proofs.phases.Quotients.{quotient_of, quotient_most, output_most, output_parts, quotient_run}
 use Rattle.eval_code.proofs.steps.Memory.{HasBytes, bytes_front, bytes_back, bytes_put_out, put_append}
-use Rattle.eval_code.proofs.steps.Stepping.{Ctx, Live, Stands, goes_one, goes_on, stands_front, stands_back, Reaches}
+use Rattle.eval_code.proofs.steps.Decoding.{stands_front, stands_back}
+use Rattle.eval_code.proofs.steps.Stepping.{Ctx, Here, Live, Stands, goes_one, goes_on, Reaches}
 use Rattle.eval_code.proofs.steps.Stepping.{reaches_none, reaches_after, reaches_at}
 use Rattle.eval_code.proofs.steps.Instructions.{straight}
 use Rattle.eval_code.proofs.{Sizes.code_size, Sizes.code_size-append, phases.Averaging.wav_run, phases.Words.word_run}
@@ -179,7 +180,7 @@ outputs_run c w (o ∷ os) sx sy at vs (b ∷ bs) s p h valid ev eb lo hi slo lo
     let hv : HasBytes s.mem sy (take n vs ++ drop n vs) =
     subst (HasBytes s.mem sy) (sym (take-append-drop n vs)) h.masses in
     let r = output_run c w o sx sy at (take n vs) b s p h.live h.pc_is
-    (stands_front c p (output_code w sx sy at o) rest h.code) (valid 0 o (omega arith))
+    (stands_front (Here c) p (output_code w sx sy at o) rest h.code) (valid 0 o (omega arith))
     (bytes_front c.image sx (singleton_bytes_of o) (flat_map singleton_bytes_of os) h.singletons)
     (bytes_front s.mem sy (take n vs) (drop n vs) hv) (omega arith)
     (bytes_front s.mem at (bytes_of w b) (all_bytes w bs) h.before) lo (omega arith) slo (omega arith) alo
@@ -227,7 +228,7 @@ outputs_run c w (o ∷ os) sx sy at vs (b ∷ bs) s p h valid ev eb lo hi slo lo
         let next = go u (p + code_size c1) (record {
           live = r.live;
           pc_is = r.pc_is;
-          code = stands_back c p c1 rest h.code;
+          code = stands_back (Here c) p c1 rest h.code;
           singletons = subst (λ j. HasBytes c.image j (flat_map singleton_bytes_of os)) lx
               (bytes_back c.image sx (singleton_bytes_of o) (flat_map singleton_bytes_of os) h.singletons);
           masses = kept (sy + n) (drop n vs) (omega arith)

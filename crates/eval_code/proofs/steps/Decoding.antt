@@ -1,10 +1,13 @@
 -- The instructions of the code, from their bytes.
 use Rattle.eval_code.proofs.Words.{[], ◌++◌, ◌+◌, ◌<◌, ◌∙◌, ◌∷◌, ◌≡◌, ◌≤◌, AgreeFrom, ap, arith, decode_at}
 use Rattle.eval_code.proofs.Words.{DecodesWhereItStands, encode_of, get_or, Instr, length, List, plus, refl, six_from}
-use Rattle.eval_code.proofs.Words.{stack_end, ℕ}
+use Rattle.eval_code.proofs.Words.{length-append, Ok, stack_end, subst, ℕ}
 use Rattle.cpu12_isa.specs.{Fits.EncodedIsShort, Memory.bytes_at, Code.decode_of, Code.Begins, Code.DecodesEncoded}
+use Rattle.cpu12_isa.specs.{Code.FitsOperands}
+use Rattle.eval_code.specs.{Standing.StandsWhere}
 pub use Rattle.eval_code.specs.Code.{code_bytes, FitCode}
-use Rattle.eval_code.proofs.steps.Memory.{HasBytes}
+use Rattle.eval_code.proofs.steps.Memory.{HasBytes, bytes_front, bytes_back}
+use Rattle.eval_code.proofs.Sizes.{code_size}
 
 -- these addresses go up by 1
 abbrev GoUpFrom : ℕ → List ℕ → Type 0
@@ -30,6 +33,32 @@ decodes_where_it_stands decodes short m p i fits room h =
 pub fit_append : (a b : List Instr) → FitCode a → FitCode b → FitCode (a ++ b)
 fit_append [] b u v = v
 fit_append (i ∷ a) b u v = (u.0, fit_append a b u.1 v)
+
+-- the front and the back of code that stands
+pub stands_front : (H : ℕ → Instr → Type 0) (p : ℕ) (a b : List Instr) → StandsWhere H p (a ++ b) → StandsWhere H p a
+stands_front H p [] b h = tt
+stands_front H p (i ∷ a) b h = (h.0, stands_front H (p + length (encode_of i)) a b h.1)
+
+pub stands_back : (H : ℕ → Instr → Type 0) (p : ℕ) (a b : List Instr) → StandsWhere H p (a ++ b)
+    → StandsWhere H (p + code_size a) b
+stands_back H p [] b h = let e : p ≡ p + 0 = omega arith in subst (λ n. StandsWhere H n b) e h
+stands_back H p (i ∷ a) b h =
+    let e : p + length (encode_of i) + code_size a ≡ p + code_size (i ∷ a) = omega arith in
+    subst (λ n. StandsWhere H n b) e (stands_back H (p + length (encode_of i)) a b h.1)
+
+-- code stands where its bytes do, with six bytes behind it that are fetched
+pub instructions_stand : DecodesWhereItStands → (H : ℕ → Instr → Type 0) (m : List ℕ) (p end : ℕ) (is : List Instr)
+    → end < 65536
+    → ((at : ℕ) (i : Instr) → p ≤ at → at + 6 ≤ end → FitsOperands i → decode_at m at ≡ Ok i → H at i)
+    → FitCode is → HasBytes m p (code_bytes is) → p + length (code_bytes is) + 6 ≤ end → StandsWhere H p is
+instructions_stand decodes H m p end [] high here u h room = tt
+instructions_stand decodes H m p end (i ∷ is) high here u h room =
+    let size = length-append (encode_of i) (code_bytes is) in (
+      here p i (omega arith) (omega arith) u.0
+          (decodes m p i u.0 (omega arith) (bytes_front m p (encode_of i) (code_bytes is) h)),
+      instructions_stand decodes H m (p + length (encode_of i)) end is high (λ at j lo. here at j (omega arith)) u.1
+          (bytes_back m p (encode_of i) (code_bytes is) h) (omega arith),
+    )
 
 -- the same instruction stands in memory
 six : (m : List ℕ) (p : ℕ) (a b d e f g : ℕ) → get_or m p 0 ≡ a → get_or m (plus p 1) 0 ≡ b → get_or m (plus p 2) 0 ≡ d

@@ -1,15 +1,15 @@
 -- One instruction of EVAL, and where it leads.
-use Rattle.eval_code.proofs.Words.{[], ◌++◌, ◌+◌, ◌<◌, ◌^◌, ◌∙◌, ◌∷◌, ◌≡◌, ◌≤◌, after_plain, AgreeFrom, ap, AreBytes}
-use Rattle.eval_code.proofs.Words.{arith, Bool, decode_at, Each, encode_of, FitsRegs, inl, inr, Instr}
+use Rattle.eval_code.proofs.Words.{[], ◌+◌, ◌<◌, ◌^◌, ◌∙◌, ◌∷◌, ◌≡◌, ◌≤◌, after_plain, AgreeFrom, ap, AreBytes}
+use Rattle.eval_code.proofs.Words.{arith, Bool, decode_at, Each, FitsRegs, inl, inr, Instr}
 use Rattle.eval_code.proofs.Words.{interrupt_masks, IsApart, length, List, MemoryMap, Ok, Reads, refl, six_from}
 use Rattle.eval_code.proofs.Words.{stack_end, State, StaysFit, subst, true, Writes, ℕ}
 use Rattle.cpu12_isa.specs.{Act.read_by, Code.FitsOperands, Meaning.act_of, Meaning.effect, Meaning.is_plain}
 use Rattle.cpu12_isa.specs.{Fits.EncodedIsShort, Plain.StraightGoesOn}
 use Rattle.cpu12_parts.specs.{Laws.addresses, Laws.IsOff, Touching.IsIn, Touching.IsBetween}
-use Rattle.eval_code.specs.{Evaluation.eval_frame, Frames.IsStepIn}
+use Rattle.eval_code.specs.{Evaluation.eval_frame, Frames.IsStepIn, Standing.StandsWhere}
 use Rattle.cpu12_isa.proofs.Algebra.{length_writes}
 use Rattle.eval_code.proofs.steps.Memory.{WriteBelow, high_writes, bytes_writes}
-use Rattle.eval_code.proofs.{Sizes.code_size, steps.Addresses.six_each, steps.Decoding.decode_same}
+use Rattle.eval_code.proofs.{steps.Addresses.six_each, steps.Decoding.decode_same}
 use Rattle.cpu12_parts.proofs.Algebra.{Bounded, bounded_none, bounded_one, bounded_on, bounded_more}
 
 -- what a run is under: the memory map, memory where EVAL begins and the open flags, and SP, I and X as they stay
@@ -36,18 +36,7 @@ pub record Here (c : Ctx) (p : ℕ) (i : Instr) : Type 0 where
 
 -- instructions one after another
 abbrev pub Stands : Ctx → ℕ → List Instr → Type 0
-Stands c p [] = Unit {0}
-Stands c p (i ∷ is) = Here c p i × Stands c (p + length (encode_of i)) is
-
-pub stands_front : (c : Ctx) (p : ℕ) (a b : List Instr) → Stands c p (a ++ b) → Stands c p a
-stands_front c p [] b h = tt
-stands_front c p (i ∷ a) b h = (h.0, stands_front c (p + length (encode_of i)) a b h.1)
-
-pub stands_back : (c : Ctx) (p : ℕ) (a b : List Instr) → Stands c p (a ++ b) → Stands c (p + code_size a) b
-stands_back c p [] b h = let e : p ≡ p + 0 = omega arith in subst (λ n. Stands c n b) e h
-stands_back c p (i ∷ a) b h =
-    let e : p + length (encode_of i) + code_size a ≡ p + code_size (i ∷ a) = omega arith in
-    subst (λ n. Stands c n b) e (stands_back c (p + length (encode_of i)) a b h.1)
+Stands c = StandsWhere (Here c)
 
 pub stands_at : (c : Ctx) (p q : ℕ) (is : List Instr) → p ≡ q → Stands c p is → Stands c q is
 stands_at c p q is e h = subst (λ n. Stands c n is) e h

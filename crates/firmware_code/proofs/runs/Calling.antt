@@ -16,7 +16,7 @@ use Rattle.cpu12_parts.specs.{Touching.IsIn, Touching.IsRulesOver, Touching.IsIn
 use Rattle.eval_code.specs.{Code.eval_code}
 use Rattle.firmware_code.specs.{Interruptible.IsShownRules, Settings.ReturnGoesOn, Calls.CalledEvalReturns}
 use Rattle.cpu12_parts.specs.Rules.{Rule, RuleOperands, rules_written, rev_operands, revw_operands, rules_read}
-use Rattle.firmware_code.proofs.runs.Stepping.{plain_next, low_shown, high_shown, not_at}
+use Rattle.firmware_code.proofs.runs.Stepping.{busy_next, low_shown, high_shown, not_at}
 use Rattle.eval_code.specs.Frames.{FramesLeave, IsLeft, IsRunIn, IsStepIn}
 use Rattle.cpu12_parts.specs.Averages.{wav_read}
 
@@ -37,7 +37,7 @@ rts_run c s p ret l ep h es er =
     let r1 : is_hidden open_to s.regs.sp (plus s.regs.sp 1) ≡ false =
     high_shown open_to s.regs.sp (plus s.regs.sp 1) (c.shut.stack (plus s.regs.sp 1) (omega arith) (omega arith))
     (omega arith) in
-    plain_next c s p ret Rts l (not_at c.memory_map s p ep h.off) ep h.from h.to h.decoded refl tt (r0, (r1, tt)) tt
+    busy_next c s p ret Rts l (not_at c.memory_map s p ep h.off) ep h.from h.to h.decoded refl tt (r0, (r1, tt)) tt
     (λ at g. inl (ap (λ k. is_hidden open_to k at) es
     ∙ less_hidden open_to at (ap (λ k. is_hidden open_to k at) (sym e2) ∙ g))) tt (inr e2) refl
     (ap₂ (λ a b. get_or s.mem a 0 * 2 ^ 8 + get_or s.mem b 0) es e1 ∙ er)

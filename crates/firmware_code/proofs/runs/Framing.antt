@@ -7,13 +7,14 @@ use Rattle.firmware_code.proofs.Words.{is_hidden, is_idle, JsrExtended, LdaaExte
 use Rattle.firmware_code.proofs.Words.{MemoryMap, min, nat_le, nat_lt, nat_tests, Next, Ok, or_parts, places, plus}
 use Rattle.firmware_code.proofs.Words.{refl, set, Setting, Stands, State, sym, true, Width, Word}
 use Rattle.eval_code.specs.Evaluation.{put}
-use Rattle.eval_code.proofs.Algebra.{length-put, masked_tested, zero_tested}
+use Rattle.eval_code.proofs.Algebra.{length-put, masked_four, masked_tested, zero_tested}
+use Rattle.std.specs.Prelude.{if◌then◌else◌}
 use Rattle.cpu12_isa.specs.{Agreement.IsWritten}
 use Rattle.eval_code.proofs.{Algebra.bytes_after_put, Algebra.high_put}
 use Rattle.firmware_code.specs.{Frames.Called, Frames.Left}
 use Rattle.firmware_code.specs.Settings.{CallGoesOn, GivenIsLive, LiveIsIdle}
-use Rattle.firmware_code.proofs.runs.Stepping.{next, plain_next, goes_one, goes_on, low_shown}
-use Rattle.firmware_code.proofs.runs.Stepping.{high_shown, not_at, clr, beq_on}
+use Rattle.firmware_code.proofs.runs.Stepping.{next, busy_next, goes_one, goes_on, low_shown}
+use Rattle.firmware_code.proofs.runs.Stepping.{high_shown, not_at}
 
 -- the code around EVAL
 pub record HasFrame (c : Setting) : Type 0 where
@@ -75,7 +76,7 @@ jsr_run c s p to l ep h es =
     let r1 : is_hidden open_to m (plus s.regs.sp 65535) ≡ false =
     high_shown open_to m (plus s.regs.sp 65535) (c.shut.stack (plus s.regs.sp 65535) (omega arith) (omega arith))
     (omega arith) in
-    plain_next c s p to (JsrExtended to) l (not_at c.memory_map s p ep h.off) ep h.from h.to h.decoded refl h.fits tt
+    busy_next c s p to (JsrExtended to) l (not_at c.memory_map s p ep h.off) ep h.from h.to h.decoded refl h.fits tt
     (r0, (r1, tt)) (λ at g. jsr_uncovers open_to s.regs.sp (plus s.regs.pc 3 / 2 ^ 8)
     (plus s.regs.pc 3 % 2 ^ 8) at es g) (omega arith, (omega arith, tt)) (inl low) refl refl
 
@@ -96,12 +97,15 @@ call_run c s f low l ep es er =
     let s2 = after_plain c.flags (Beq 0xFB) s1 in
     let s3 = after_plain c.flags (JsrExtended c.memory_map.eval) s2 in
     let n1 =
-    plain_next c s p (p + 3) (LdaaExtended c.memory_map.sample_flag) l (not_ready c.memory_map s er) ep f.from
+    busy_next c s p (p + 3) (LdaaExtended c.memory_map.sample_flag) l (not_ready c.memory_map s er) ep f.from
     (omega arith) f.load refl (omega arith) (low_shown c.open_to s.regs.sp c.memory_map.sample_flag f.shown low, tt) tt
     (λ at g. inl g) tt l.stack (masked_tested s.regs.ccr _ _) (omega arith) in
     let nz : (get_or s.mem c.memory_map.sample_flag 0 == 0) ≡ false = grind (arith, nat_tests) in
     let z : has s1.regs.ccr 2 ≡ false = zero_tested s.regs.ccr _ (get_or s.mem c.memory_map.sample_flag 0 == 0) ∙ nz in
-    let n2 = beq_on c s1 (p + 3) 0xFB n1.live n1.pc_is f.rest.0 (omega arith) z in
+    let n2 =
+    next c s1 (p + 3) (p + 3 + 2) (Beq 0xFB) n1.live n1.pc_is f.rest.0 refl (omega arith) tt tt tt refl refl
+    (ap (λ b. if b then plus (plus s1.regs.pc 2) (0xFB + 65280) else plus s1.regs.pc 2) z
+    ∙ omega (arith, n1.pc_is, to, high)) in
     let n3 = jsr_run c s2 (p + 3 + 2) c.memory_map.eval n2.live n2.pc_is f.rest.1.0 es in
     let e0 : plus s.regs.sp 65534 ≡ 0x1FFE = omega arith in
     let e1 : plus s.regs.sp 65535 ≡ 0x1FFF = omega arith in
@@ -128,7 +132,11 @@ leave_run c s f low l ep =
     let p = c.memory_map.wait in
     let s1 = after_plain c.flags (ClrExtended c.memory_map.sample_flag) s in
     let s2 = after_plain c.flags (Bra 0xF3) s1 in
-    let n1 = clr c s (p + 3 + 2 + 3) c.memory_map.sample_flag l (ep ∙ omega arith) f.rest.1.1.0 low f.shown in
+    let h = f.rest.1.1.0 in
+    let n1 =
+    next c s (p + 3 + 2 + 3) (p + 3 + 2 + 3 + 3) (ClrExtended c.memory_map.sample_flag) l (ep ∙ omega arith) h refl
+    h.fits tt (low, tt) (f.shown, tt) refl (masked_four s.regs.ccr false true false false)
+    (omega (arith, ep, h.high)) in
     let n2 = bra_back c s1 (p + 3 + 2 + 3 + 3) n1.live n1.pc_is f.rest.1.1.1.0 (omega arith) in
     let g = goes_on c 1 0 1 0 s s1 s2 (goes_one c s s1 _ n1) (goes_one c s1 s2 _ n2) in
     record {

@@ -1,21 +1,23 @@
 -- One instruction of the code around EVAL, and where it leads.
-use Rattle.firmware_code.proofs.Words.{[], ℕ, ⊎_elim, ◌&&◌, ◌+◌, ◌-◌, ◌<◌, ◌==◌, ◌^◌, ◌∙◌, ◌∷◌, ◌≡◌, ◌≢◌, ◌≤◌, act_of}
-use Rattle.firmware_code.proofs.Words.{addresses, after_plain, AllShown, ap, arith, Beq, Bool, bytes_back, bytes_front}
-use Rattle.firmware_code.proofs.Words.{ClrExtended, code_bytes, code_room, decode_at, decode_same, Each, effect}
+use Rattle.firmware_code.proofs.Words.{[], ℕ, ⊎_elim, ◌&&◌, ◌+◌, ◌-◌, ◌<◌, ◌==◌, ◌∙◌, ◌∷◌, ◌≡◌, ◌≢◌, ◌≤◌, act_of}
+use Rattle.firmware_code.proofs.Words.{addresses, after_plain, AllShown, ap, arith, Bool}
+use Rattle.firmware_code.proofs.Words.{code_room, decode_at, decode_same, Each, effect}
 use Rattle.firmware_code.proofs.Words.{encode_of, false, has, Here, inl, inr, Instr, is_hidden, is_idle}
-use Rattle.firmware_code.proofs.Words.{IsInterruptibleStep, IsShut, length, length-append, List, Live, MemoryMap, min}
-use Rattle.firmware_code.proofs.Words.{nat_le, nat_lt, nat_tests, Next, Ok, plus, read_by, refl, Setting, six_from}
+use Rattle.firmware_code.proofs.Words.{IsInterruptibleStep, IsShut, length, List, Live, MemoryMap, min}
+use Rattle.firmware_code.proofs.Words.{nat_le, nat_lt, nat_tests, Next, Ok, read_by, refl, Setting, six_from}
 use Rattle.firmware_code.proofs.Words.{stack_end, State, sym, true}
 use Rattle.firmware_code.specs.Interruptible.{IsSteady}
-use Rattle.std.specs.Prelude.{if◌then◌else◌}
-use Rattle.cpu12_isa.specs.{Agreement.Uncovers, Code.FitsOperands, Meaning.is_plain, Regions.stack_start}
-use Rattle.cpu12_isa.specs.Plain.{interrupt_masks}
+use Rattle.cpu12_isa.specs.{Agreement.Uncovers, Code.FitsOperands, Fits.EncodedIsShort, Meaning.is_plain}
+use Rattle.cpu12_isa.specs.{Regions.stack_start}
+use Rattle.cpu12_isa.specs.Plain.{StraightGoesOn, interrupt_masks}
+use Rattle.std.proofs.Common.{ap₂}
 use Rattle.firmware_code.specs.{Interruptible.IsStackOfOneCall, Settings.InstructionGoesOn}
-use Rattle.eval_code.proofs.{Algebra.below_more, Algebra.bytes_writes}
+use Rattle.eval_code.proofs.{Algebra.below_more, Algebra.bytes_writes, Algebra.instructions_stand}
 use Rattle.cpu12_isa.proofs.Algebra.{length_writes}
 use Rattle.firmware_code.specs.Settings.{InstructionsStand, LiveIsInterruptible, MaskedGoesOn, Went, Lives}
+use Rattle.firmware_code.specs.Settings.{StraightInstructionGoesOn}
 use Rattle.cpu12_parts.proofs.Algebra.{Bounded, bounded_one, bounded_on}
-use Rattle.eval_code.proofs.Algebra.{all_shown, six_each, high_writes, masked_four, WriteBelow}
+use Rattle.eval_code.proofs.Algebra.{all_shown, six_each, high_writes, WriteBelow}
 
 -- SP while a call may be open, and with room for an interrupt
 pub sp_near : (sp : ℕ) → IsStackOfOneCall sp → (stack_end - 2 ≤ sp) × (sp ≤ stack_end)
@@ -111,7 +113,7 @@ plain_went c masked later s p q i l ep lo hi de pl fo reads writes uncovers belo
     }
 
 -- the same where I stays 0, and the code does not wait
-pub plain_next : (c : Setting) (s : State) (p q : ℕ) (i : Instr) → Live c s → is_idle c.memory_map s ≡ false
+pub busy_next : (c : Setting) (s : State) (p q : ℕ) (i : Instr) → Live c s → is_idle c.memory_map s ≡ false
     → s.regs.pc ≡ p
     → c.memory_map.code ≤ p → p + 6 ≤ c.memory_map.code + code_room
     → decode_at c.image p ≡ Ok i → is_plain i ≡ true → FitsOperands i
@@ -125,7 +127,7 @@ pub plain_next : (c : Setting) (s : State) (p q : ℕ) (i : Instr) → Live c s 
     → interrupt_masks (effect c.flags i s.regs s.mem).regs.ccr ≡ interrupt_masks s.regs.ccr
     → (effect c.flags i s.regs s.mem).regs.pc ≡ q
     → Next c s (after_plain c.flags i s) q
-plain_next c s p q i l busy ep lo hi de pl fo reads writes uncovers below stack masks pc =
+busy_next c s p q i l busy ep lo hi de pl fo reads writes uncovers below stack masks pc =
     let w = plain_went c false false s p q i l ep lo hi de pl fo reads writes uncovers below stack
     (ap (λ (m : Bool × Bool). m.0) masks ∙ l.mask) pc in
     record {
@@ -154,7 +156,7 @@ pub next : (c : Setting) (s : State) (p q : ℕ) (i : Instr) → Live c s → s.
     → Next c s (after_plain c.flags i s) q
 next c s p q i l ep h pl fo reads below shut esp masks pc =
     let e = effect c.flags i s.regs s.mem in
-    plain_next c s p q i l (not_at c.memory_map s p ep h.off) ep h.from h.to h.decoded pl fo reads
+    busy_next c s p q i l (not_at c.memory_map s p ep h.off) ep h.from h.to h.decoded pl fo reads
     (writes_shown c.open_to (min s.regs.sp e.regs.sp) e.writes below shut)
     (λ at g. inl (ap (λ k. is_hidden c.open_to k at) (sym esp) ∙ g))
     (below_more 0x1800 0x2000 e.writes (omega arith) below)
@@ -169,6 +171,13 @@ pub instruction_goes_on : InstructionGoesOn
 instruction_goes_on c s p q i l ep h pl reads below shut esp masks pc =
     next c s p q i l ep h pl h.fits reads (below_by 0x1800 (effect c.flags i s.regs s.mem).writes below) shut
     esp masks pc
+
+-- one that goes straight on
+pub straight_goes_on : StraightGoesOn → EncodedIsShort → StraightInstructionGoesOn
+straight_goes_on goes short c s p i l ep h straight reads below shut =
+    let k = goes c.flags i s.regs s.mem straight in
+    instruction_goes_on c s p (p + length (encode_of i)) i l ep h k.plain reads below shut k.sp
+    (ap₂ (λ (a b : Bool). (a, b)) k.mask k.x) (omega (arith, k.pc, ep, h.high, short i))
 
 pub masked_goes_on : MaskedGoesOn
 masked_goes_on c masked later s p q i l ep lo hi de pl fo reads below shut esp mask pc =
@@ -190,35 +199,16 @@ goes_on c = bounded_on (IsInterruptibleStep c.open_to c.memory_map c.image c.fla
 pub goes_one : (c : Setting) (s t : State) (q : ℕ) → Next c s t q → Goes c 1 0 s t
 goes_one c s t q h = bounded_one (IsInterruptibleStep c.open_to c.memory_map c.image c.flags) 0 s t h.step
 
-pub clr : (c : Setting) (s : State) (p at : ℕ) → Live c s → s.regs.pc ≡ p → Here c p (ClrExtended at) → at < 0x1800
-    → c.open_to at ≡ false
-    → Next c s (after_plain c.flags (ClrExtended at) s) (p + 3)
-clr c s p at l ep h lt shut =
-    next c s p (p + 3) (ClrExtended at) l ep h refl (omega arith) tt (lt, tt) (shut, tt) refl
-    (masked_four s.regs.ccr false true false false) (omega (arith, h.high))
-
-pub beq_on : (c : Setting) (s : State) (p to : ℕ) → Live c s → s.regs.pc ≡ p → Here c p (Beq to) → to < 2 ^ 8
-    → has s.regs.ccr 2 ≡ false
-    → Next c s (after_plain c.flags (Beq to) s) (p + 2)
-beq_on c s p to l ep h lt z =
-    next c s p (p + 2) (Beq to) l ep h refl lt tt tt tt refl refl
-    (ap (λ b. if b then plus (plus s.regs.pc 2) (if nat_lt to 128 then to else to + 65280) else plus s.regs.pc 2) z
-    ∙ omega (arith, h.high))
-
 -- code that stands in the image above where it waits
 pub stands_of : InstructionsStand
-stands_of c p [] u h lo w hi = tt
-stands_of c p (i ∷ is) u h lo w hi =
-    let size = length-append (encode_of i) (code_bytes is) in
-    let high : p + 6 < 65536 = (let end = c.shut.high in omega arith) in (
-      record {
-        from = lo;
-        to = omega arith;
-        high = high;
-        off = λ e. omega arith;
-        fits = u.0;
-        decoded = c.decodes c.image p i u.0 high (bytes_front c.image p (encode_of i) (code_bytes is) h);
-      },
-      stands_of c (p + length (encode_of i)) is u.1 (bytes_back c.image p (encode_of i) (code_bytes is) h) (omega arith)
-          (omega arith) (omega arith),
-    )
+stands_of c p code u h lo w hi =
+    let end = c.shut.high in
+    instructions_stand c.decodes (Here c) c.image p (c.memory_map.code + code_room) code end
+    (λ at i from to fits decoded. record {
+      from = omega arith;
+      to = to;
+      high = omega arith;
+      off = λ e. omega arith;
+      fits = fits;
+      decoded = decoded;
+    }) u h hi

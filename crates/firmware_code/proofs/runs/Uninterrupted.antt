@@ -3,7 +3,7 @@ use Rattle.firmware_code.proofs.Words.{[], ℕ, ◌*◌, ◌+◌, ◌<◌, ◌�
 use Rattle.firmware_code.proofs.Words.{Execution, false, Firmware, get_or, HasBytes, image_memory, inl, inr, is_idle}
 use Rattle.firmware_code.proofs.Words.{IsInterruptibleStep, IsShownInstruction, length, List, MemoryMap, nat_tests}
 use Rattle.firmware_code.proofs.Words.{places, PlainExecution, refl, reset_with, State, subst, sym, true, Width, Word}
-use Rattle.std.proofs.Common.{suc, zero}
+use Rattle.std.proofs.Common.{replicate, suc, zero}
 use Rattle.cpu12_parts.specs.Executions.{IsStepBefore}
 use Rattle.firmware_code.specs.Arrivals.{given}
 use Rattle.firmware_code.specs.Uninterrupted.{Answer, AreAnswersTo, values_in}
@@ -67,12 +67,8 @@ waits l s h = grind (arith, nat_tests)
 off : (l : MemoryMap) (s : State) → s.regs.pc ≢ l.wait → is_waiting l s ≡ false
 off l s h = grind (arith, nat_tests)
 
-abbrev pub plain_parts : ℕ → List ℕ
-plain_parts zero = []
-plain_parts (suc n) = 0 ∷ plain_parts n
-
 pub arrival : (l : MemoryMap) (flags n : ℕ) (s t : State) → PlainExecution flags l.wait n s t
-    → Execution (IsStepBefore (is_waiting l) flags) (plain_parts n) s t
+    → Execution (IsStepBefore (is_waiting l) flags) (replicate n 0) s t
 arrival l flags zero s t h = h
 arrival l flags (suc n) s t h =
     (h.0, (record { on = off l s h.1.0; step = inl (h.1.1.0, (h.1.1.1, refl)) }, arrival l flags n h.0 t h.1.2))

@@ -2,11 +2,11 @@
 use Rattle.mailbox_code.proofs.Words.{[], ℕ, ◌*◌, ◌++◌, ◌+◌, ◌-◌, ◌<◌, ◌^◌, ◌∙◌, ◌∷◌, ◌≡◌, ◌≤◌, ap, ap₂, arith, Beq}
 use Rattle.mailbox_code.proofs.Words.{Block, Bra, call_code, copy_code, HasBytes, Here, inr, Instr, IsApart, IsRising}
 use Rattle.mailbox_code.proofs.Words.{IsValid, IsWithinLimits, JsrExtended, LdaaExtended, length, List, mailbox_code}
-use Rattle.mailbox_code.proofs.Words.{mailbox_items, mailbox_map, MovbExtended, Orcc, refl, Setting, Stands, subst, suc}
+use Rattle.mailbox_code.proofs.Words.{mailbox_items, mailbox_map, MovbExtended, Orcc, refl, subst, suc}
 use Rattle.mailbox_code.proofs.Words.{Width, zero}
 use Rattle.eval_code.specs.Placed.{BlockIsShort, BlockRises, IsInOrder}
 use Rattle.eval_code.proofs.Algebra.{bytes_back, bytes_front, length-code_bytes, code_size, code_size-append}
-use Rattle.eval_code.proofs.Algebra.{fit_append}
+use Rattle.eval_code.proofs.Algebra.{fit_append, stands_back}
 use Rattle.eval_code.specs.Code.{code_bytes, FitCode}
 use Rattle.cpu12_isa.specs.Code.{encode_of}
 use Rattle.firmware_code.specs.Calls.{IsInCode}
@@ -150,11 +150,6 @@ has_turn p h =
     }
 
 -- the call and the way back
-stands_back : (c : Setting) (p : ℕ) (xs ys : List Instr) → Stands c p (xs ++ ys) → Stands c (p + code_size xs) ys
-stands_back c p [] ys h = subst (λ (q : ℕ). Stands c q ys) (omega arith) h
-stands_back c p (x ∷ xs) ys h =
-    subst (λ (q : ℕ). Stands c q ys) (omega arith) (stands_back c (p + length (encode_of x)) xs ys h.1)
-
 here_too : (p : Post) (at q : ℕ) (i : Instr) → at ≡ q → Here (free_ctx p) at i → Here (post_ctx p) q i
 here_too p at q i e h =
     let again : Here (post_ctx p) at i =
@@ -168,7 +163,7 @@ pub record HasCall (p : Post) : Type 0 where
 pub has_call : (p : Post) → HasTurn p → HasCall p
 has_call p h =
     let size = code_size-copy 0x1020 0x1001 p.n in
-    let k = stands_back (free_ctx p) 0xC00F (copy_code 0x1020 0x1001 p.n) (call_code (mailbox_map p.n) p.n)
+    let k = stands_back (Here (free_ctx p)) 0xC00F (copy_code 0x1020 0x1001 p.n) (call_code (mailbox_map p.n) p.n)
     h.rest.1.1 in
     record {
       call = here_too p (0xC00F + code_size (copy_code 0x1020 0x1001 p.n) + 3 + 2) (0xC014 + 6 * p.n)
