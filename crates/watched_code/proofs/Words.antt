@@ -3,7 +3,7 @@ pub use Rattle.cpu12_isa.specs.declared.instr.Instr.TheVariants.{AddbImmediate, 
 pub use Rattle.cpu12_isa.specs.declared.instr.Instr.TheVariants.{StabExtended}
 pub use Rattle.cpu12_parts.proofs.Algebra.{Bounded, bounded_none, bounded_on, bounded_one}
 pub use Rattle.eval_code.specs.Data.{bytes_of_word, rule_bytes, singleton_bytes, table_bytes, weight_bytes_by}
-pub use Rattle.firmware_code.specs.Settings.{InstructionGoesOn, InstructionsStand, Live, Setting, Stands}
+pub use Rattle.firmware_code.specs.Settings.{InstructionsStand, Live, Setting, Stands}
 pub use Rattle.std.proofs.Common.{All, Bool, List, [], ap, ap₂, arith, false, get_or, get_or-set_other}
 pub use Rattle.std.proofs.Common.{get_or-set_same, inl, inr, length, length-append, length-set, map, refl, set, subst}
 pub use Rattle.std.proofs.Common.{suc, sum_by, sym, take, true, zero, ℕ, ⊎_elim, ◌%◌, ◌*◌, ◌++◌, ◌+◌, ◌-◌, ◌<◌, ◌^◌}

@@ -7,7 +7,7 @@ use Rattle.byte_scaling.specs.Cells.{nearest_byte}
 use Rattle.rule_layout.specs.declared.flat.RuleInstruction.{RuleInstruction}
 use Rattle.rule_layout.specs.declared.flat.RuleInstruction.TheVariants as instruction
 use Rattle.rule_layout.specs.Layouts.{instruction_of, weights_of}
-use Rattle.cpu12_isa.specs.declared.instr.Instr.{Instr}
+use Rattle.cpu12_isa.specs.{declared.instr.Instr.Instr, Regions.stack_end}
 use Rattle.cpu12_isa.specs.declared.instr.Instr.TheVariants.{LdabImmediate, LdxImmediate, StabExtended, ClrExtended}
 use Rattle.cpu12_isa.specs.declared.instr.Instr.TheVariants.{CpxImmediate, Bne, Rts, AddbImmediate}
 use Rattle.cpu12_isa.specs.declared.instr.Instr.TheVariants.{AddbPostIncrementX}
@@ -40,7 +40,7 @@ segment_bytes segments = flat_map (λ (s : Segment). s.bytes) segments
 
 -- a segment lies above RAM, has a byte, and ends in memory
 abbrev pub IsSegment : Segment → Type 0
-IsSegment s = (0x2000 ≤ s.at) × (1 ≤ length s.bytes) × (s.at + length s.bytes < 2 ^ 16)
+IsSegment s = (stack_end ≤ s.at) × (1 ≤ length s.bytes) × (s.at + length s.bytes < 2 ^ 16)
 
 abbrev pub AreSegments : List Segment → Type 0
 AreSegments [] = Unit {0}

@@ -1,56 +1,22 @@
 -- Bytes added up, one after another.
 use Rattle.watched_code.proofs.Words.{[], ◌%◌, ◌*◌, ◌++◌, ◌+◌, ◌-◌, ◌<◌, ◌==◌, ◌^◌, ◌∙◌, ◌∷◌, ◌≡◌, ◌≤◌, AddbImmediate}
 use Rattle.watched_code.proofs.Words.{after_plain, ap, ap₂, arith, Bne, Bool, Bounded, bounded_none, bounded_on}
-use Rattle.watched_code.proofs.Words.{bounded_one, ClrExtended, encode_of, false, get_or, has, if◌then◌else◌, Instr}
-use Rattle.watched_code.proofs.Words.{InstructionGoesOn, IsInterruptibleStep, IsSegment, LdabImmediate, length, List}
-use Rattle.watched_code.proofs.Words.{Live, nat_tests, not, refl, Segment, segment_code, segments_code, Setting}
-use Rattle.watched_code.proofs.Words.{StabExtended, Stands, State, subst, suc, sym, true, zero, ℕ, ⊎_elim}
+use Rattle.watched_code.proofs.Words.{bounded_one, false, get_or, has, if◌then◌else◌, Instr, IsInterruptibleStep}
+use Rattle.watched_code.proofs.Words.{IsSegment, length, List, Live, nat_tests, not, refl, Segment, segment_code}
+use Rattle.watched_code.proofs.Words.{segments_code, Setting, Stands, State, subst, suc, sym, true, zero, ℕ, ⊎_elim}
 use Rattle.std.proofs.{Common.nat_lt}
 use Rattle.cpu12_isa.specs.{declared.instr.Ccr.Ccr, declared.instr.Instr.TheVariants.LdxImmediate}
 use Rattle.cpu12_isa.specs.{declared.instr.Instr.TheVariants.CpxImmediate}
 use Rattle.cpu12_isa.specs.{declared.instr.Instr.TheVariants.AddbPostIncrementX, Flags.put, Memory.plus}
 use Rattle.firmware_code.specs.Settings.{Here, Next}
 pub use Rattle.watched_code.specs.WatchedCode.{AreSegments}
-use Rattle.cpu12_isa.proofs.Algebra.{masked_tested, masked_four, masked_five}
 use Rattle.eval_code.proofs.Algebra.{zero_four}
 use Rattle.firmware_code.proofs.Algebra.{high_shown}
+use Rattle.watched_code.proofs.watching.Laws.{WatchingLaws}
 
 -- Z where H is put too
 zero_five : (c : Ccr) (h n z v k : Bool) → has (put (put (put (put (put c 5 h) 3 n) 2 z) 1 v) 0 k) 2 ≡ z
 zero_five c h n z v k = zero_four (put c 5 h) n z v k
-
--- the instructions
-pub clr : InstructionGoesOn → (c : Setting) (s : State) (p at : ℕ) → Live c s → s.regs.pc ≡ p
-    → Here c p (ClrExtended at) → at < 0x1800 → c.open_to at ≡ false
-    → Next c s (after_plain c.flags (ClrExtended at) s) (p + 3)
-clr go c s p at l ep h lt shut =
-    go c s p (p + 3) (ClrExtended at) l ep h refl tt (lt, tt) (shut, tt) refl
-    (masked_four s.regs.ccr false true false false) (omega (arith, h.high))
-
-pub ldab : InstructionGoesOn → (c : Setting) (s : State) (p v : ℕ) → Live c s → s.regs.pc ≡ p
-    → Here c p (LdabImmediate v)
-    → Next c s (after_plain c.flags (LdabImmediate v) s) (p + 2)
-ldab go c s p v l ep h =
-    go c s p (p + 2) (LdabImmediate v) l ep h refl tt tt tt refl (masked_tested s.regs.ccr _ _) (omega (arith, h.high))
-
-pub stab : InstructionGoesOn → (c : Setting) (s : State) (p at : ℕ) → Live c s → s.regs.pc ≡ p
-    → Here c p (StabExtended at) → at < 0x1800
-    → c.open_to at ≡ false → Next c s (after_plain c.flags (StabExtended at) s) (p + 3)
-stab go c s p at l ep h lt shut =
-    go c s p (p + 3) (StabExtended at) l ep h refl tt (lt, tt) (shut, tt) refl (masked_tested s.regs.ccr _ _)
-    (omega (arith, h.high))
-
-ldx : InstructionGoesOn → (c : Setting) (s : State) (p v : ℕ) → Live c s → s.regs.pc ≡ p → Here c p (LdxImmediate v)
-    → Next c s (after_plain c.flags (LdxImmediate v) s) (p + 3)
-ldx go c s p v l ep h =
-    go c s p (p + 3) (LdxImmediate v) l ep h refl tt tt tt refl (masked_tested s.regs.ccr _ _) (omega (arith, h.high))
-
-pub addb : InstructionGoesOn → (c : Setting) (s : State) (p v : ℕ) → Live c s → s.regs.pc ≡ p
-    → Here c p (AddbImmediate v)
-    → Next c s (after_plain c.flags (AddbImmediate v) s) (p + 2)
-addb go c s p v l ep h =
-    go c s p (p + 2) (AddbImmediate v) l ep h refl tt tt tt refl (masked_five s.regs.ccr _ _ _ _ _)
-    (omega (arith, h.high))
 
 -- Z after ADDB says whether the sum is 0
 pub addb_zero : (c : Setting) (s : State) (v : ℕ)
@@ -64,20 +30,6 @@ Step c = IsInterruptibleStep c.open_to c.memory_map c.image c.flags
 -- no byte that stands high is open
 abbrev pub IsShutAbove : Setting → Type 0
 IsShutAbove c = (at : ℕ) → 0x2000 ≤ at → c.open_to at ≡ false
-
-addb_next : InstructionGoesOn → (c : Setting) → IsShutAbove c → (s : State) (p : ℕ) → Live c s → s.regs.pc ≡ p
-    → Here c p AddbPostIncrementX → 0x2000 ≤ s.regs.x
-    → Next c s (after_plain c.flags AddbPostIncrementX s) (p + 2)
-addb_next go c u s p l ep h low =
-    let top : s.regs.sp ≤ 0x2000 = ⊎_elim (λ e. omega arith) (λ e. omega arith) l.stack in
-    go c s p (p + 2) AddbPostIncrementX l ep h refl
-    (high_shown c.open_to s.regs.sp s.regs.x (u s.regs.x low) (omega arith), tt) tt tt refl
-    (masked_five s.regs.ccr _ _ _ _ _) (omega (arith, h.high))
-
-cpx : InstructionGoesOn → (c : Setting) (s : State) (p v : ℕ) → Live c s → s.regs.pc ≡ p → Here c p (CpxImmediate v)
-    → Next c s (after_plain c.flags (CpxImmediate v) s) (p + 3)
-cpx go c s p v l ep h =
-    go c s p (p + 3) (CpxImmediate v) l ep h refl tt tt tt refl (masked_four s.regs.ccr _ _ _ _) (omega (arith, h.high))
 
 -- Z after CPX says whether X is the word
 cpx_same : (c : Setting) (s : State) (v : ℕ) → s.regs.x ≡ v → v < 2 ^ 16
@@ -94,20 +46,20 @@ cpx_less c s v less lt =
     (let d : 0 < (s.regs.x + (65536 - v)) % 65536 = omega arith in grind (arith, nat_tests)) in
     zero_four s.regs.ccr _ ((s.regs.x + (65536 - v)) % 65536 == 0) _ _ ∙ z
 
-pub bne_on : InstructionGoesOn → (c : Setting) (s : State) (p to : ℕ) → Live c s → s.regs.pc ≡ p → Here c p (Bne to)
+pub bne_on : WatchingLaws → (c : Setting) (s : State) (p to : ℕ) → Live c s → s.regs.pc ≡ p → Here c p (Bne to)
     → has s.regs.ccr 2 ≡ true
     → Next c s (after_plain c.flags (Bne to) s) (p + 2)
-bne_on go c s p to l ep h z =
-    go c s p (p + 2) (Bne to) l ep h refl tt tt tt refl refl
+bne_on laws c s p to l ep h z =
+    laws.plain c s p (p + 2) (Bne to) l ep h refl tt tt tt refl refl
     (ap (λ b. if not b then plus (plus s.regs.pc 2) (if nat_lt to 128 then to else to + 65280) else plus s.regs.pc
     2) z ∙ omega (arith, h.high))
 
-pub bne_back : InstructionGoesOn → (c : Setting) (s : State) (p to q : ℕ) → Live c s → s.regs.pc ≡ p → Here c p (Bne to)
+pub bne_back : WatchingLaws → (c : Setting) (s : State) (p to q : ℕ) → Live c s → s.regs.pc ≡ p → Here c p (Bne to)
     → 128 ≤ to → to < 2 ^ 8 → p + 2 + to ≡ q + 256
     → has s.regs.ccr 2 ≡ false → Next c s (after_plain c.flags (Bne to) s) q
-bne_back go c s p to q l ep h ge lt e z =
+bne_back laws c s p to q l ep h ge lt e z =
     let far : nat_lt to 128 ≡ false = grind (arith, nat_tests) in
-    go c s p q (Bne to) l ep h refl tt tt tt refl refl
+    laws.plain c s p q (Bne to) l ep h refl tt tt tt refl refl
     (ap₂ (λ b d. if not b then plus (plus s.regs.pc 2) (if d then to else to + 65280) else plus s.regs.pc 2) z far
     ∙ omega (arith, h.high))
 
@@ -167,13 +119,16 @@ record Turned (c : Setting) (s : State) (p end : ℕ) : Type 0 where
 abbrev loop_code : ℕ → List Instr
 loop_code end = AddbPostIncrementX ∷ CpxImmediate end ∷ Bne 0xF9 ∷ []
 
-turn : InstructionGoesOn → (c : Setting) → IsShutAbove c → (s : State) (p end : ℕ) → Live c s → s.regs.pc ≡ p
+turn : WatchingLaws → (c : Setting) → IsShutAbove c → (s : State) (p end : ℕ) → Live c s → s.regs.pc ≡ p
     → Stands c p (loop_code end) → 0x2000 ≤ s.regs.x → s.regs.x < end → end < 2 ^ 16 → Turned c s p end
-turn go c above s p end l ep h low less top =
+turn laws c above s p end l ep h low less top =
     let s1 = after_plain c.flags AddbPostIncrementX s in
     let s2 = after_plain c.flags (CpxImmediate end) s1 in
-    let n1 = addb_next go c above s p l ep h.0 low in
-    let n2 = cpx go c s1 (p + 2) end n1.live n1.pc_is h.1.0 in
+    let stack : s.regs.sp ≤ 0x2000 = ⊎_elim (λ e. omega arith) (λ e. omega arith) l.stack in
+    let n1 =
+    laws.straight c s p AddbPostIncrementX l ep h.0 refl
+    (high_shown c.open_to s.regs.sp s.regs.x (above s.regs.x low) (omega arith), tt) tt tt in
+    let n2 = laws.straight c s1 (p + 2) (CpxImmediate end) n1.live n1.pc_is h.1.0 refl tt tt tt in
     let x1 : s1.regs.x ≡ s.regs.x + 1 = omega arith in
     record {
       t = s2;
@@ -193,13 +148,13 @@ sum_on : (b v w : ℕ) → ((b + v) % 2 ^ 8 + w) % 2 ^ 8 ≡ (b + (v + w)) % 2 ^
 sum_on b v w = omega arith
 
 -- the loop: three instructions a byte
-pub loop : InstructionGoesOn → (c : Setting) → IsShutAbove c → (s : State) (p end n : ℕ) → Live c s → s.regs.pc ≡ p
+pub loop : WatchingLaws → (c : Setting) → IsShutAbove c → (s : State) (p end n : ℕ) → Live c s → s.regs.pc ≡ p
     → Stands c p (loop_code end) → 0x2000 ≤ s.regs.x → s.regs.x + suc n ≡ end → end < 2 ^ 16
     → Adds c (3 * suc n) s (p + 7) ((s.regs.b + sum_from s.mem s.regs.x (suc n)) % 2 ^ 8)
-loop go c above s p end zero l ep h low e top =
-    let r = turn go c above s p end l ep h low (omega arith) top in
+loop laws c above s p end zero l ep h low e top =
+    let r = turn laws c above s p end l ep h low (omega arith) top in
     let at : p + 5 ≡ p + 2 + 3 = omega arith in
-    let n = bne_on go c r.t (p + 2 + 3) 0xF9 r.live (r.pc_is ∙ at) h.1.1.0 (r.last (omega arith)) in
+    let n = bne_on laws c r.t (p + 2 + 3) 0xF9 r.live (r.pc_is ∙ at) h.1.1.0 (r.last (omega arith)) in
     let u = after_plain c.flags (Bne 0xF9) r.t in
     record {
       t = u;
@@ -210,14 +165,14 @@ loop go c above s p end zero l ep h low e top =
       mem_is = r.mem_is;
       b_is = r.b_is ∙ omega arith;
     }
-loop go c above s p end (suc n) l ep h low e top =
-    let r = turn go c above s p end l ep h low (omega arith) top in
+loop laws c above s p end (suc n) l ep h low e top =
+    let r = turn laws c above s p end l ep h low (omega arith) top in
     let at : p + 5 ≡ p + 2 + 3 = omega arith in
-    let k = bne_back go c r.t (p + 2 + 3) 0xF9 p r.live (r.pc_is ∙ at) h.1.1.0 (omega arith) (omega arith) (omega arith)
+    let k = bne_back laws c r.t (p + 2 + 3) 0xF9 p r.live (r.pc_is ∙ at) h.1.1.0 (omega arith) (omega arith) (omega arith)
     (r.more (omega arith)) in
     let u = after_plain c.flags (Bne 0xF9) r.t in
     let ex = r.x_is in
-    let rest = loop go c above u p end n k.live k.pc_is h (omega arith) (omega arith) top in
+    let rest = loop laws c above u p end n k.live k.pc_is h (omega arith) (omega arith) top in
     let same : sum_from u.mem u.regs.x (suc n) ≡ sum_from s.mem (s.regs.x + 1) (suc n) =
     ap₂ (λ (m : List ℕ) (x : ℕ). sum_from m x (suc n)) r.mem_is ex in
     let total : (u.regs.b + sum_from u.mem u.regs.x (suc n)) % 2 ^ 8
@@ -238,10 +193,10 @@ abbrev pub count_in : List Segment → ℕ
 count_in [] = 0
 count_in (g ∷ gs) = 1 + 3 * length g.bytes + count_in gs
 
-segment_run : InstructionGoesOn → (c : Setting) → IsShutAbove c → (s : State) (p : ℕ) (g : Segment) → Live c s
+segment_run : WatchingLaws → (c : Setting) → IsShutAbove c → (s : State) (p : ℕ) (g : Segment) → Live c s
     → s.regs.pc ≡ p → Stands c p (segment_code g) → IsSegment g
     → Adds c (1 + 3 * length g.bytes) s (p + 10) ((s.regs.b + sum_from s.mem g.at (length g.bytes)) % 2 ^ 8)
-segment_run go c above s p g l ep h q = by_size (length g.bytes) refl
+segment_run laws c above s p g l ep h q = by_size (length g.bytes) refl
   where
     by_size : (n : ℕ) → length g.bytes ≡ n
         → Adds c (1 + 3 * length g.bytes) s (p + 10) ((s.regs.b + sum_from s.mem g.at (length g.bytes)) % 2 ^ 8)
@@ -250,18 +205,14 @@ segment_run go c above s p g l ep h q = by_size (length g.bytes) refl
         let low = q.0 in
         let top = q.2 in
         let u = after_plain c.flags (LdxImmediate g.at) s in
-        let k = ldx go c s p g.at l ep h.0 in
-        let r = loop go c above u (p + 3) (g.at + length g.bytes) n k.live k.pc_is h.1 low (omega arith)
+        let k = laws.straight c s p (LdxImmediate g.at) l ep h.0 refl tt tt tt in
+        let r = loop laws c above u (p + 3) (g.at + length g.bytes) n k.live k.pc_is h.1 low (omega arith)
         (omega arith) in
         let total : (s.regs.b + sum_from s.mem g.at (suc n)) % 2 ^ 8
         ≡ (s.regs.b + sum_from s.mem g.at (length g.bytes)) % 2 ^ 8 =
         ap (λ (m : ℕ). (s.regs.b + sum_from s.mem g.at m) % 2 ^ 8) (sym e) in
         adds_at c (1 + 3 * suc n) (1 + 3 * length g.bytes) s (p + 3 + 7) (p + 10) _ _ (omega arith) (omega arith) total
         (adds_after c 1 (3 * suc n) s u (p + 3 + 7) _ (bounded_one (Step c) 0 s u k.step) refl refl r)
-
-pub stands_front : (c : Setting) (p : ℕ) (a b : List Instr) → Stands c p (a ++ b) → Stands c p a
-stands_front c p [] b h = tt
-stands_front c p (i ∷ a) b h = (h.0, stands_front c (p + length (encode_of i)) a b h.1)
 
 -- the segments, one after another, and what stands behind their code
 pub record Added (c : Setting) (s : State) (gs : List Segment) (rest : List Instr) (q : ℕ) : Type 0 where
@@ -284,11 +235,11 @@ added_on c s p q g gs rest r k =
       behind = k.behind;
     }
 
-pub segments_run : InstructionGoesOn → (c : Setting) → IsShutAbove c
+pub segments_run : WatchingLaws → (c : Setting) → IsShutAbove c
     → (s : State) (p q : ℕ) (gs : List Segment) (rest : List Instr) → Live c s → s.regs.pc ≡ p
     → Stands c p (segments_code gs ++ rest) → AreSegments gs
     → p + 10 * length gs ≡ q → Added c s gs rest q
-segments_run go c above s p q [] rest l ep h g e =
+segments_run laws c above s p q [] rest l ep h g e =
     let fit = l.fits.b in
     let at : p ≡ q = omega arith in
     record {
@@ -304,9 +255,9 @@ segments_run go c above s p q [] rest l ep h g e =
       };
       behind = subst (λ (k : ℕ). Stands c k rest) at h;
     }
-segments_run go c above s p q (g ∷ gs) rest l ep h k e =
-    let r = segment_run go c above s p g l ep (h.0, (h.1.0, (h.1.1.0, (h.1.1.1.0, tt)))) k.0 in
+segments_run laws c above s p q (g ∷ gs) rest l ep h k e =
+    let r = segment_run laws c above s p g l ep (h.0, (h.1.0, (h.1.1.0, (h.1.1.1.0, tt)))) k.0 in
     let at : p + 3 + 2 + 3 + 2 ≡ p + 10 = omega arith in
     added_on c s (p + 10) q g gs rest r
-    (segments_run go c above r.t (p + 10) q gs rest r.live r.pc_is
+    (segments_run laws c above r.t (p + 10) q gs rest r.live r.pc_is
     (subst (λ (n : ℕ). Stands c n (segments_code gs ++ rest)) at h.1.1.1.1) k.1 (omega arith))

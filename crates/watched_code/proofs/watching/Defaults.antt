@@ -2,14 +2,14 @@
 use Rattle.watched_code.proofs.Words.{[], ◌*◌, ◌++◌, ◌+◌, ◌<◌, ◌^◌, ◌∙◌, ◌∷◌, ◌≡◌, ◌≢◌, ◌≤◌, ◌⊎◌, after_plain, ap}
 use Rattle.watched_code.proofs.Words.{arith, Bounded, bounded_none, bounded_on, bounded_one, Dec, default_code}
 use Rattle.watched_code.proofs.Words.{default_of, defaults_code, false, get_or, get_or-set_other, get_or-set_same}
-use Rattle.watched_code.proofs.Words.{inl, inr, Instr, InstructionGoesOn, LdabImmediate, length, length-set, List}
-use Rattle.watched_code.proofs.Words.{Live, nearest_byte, None, Option, option_map, Output, refl, set, Setting, Some}
-use Rattle.watched_code.proofs.Words.{StabExtended, Stands, State, subst, suc, sym, zero, ℕ, ⊎_elim}
+use Rattle.watched_code.proofs.Words.{inl, inr, Instr, LdabImmediate, length, length-set, List, Live, nearest_byte}
+use Rattle.watched_code.proofs.Words.{None, Option, option_map, Output, refl, set, Setting, Some, StabExtended}
+use Rattle.watched_code.proofs.Words.{Stands, State, subst, suc, sym, zero, ℕ, ⊎_elim}
 use Rattle.std.proofs.{Common.append_assoc}
 use Rattle.std.specs.{Prelude.slice_get}
 use Rattle.watched_code.specs.{Watched.default_or}
 use Rattle.cpu12_parts.proofs.{Algebra.bounded_more}
-use Rattle.watched_code.proofs.watching.Adding.{ldab, stab, Step}
+use Rattle.watched_code.proofs.watching.{Adding.Step, Laws.WatchingLaws}
 
 -- an output's default, where it has one
 abbrev pub default_byte : Output → Option ℕ
@@ -44,14 +44,14 @@ pub record Stored (c : Setting) (n : ℕ) (s : State) (mem : List ℕ) (rest : L
   pub behind : Stands c at rest
 
 -- a byte is stored
-pub stored : InstructionGoesOn → (c : Setting) (s : State) (p to byte : ℕ) (rest : List Instr) → Live c s
+pub stored : WatchingLaws → (c : Setting) (s : State) (p to byte : ℕ) (rest : List Instr) → Live c s
     → s.regs.pc ≡ p → Stands c p (LdabImmediate byte ∷ StabExtended to ∷ rest) → to < 0x1800
     → c.open_to to ≡ false → Stored c 2 s (set s.mem to byte) rest
-stored go c s p to byte rest l ep h low shown =
+stored laws c s p to byte rest l ep h low shown =
     let u = after_plain c.flags (LdabImmediate byte) s in
     let v = after_plain c.flags (StabExtended to) u in
-    let n = ldab go c s p byte l ep h.0 in
-    let k = stab go c u (p + 2) to n.live n.pc_is h.1.0 low shown in
+    let n = laws.straight c s p (LdabImmediate byte) l ep h.0 refl tt tt tt in
+    let k = laws.straight c u (p + 2) (StabExtended to) n.live n.pc_is h.1.0 refl tt (low, tt) (shown, tt) in
     record {
       t = v;
       goes = bounded_on (Step c) 1 0 1 0 s u v (bounded_one (Step c) 0 s u n.step) (bounded_one (Step c) 0 u v k.step);
@@ -63,10 +63,10 @@ stored go c s p to byte rest l ep h low shown =
       behind = h.1.1;
     }
 
-default_run : InstructionGoesOn → (c : Setting) (s : State) (p to : ℕ) (byte : Option ℕ) (rest : List Instr) → Live c s
+default_run : WatchingLaws → (c : Setting) (s : State) (p to : ℕ) (byte : Option ℕ) (rest : List Instr) → Live c s
     → s.regs.pc ≡ p → Stands c p (default_code to byte ++ rest) → to < 0x1800 → c.open_to to ≡ false
     → Stored c 2 s (defaulted s.mem to byte) rest
-default_run go c s p to None rest l ep h low shown =
+default_run laws c s p to None rest l ep h low shown =
     record {
       t = s;
       goes =
@@ -78,7 +78,7 @@ default_run go c s p to None rest l ep h low shown =
       mem_is = refl;
       behind = h;
     }
-default_run go c s p to (Some byte) rest l ep h low shown = stored go c s p to byte rest l ep h low shown
+default_run laws c s p to (Some byte) rest l ep h low shown = stored laws c s p to byte rest l ep h low shown
 
 stored_on : (c : Setting) (n m : ℕ) (s : State) (mem mem' : List ℕ) (next rest : List Instr)
     → (r : Stored c n s mem next) → Stored c m r.t mem' rest → Stored c (n + m) s mem' rest
@@ -93,11 +93,11 @@ stored_on c n m s mem mem' next rest r k = record {
   behind = k.behind;
 }
 
-pub defaults_run : InstructionGoesOn → (c : Setting) (s : State) (p to : ℕ) (os : List Output) (rest : List Instr)
+pub defaults_run : WatchingLaws → (c : Setting) (s : State) (p to : ℕ) (os : List Output) (rest : List Instr)
     → Live c s → s.regs.pc ≡ p → Stands c p (defaults_code to os ++ rest)
     → to + length os ≤ 0x1800 → ((k : ℕ) → to ≤ k → k < to + length os → c.open_to k ≡ false)
     → Stored c (2 * length os) s (all_defaulted s.mem to os) rest
-defaults_run go c s p to [] rest l ep h low shown =
+defaults_run laws c s p to [] rest l ep h low shown =
     record {
       t = s;
       goes = bounded_none (Step c) s;
@@ -109,13 +109,13 @@ defaults_run go c s p to [] rest l ep h low shown =
       mem_is = refl;
       behind = h;
     }
-defaults_run go c s p to (o ∷ os) rest l ep h low shown =
+defaults_run laws c s p to (o ∷ os) rest l ep h low shown =
     let more = defaults_code (to + 1) os ++ rest in
     let joined : Stands c p (default_code to (default_byte o) ++ more) =
     subst (Stands c p) (append_assoc (default_code to (default_byte o)) (defaults_code (to + 1) os) rest) h in
-    let r = default_run go c s p to (default_byte o) more l ep joined (omega arith)
+    let r = default_run laws c s p to (default_byte o) more l ep joined (omega arith)
     (shown to (omega arith) (omega arith)) in
-    let k = defaults_run go c r.t r.at (to + 1) os rest r.live r.pc_is r.behind (omega arith)
+    let k = defaults_run laws c r.t r.at (to + 1) os rest r.live r.pc_is r.behind (omega arith)
     (λ k lo hi. shown k (omega arith) (omega arith)) in
     let same : all_defaulted r.t.mem (to + 1) os ≡ all_defaulted s.mem to (o ∷ os) =
     ap (λ (m : List ℕ). all_defaulted m (to + 1) os) r.mem_is in

@@ -1,9 +1,10 @@
 -- What a firmware with watched tables rests on.
-use Rattle.watched_code.proofs.Words.{BlockGivesAtParts, FrameCallsAndLeaves, FreeBytesLeave, InstructionGoesOn}
-use Rattle.watched_code.proofs.Words.{InstructionsStand, NearestIsByte}
+use Rattle.watched_code.proofs.Words.{BlockGivesAtParts, FrameCallsAndLeaves, FreeBytesLeave, InstructionsStand}
+use Rattle.watched_code.proofs.Words.{NearestIsByte}
 use Rattle.eval_code.specs.{Placed.BlockHasParts}
 use Rattle.firmware_code.specs.{Calls.CalledEvalReturns, Standing.ImageHasFirmware, Frames.StartArrives}
-use Rattle.firmware_code.specs.Settings.{ReturnGoesOn, LiveIsInterruptible}
+use Rattle.firmware_code.specs.{Settings.ReturnGoesOn, Settings.LiveIsInterruptible}
+use Rattle.firmware_code.specs.{Settings.InstructionGoesOn, Settings.StraightInstructionGoesOn}
 use Rattle.cpu12_isa.specs.Fits.{StaysFit}
 use Rattle.eval_code.specs.Standing.{DecodesWhereItStands, CodeIsBytes}
 use Rattle.firmware_code.specs.Settings.{LiveIsIdle, GivenIsLive}
@@ -18,6 +19,7 @@ pub record WatchingLaws : Type 0 where
   pub at_parts : BlockGivesAtParts
   pub stand : InstructionsStand
   pub plain : InstructionGoesOn
+  pub straight : StraightInstructionGoesOn
   pub returns : ReturnGoesOn
   pub interruptible : LiveIsInterruptible
   pub idle : LiveIsIdle

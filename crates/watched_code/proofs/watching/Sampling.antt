@@ -3,11 +3,11 @@ use Rattle.watched_code.proofs.Words.{[], ◌%◌, ◌*◌, ◌++◌, ◌+◌, �
 use Rattle.watched_code.proofs.Words.{answer, ap, ap₂, AreInputBytes, arith, bad_code, Block, Bounded, bounded_on}
 use Rattle.watched_code.proofs.Words.{bounded_one, Byte, bytes_set_out, check_byte, Dec, default_of, defaults_code}
 use Rattle.watched_code.proofs.Words.{Execution, false, fault_at, get_or, get_or-set_other, get_or-set_same, HasBytes}
-use Rattle.watched_code.proofs.Words.{HasRoutine, Home, inl, inr, Instr, instruction_bound, InstructionGoesOn}
-use Rattle.watched_code.proofs.Words.{IsApart, IsValid, IsWithinLimits, LdabImmediate, length, length-append}
-use Rattle.watched_code.proofs.Words.{length-set, List, Live, MemoryMap, None, Option, Output, output_at, refl, Rts}
-use Rattle.watched_code.proofs.Words.{Segment, segment_bytes, set, Setting, Some, StabExtended, Stands, State}
-use Rattle.watched_code.proofs.Words.{steps_by, subst, sum_by, sum_by-cons, sym, true, ℕ}
+use Rattle.watched_code.proofs.Words.{HasRoutine, Home, inl, inr, Instr, instruction_bound, IsApart, IsValid}
+use Rattle.watched_code.proofs.Words.{IsWithinLimits, LdabImmediate, length, length-append, length-set, List, Live}
+use Rattle.watched_code.proofs.Words.{MemoryMap, None, Option, Output, output_at, refl, Rts, Segment, segment_bytes}
+use Rattle.watched_code.proofs.Words.{set, Setting, Some, StabExtended, Stands, State, steps_by, subst, sum_by}
+use Rattle.watched_code.proofs.Words.{sum_by-cons, sym, true, ℕ}
 use Rattle.std.proofs.{Common.◌/◌}
 use Rattle.cpu12_parts.specs.{Executions.all_steps}
 use Rattle.eval_code.specs.{Bounds.output_bound, Evaluation.HasAnswers}
@@ -190,7 +190,7 @@ ended_well : (c : Setting) (b : Block) (gs : List Segment) (most back : ℕ) (by
     → Ended c b most back (λ o. answer Byte b o bytes (before o)) 0 s
 ended_well c b gs most back bytes before s h routine i k fine =
     let f = h.front in
-    let p = passed h.laws.plain c s f.at f.bad (check_byte (segment_bytes gs)) f.to gs f.check k.live k.pc_is fine in
+    let p = passed h.laws c s f.at f.bad (check_byte (segment_bytes gs)) f.to gs f.check k.live k.pc_is fine in
     let r : Leads c (4 + count_in gs) s c.memory_map.eval (set s.mem fault_at 0) =
     record { t = p.t; goes = p.goes; live = p.live; pc_is = p.pc_is ∙ f.behind; sp_is = p.sp_is; mem_is = p.mem_is } in
     evaluated_by c b gs most back bytes before s h k.live.size r
@@ -200,10 +200,10 @@ ended_well c b gs most back bytes before s h routine i k fine =
 -- ---- they are not: BAD
 
 -- before the defaults
-marked : InstructionGoesOn → (c : Setting) (s : State) (bad : ℕ) (rest : List Instr) → c.open_to fault_at ≡ false
+marked : WatchingLaws → (c : Setting) (s : State) (bad : ℕ) (rest : List Instr) → c.open_to fault_at ≡ false
     → Live c s → s.regs.pc ≡ bad → Stands c bad (LdabImmediate 1 ∷ StabExtended fault_at ∷ rest)
     → Stored c 2 s (set s.mem fault_at 1) rest
-marked go c s bad rest shown l ep h = stored go c s bad fault_at 1 rest l ep h (omega arith) shown
+marked laws c s bad rest shown l ep h = stored laws c s bad fault_at 1 rest l ep h (omega arith) shown
 
 -- what memory holds behind them
 defaults_stand : (l : MemoryMap) (b : Block) (before : ℕ → ℕ) (m : List ℕ) → length b.outputs ≤ 4
@@ -281,11 +281,11 @@ ended_badly c b gs most back bytes before s h k wrong =
     let l = c.memory_map in
     let few = h.valid.few_outputs in
     let a1 = h.outputs_end in
-    let r = failed h.laws.plain c s f.at f.bad (check_byte (segment_bytes gs)) f.to gs f.check k.live k.pc_is wrong in
-    let m = marked h.laws.plain c r.t f.bad (defaults_code l.outputs b.outputs ++ Rts ∷ []) h.fault_shown r.live r.pc_is
+    let r = failed h.laws c s f.at f.bad (check_byte (segment_bytes gs)) f.to gs f.check k.live k.pc_is wrong in
+    let m = marked h.laws c r.t f.bad (defaults_code l.outputs b.outputs ++ Rts ∷ []) h.fault_shown r.live r.pc_is
     f.bad_stands in
     defaulted_by c b gs most f.at back bytes before s h k f.bad r m
-    (defaults_run h.laws.plain c m.t m.at l.outputs b.outputs (Rts ∷ []) m.live m.pc_is m.behind (omega arith)
+    (defaults_run h.laws c m.t m.at l.outputs b.outputs (Rts ∷ []) m.live m.pc_is m.behind (omega arith)
     (λ q lo hi. c.shut.writes q (inl (lo, omega arith))))
 
 -- ---- around both

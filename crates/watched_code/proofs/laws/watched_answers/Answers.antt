@@ -11,6 +11,7 @@ returns c = watched_answers record {
   at_parts = c.blocks_are_placed.ensures.at_parts;
   stand = c.instructions_go_on.ensures.stand;
   plain = c.instructions_go_on.ensures.plain;
+  straight = c.instructions_go_on.ensures.straight;
   returns = c.instructions_go_on.ensures.returns;
   interruptible = c.live_states_wait.ensures.interruptible;
   idle = c.live_states_wait.ensures.idle;
