@@ -9,7 +9,7 @@ use Rattle.eval_code.specs.{declared.memory_map.MemoryMap.MemoryMap, MemoryMaps.
 use Rattle.firmware_code.specs.{declared.firmware.Firmware.Firmware, Arrivals.LeavesMapped}
 use Rattle.firmware_runs.specs.Ports.{given}
 use Rattle.alone_runs.specs.{Forms.stand_alone, Forms.with_writes, OpenBytes.AreOpenAlike, OpenBytes.GivenLeavesOpen}
-pub use Rattle.alone_runs.proofs.OpenBytes.{sp_of, step_left}
+pub use Rattle.alone_runs.proofs.OpenBytes.{sp_of, step_left, written_parts}
 pub use Rattle.alone_runs.proofs.SampleBytes.{got}
 
 pub all_complete : {A B : Type 0} (P : State → Type 0) (flags : ℕ) (f : Firmware) (p : FormParts (List ℕ) A B)

@@ -2,7 +2,7 @@
 use Rattle.std.proofs.Common.{◌≡◌, ℕ, ◌+◌, ◌≤◌, ◌⊎◌, inl, inr, Bool, true, false, Ok, Result, List, [], ◌∷◌, ◌++◌}
 use Rattle.std.proofs.Common.{get_or, refl, ap, sym, ◌∙◌, subst, arith, nat_lt, nat_le}
 use Rattle.std.specs.Prelude.{min, ◌&&◌}
-use Rattle.std.proofs.lemmas.Bool.{or_parts}
+use Rattle.std.proofs.lemmas.Bool.{both_ways, or_parts}
 use Rattle.cpu12_isa.specs.declared.instr.Regs.{Regs}
 use Rattle.cpu12_isa.specs.{Act.outcome, Act.write_all, Agreement.IsWritten, Agreement.WritesStay, Memory.plus}
 use Rattle.cpu12_isa.specs.{Memory.placed, Regions.is_hidden, Regions.LeavesStack}
@@ -29,18 +29,15 @@ pub record OpenLaws : Type 0 where
   pub pushes_running : PushesRunning
   pub pushes_none : PushesNone
 
-both : (b : Bool) → b ≡ true → b ≡ false → ⊥
-both b t f = cc
-
 -- writes elsewhere
 kept : WritesStay → (open_to : ℕ → Bool) (ws : List (ℕ × ℕ)) (m : List ℕ)
     → ((at : ℕ) → IsWritten ws at → open_to at ≡ true → ⊥) → AreOpenAlike open_to m (write_all ws m)
 kept stay open_to ws m apart at is = (stay ws m).1 at (λ w. apart at w is)
 
-written_in : (a b : List (ℕ × ℕ)) (at : ℕ) → IsWritten (a ++ b) at → IsWritten a at ⊎ IsWritten b at
-written_in [] b at w = inr w
-written_in (x ∷ a) b at (inl e) = inl (inl e)
-written_in (x ∷ a) b at (inr w) = elim (written_in a b at w) [ inl h ↦ inl (inr h) | inr h ↦ inr h ]
+pub written_parts : (a b : List (ℕ × ℕ)) (at : ℕ) → IsWritten (a ++ b) at → IsWritten a at ⊎ IsWritten b at
+written_parts [] b at w = inr w
+written_parts (x ∷ a) b at (inl e) = inl (inl e)
+written_parts (x ∷ a) b at (inr w) = elim (written_parts a b at w) [ inl h ↦ inl (inr h) | inr h ↦ inr h ]
 
 -- a sample
 pub given_leaves_open : WritesStay → GivenLeavesOpen
@@ -48,11 +45,11 @@ given_leaves_open stay open_to l bytes w few end ready samples =
     kept stay open_to (placed l.samples bytes ++ (l.sample_flag, 1) ∷ []) w.mem apart
   where
     apart : (at : ℕ) → IsWritten (placed l.samples bytes ++ (l.sample_flag, 1) ∷ []) at → open_to at ≡ true → ⊥
-    apart at h is = elim (written_in (placed l.samples bytes) ((l.sample_flag, 1) ∷ []) at h) [
+    apart at h is = elim (written_parts (placed l.samples bytes) ((l.sample_flag, 1) ∷ []) at h) [
       | inl x ↦
           (let r = placed_in bytes l.samples at (omega arith) x in
-          both (open_to at) is (samples at r.0 (omega (arith, r.1))))
-      | inr x ↦ elim x [ inl e ↦ both (open_to at) is (ap open_to e ∙ ready) | inr none ↦ absurd none ]
+          both_ways (open_to at) (samples at r.0 (omega (arith, r.1))) is)
+      | inr x ↦ elim x [ inl e ↦ both_ways (open_to at) (ap open_to e ∙ ready) is | inr none ↦ absurd none ]
     ]
 
 -- SP under interrupts
@@ -116,7 +113,8 @@ step_left agrees wavr open_to flags w s k (inr l) =
     ∙ both.0
 
 open_not : (open_to : ℕ → Bool) (sp at : ℕ) → open_to at ≡ true → is_hidden open_to sp at ≡ false → ⊥
-open_not open_to sp at is h = both (open_to at) is (or_parts (open_to at) (nat_le 0x1FE0 at && nat_lt at sp) h).0
+open_not open_to sp at is h =
+    both_ways (open_to at) (or_parts (open_to at) (nat_le 0x1FE0 at && nat_lt at sp) h).0 is
 
 steps : OpenLaws → (open_to : ℕ → Bool) (flags : ℕ) (w s : State) → Facts open_to flags s
     → Simulates OnStackOrNone open_to w s

@@ -1,6 +1,6 @@
 -- The requests of a good plan are in order, and those of each sample are good.
-use Rattle.std.proofs.Common.{◌≡◌, ℕ, suc, ◌<◌, ◌≤◌, Bool, true, false, List, [], ◌∷◌, sym, ◌∙◌, subst, arith, refl}
-use Rattle.std.proofs.Common.{inl, inr, ◌⊎◌}
+use Rattle.std.proofs.Common.{◌≡◌, ℕ, suc, ◌<◌, ◌≤◌, List, [], ◌∷◌, sym, ◌∙◌, subst, arith, inl, inr, ◌⊎◌}
+use Rattle.std.proofs.lemmas.Bool.{cases_Bool}
 use Rattle.std.specs.Prelude.{All}
 use Rattle.interrupt_plan.specs.declared.Request.{Request}
 use Rattle.interrupt_plan.specs.Plans.{NotAfter, Ascends, IsGoodRequest, IsGood}
@@ -53,14 +53,10 @@ goes_good (a ∷ rest) h = (
   goes_from a rest (λ k d l. h.requests (suc k) d (omega arith)) h.ascends,
 )
 
-bool_cases : (b : Bool) → (b ≡ true) ⊎ (b ≡ false)
-bool_cases true = inl refl
-bool_cases false = inr refl
-
 -- the requests of one sample are good, and ascend
 requests_good : (k j m : ℕ) (plan : List Request) → Goes j m plan → AllGood IsGoodRequest (requests_of k plan)
 requests_good k j m [] h = tt
-requests_good k j m (q ∷ qs) h = elim (bool_cases (is_of place_of k q)) [
+requests_good k j m (q ∷ qs) h = elim (cases_Bool (is_of place_of k q)) [
   | inl e ↦ subst (λ (l : List Request). AllGood IsGoodRequest l) (sym (of_here place_of k q qs e))
       (h.2, requests_good k q.sample q.moment qs h.3)
   | inr e ↦ subst (λ (l : List Request). AllGood IsGoodRequest l) (sym (of_not place_of k q qs e))
@@ -70,7 +66,7 @@ requests_good k j m (q ∷ qs) h = elim (bool_cases (is_of place_of k q)) [
 requests_ascend : (k j m : ℕ) (plan : List Request) → Goes j m plan → (i : ℕ) → (j ≡ k → i ≤ m) → (j < k → i ≤ 0)
     → Ascend (λ (r : Request). r.moment) i (requests_of k plan)
 requests_ascend k j m [] h i e f = tt
-requests_ascend k j m (q ∷ qs) h i e f = elim (bool_cases (is_of place_of k q)) [
+requests_ascend k j m (q ∷ qs) h i e f = elim (cases_Bool (is_of place_of k q)) [
   | inl t ↦
       let here = one_is place_of k q t in
       let at : i ≤ q.moment = at_most here (one_of j q.sample h.0) in

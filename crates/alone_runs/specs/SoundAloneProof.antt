@@ -14,6 +14,7 @@ use Rattle.cpu12_emul.specs.Simulation.{AreOpen, OnStackOnly, Same}
 use Rattle.run_law.specs.Soundness.{Sound, WritesAreQuiet}
 use Rattle.interrupt_plan.specs.Plans.{IsGoodRequest}
 use Rattle.firmware_code.specs.{declared.firmware.Firmware.Firmware, Interruptible.is_idle}
+use Rattle.firmware_code.proofs.Algebra.{low_shown}
 use Rattle.byte_scaling.specs.declared.width.{Width.Width, Width.TheVariants.Byte, Width.TheVariants.Word}
 use Rattle.byte_scaling.specs.Widths.{places}
 use Rattle.firmware_runs.specs.Ports.{given, answer_at, answers_at, answers_in}
@@ -28,13 +29,6 @@ leaves_stack at h =
 -- the free bytes are as OpensFree says
 pub free_opens : OpensFree is_free
 free_opens = record { apart = leaves_stack; free = λ at h. h; low = λ at h. grind (arith, nat_tests) }
-
--- what is not open is shown below what is free
-pub low_shown : (open_to : ℕ → Bool) (sp at : ℕ) → open_to at ≡ false → at < free_start
-    → is_hidden open_to sp at ≡ false
-low_shown open_to sp at a h =
-    let b : (nat_le stack_start at && nat_lt at sp) ≡ false = grind (arith, nat_tests) in
-    rw (a, b)
 
 -- the bytes that are read from outside are not open
 pub record LeavesPorts (open_to : ℕ → Bool) (f : Firmware) : Type 0 where
