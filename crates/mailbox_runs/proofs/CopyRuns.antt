@@ -8,17 +8,17 @@ use Rattle.mailbox_runs.proofs.Words.{uninterrupted, uninterrupted_add, zero, �
 use Rattle.cpu12_emul.specs.{declared.ends.Stepped.Stepped}
 use Rattle.run_law.specs.{Uninterrupted.kind_at}
 use Rattle.run_law.specs.Uninterrupted.{first_open}
-use Rattle.mailbox_runs.proofs.{Passing.plain_next, TwoSteps.IsHere, TwoSteps.here_at}
+use Rattle.mailbox_runs.proofs.{TwoSteps.IsHere, TwoSteps.here_at}
 
 -- a plain step
 pub kind_plain : PlainStepLaws → (flags : ℕ) (i : Instr) (s t : State) → s.temps ≡ Free → IsPlainStep flags i s t
     → kind_at flags s ≡ Plain
-kind_plain laws flags i s t free p = ap kind_by (plain_next laws.plain_is_step flags i s t free p)
+kind_plain laws flags i s t free p = ap kind_by (laws.plain_is_one_step flags i s t free p)
 
 to_plain : PlainStepLaws → (flags : ℕ) (i : Instr) (s t : State) → s.temps ≡ Free → IsPlainStep flags i s t
     → stepped flags s ≡ t
 to_plain laws flags i s t free p =
-    ap (λ (o : Result Next ℕ). state_by s o) (plain_next laws.plain_is_step flags i s t free p)
+    ap (λ (o : Result Next ℕ). state_by s o) (laws.plain_is_one_step flags i s t free p)
 
 -- while I is 1
 masked_at : PlainStepLaws → (l : MemoryMap) (image : List ℕ) (flags : ℕ) (ds : List ℕ) (s t : State)

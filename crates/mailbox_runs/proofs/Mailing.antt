@@ -8,6 +8,7 @@ use Rattle.mailbox_runs.proofs.Words.{sym, true, Write, write_all, writes_from, 
 use Rattle.std.specs.{Prelude.All, Prelude.◌==◌}
 use Rattle.cpu12_isa.specs.{Registers.frame_bytes, Regions.LeavesStack}
 use Rattle.cpu12_emul.specs.{Take.pairs_of, Simulation.AreOpen}
+use Rattle.alone_runs.proofs.Algebra.{written_parts}
 
 -- ---- lists of writes
 
@@ -45,11 +46,6 @@ written_left (x ∷ a) b q (inr w) = inr (written_left a b q w)
 written_right : (a b : List (ℕ × ℕ)) (q : ℕ) → IsWritten b q → IsWritten (a ++ b) q
 written_right [] b q w = w
 written_right (x ∷ a) b q w = inr (written_right a b q w)
-
-written_parts : (a b : List (ℕ × ℕ)) (q : ℕ) → IsWritten (a ++ b) q → IsWritten a q ⊎ IsWritten b q
-written_parts [] b q w = inr w
-written_parts (x ∷ a) b q (inl e) = inl (inl e)
-written_parts (x ∷ a) b q (inr w) = elim (written_parts a b q w) [ inl h ↦ inl (inr h) | inr h ↦ inr h ]
 
 written_in : (at : ℕ) (bs : List ℕ) (q : ℕ) → at + length bs ≤ 65535 → IsWritten (pairs_of (writes_from at bs)) q
     → (at ≤ q) × (q < at + length bs)

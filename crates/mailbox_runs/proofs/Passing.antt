@@ -9,7 +9,6 @@ use Rattle.mailbox_runs.proofs.Words.{outcome, Plain, PlainStepLaws, Post, Ran, 
 use Rattle.mailbox_runs.proofs.Words.{six_from, State, step_act, subst, suc, sym, takes, Taking, TakingLaws, Temps}
 use Rattle.mailbox_runs.proofs.Words.{true, turn_form, TurnEnds, TurnForm, write_all, zero, ℕ}
 use Rattle.cpu12_isa.specs.{Act.read_by, Agreement.Uncovers}
-use Rattle.cpu12_emul.specs.{Simulation.PlainIsStep}
 use Rattle.run_law.specs.{Forms.ended}
 use Rattle.firmware_code.specs.Interruptible.{IsSteady, IsShownPlain}
 use Rattle.firmware_code.proofs.Algebra.{in_room}
@@ -20,12 +19,6 @@ use Rattle.mailbox_runs.proofs.Posting.{took_none}
 
 abbrev pub plainly : State → Result Next ℕ
 plainly u = Ok (record { state = u; kind = Plain })
-
-pub plain_next : PlainIsStep → (flags : ℕ) (i : Instr) (s t : State) → s.temps ≡ Free → IsPlainStep flags i s t
-    → next_of flags s ≡ plainly t
-plain_next law flags i s t free p =
-    ap (λ (o : Result Left ℕ). applied o s.mem) (law flags i s (inl free) p.decoded p.plain).0
-    ∙ ap plainly (sym p.after)
 
 -- a plain instruction that writes nothing does the same on memory that agrees where it reads
 pub quiet_plain : PlainStepLaws → (flags : ℕ) (hidden : ℕ → Bool) (i : Instr) (y t v : State) → y.temps ≡ Free
@@ -95,7 +88,7 @@ pub plain_follows : PlainStepLaws → (masked : Bool) (image : List ℕ) (flags 
     → IsShownPlain is_free flags i s t → Same is_free v s → Goes flags v t
 plain_follows laws masked image flags i s t v h k l =
     let both = laws.step_keeps is_free flags v s (inl l) (shown_plain laws masked image flags i s t h k) in
-    let there = sym both.uninterrupted ∙ plain_next laws.plain_is_step flags i s t h.temps k.step in
+    let there = sym both.uninterrupted ∙ laws.plain_is_one_step flags i s t h.temps k.step in
     let goal : both.goal ≡ record { state = t; kind = Plain } = cc in
     record {
       next = both.next.state;

@@ -6,6 +6,7 @@ use Rattle.mailbox_runs.proofs.Words.{image_memory, InstructionsAreSteps, is_wai
 use Rattle.mailbox_runs.proofs.Words.{MailboxRunsTurns, map, MemoryMap, nat_tests, Plain, PlainIsOneStep, refl}
 use Rattle.mailbox_runs.proofs.Words.{run_of_turns, samples_of, State, state_by, steps_by, steps_of, subst, suc, sym}
 use Rattle.mailbox_runs.proofs.Words.{true, Turn, uninterrupted, Width, zero, ℕ}
+use Rattle.std.proofs.Common.{replicate}
 use Rattle.cpu12_parts.specs.{Whole.PlainExecution}
 use Rattle.cpu12_emul.specs.{Step.reset_with}
 use Rattle.firmware_code.specs.Uninterrupted.{UninterruptedAreOne}
@@ -16,20 +17,16 @@ use Rattle.mailbox_runs.proofs.{Alone.IsAlone, Alone.alone, Looking.alike_self, 
 use Rattle.mailbox_runs.proofs.WholeTurns.{IsBusy, no_step, one_step, steps_on}
 use Rattle.mailbox_runs.proofs.TurnRuns.{all_run, sample_bytes}
 
-abbrev plain_parts : ℕ → List ℕ
-plain_parts zero = []
-plain_parts (suc n) = 0 ∷ plain_parts n
-
 execution_steps : PlainIsOneStep → (l : MemoryMap) (flags n : ℕ) (s t : State) → s.temps ≡ Free
     → PlainExecution flags l.wait n s t
-    → AreSteps (IsBusy l flags) flags (plain_parts n) s t
+    → AreSteps (IsBusy l flags) flags (replicate n 0) s t
 execution_steps law l flags zero s t free w = no_step (IsBusy l flags) flags s t w
 execution_steps law l flags (suc n) s t free w =
     let u = w.0 in
     let step = w.1.1.1 in
     let next = law flags w.1.1.0 s u free step in
     let kept : u.temps ≡ Free = ap (λ (v : State). v.temps) step.after ∙ free in
-    steps_on (IsBusy l flags) flags (0 ∷ []) (plain_parts n) s u t
+    steps_on (IsBusy l flags) flags (0 ∷ []) (replicate n 0) s u t
     (one_step (IsBusy l flags) flags s u
     (record { next = record { state = u; kind = Plain }; goes = next; away = w.1.0 }) next)
     (execution_steps law l flags n u t kept w.1.2)

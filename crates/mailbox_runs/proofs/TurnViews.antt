@@ -5,6 +5,7 @@ use Rattle.mailbox_runs.proofs.Words.{has_moment, inl, inr, is_inside, is_new, L
 use Rattle.mailbox_runs.proofs.Words.{None, not, Option, part_taken, plain_frame, Post, refl, resumed_of, Some, State}
 use Rattle.mailbox_runs.proofs.Words.{sym, taken_from, TakenAtFirstOpen, true, uninterrupted, up_to, ℕ}
 use Rattle.std.specs.{Prelude.◌==◌}
+use Rattle.std.proofs.{lemmas.Bool.both_ways}
 use Rattle.mailbox_runs.proofs.{LastOnes.split, CopyRuns.IsCopyRun, AnswerRuns.at_is, AnswerRuns.at_past}
 use Rattle.mailbox_runs.proofs.TakenLists.{Rise, frames_at, last_before, frames_behind, resumed_same, has_on}
 
@@ -141,10 +142,7 @@ module _ (opens : TakenAtFirstOpen) (flags n all g : ℕ) (u : State) (run : IsC
         late : (m : ℕ) → is_inside flags u m ≡ true → n + 5 < m
         late m inside = elim
             (cases_lt (n + 5) m)
-            [ inl past ↦ past | inr upto ↦ absurd (both (is_inside flags u m) inside (run.outside m upto)) ]
-          where
-            both : (b : Bool) → b ≡ true → b ≡ false → ⊥
-            both b t f = cc
+            [ inl past ↦ past | inr upto ↦ absurd (both_ways (is_inside flags u m) (run.outside m upto) inside) ]
 
         same : (m : ℕ) → m < all → n + 5 < m → has_moment (λ p. p.0 - g) m taken ≡ has_moment at m q2
         same m lt lo =

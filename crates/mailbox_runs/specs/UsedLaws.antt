@@ -5,6 +5,7 @@ use Rattle.cpu12_parts.specs.Inside.{PushesRunning, PushesNone}
 use Rattle.cpu12_emul.specs.Simulation.{FrameIsOnStack, PlainIsStep, StepAgrees, StepKeeps, TakesQuietly, WavrGoesOn}
 use Rattle.interrupt_plan.specs.declared.Post.{Post}
 use Rattle.run_law.specs.Moments.{TakenAtFirstOpen}
+use Rattle.run_forms.specs.Arrival.{PlainIsOneStep}
 use Rattle.mailbox_runs.specs.{Behind.FollowsBehind, Shifts.RunsCountOn}
 
 -- the writes of posts
@@ -25,6 +26,7 @@ pub record PlainStepLaws : Type 0 where
   pub step_agrees : StepAgrees
   pub step_keeps : StepKeeps
   pub plain_is_step : PlainIsStep
+  pub plain_is_one_step : PlainIsOneStep
 
 -- steps under posts
 pub record Stepping : Type 0 where

@@ -81,6 +81,7 @@ fn posting_laws()
     step_keeps();
     wavr_goes_on();
     plain_is_step();
+    plain_is_one_step();
 }
 
 /// After the copy a turn under posts follows the turn without interrupts, and the mailbox holds the sample that

@@ -13,8 +13,8 @@ returns c =
       steps = record {
         step_agrees = c.step_agrees.ensures;
         step_keeps = c.step_keeps.ensures;
-        plain_is_step =
-            c.plain_is_step.ensures;
+        plain_is_step = c.plain_is_step.ensures;
+        plain_is_one_step = c.plain_is_one_step.ensures;
       };
       taking = record {
         writing = writing;
