@@ -2,7 +2,7 @@
 use Rattle.std.proofs.Common.{◌≡◌, ◌≢◌, ℕ, ◌+◌, ◌*◌, ◌^◌, ◌<◌, ◌≤◌, ◌⊎◌, inl, inr, Bool, true, false, cond, Option}
 use Rattle.std.proofs.Common.{Some, None, List, [], ◌++◌, get_or, refl, ap, ap₂, sym, ◌∙◌, subst, arith, nat_cmp}
 use Rattle.std.specs.BTreeMap.{is_at}
-use Rattle.std.proofs.lemmas.Bool.{cases_lt}
+use Rattle.std.proofs.lemmas.Bool.{both_ways, cases_lt}
 use Rattle.std.proofs.lemmas.Bool.Decides.{nat_tests}
 use Rattle.std.proofs.lemmas.List.{get_or_past}
 use Rattle.cpu12_isa.specs.Agreement.{Agree}
@@ -15,7 +15,7 @@ use Rattle.firmware_code.specs.{declared.firmware.Firmware.Firmware, Arrivals.Le
 use Rattle.eval_code.specs.{MemoryMaps.main_map, Evaluation.Reads, Evaluation.Writes}
 use Rattle.alone_runs.specs.Answering.{FirstAlike}
 use Rattle.handled_runs.specs.{Open.is_open_to_code, Joint.joint_bytes, Joint.joint_memory}
-use Rattle.handled_runs.specs.SoundHandledProof.{not_open, both, code_open, in_code, HandlerStands}
+use Rattle.handled_runs.specs.SoundHandledProof.{not_open, code_open, in_code, HandlerStands}
 
 -- what is open leaves the memory map alone
 code_read : (at : ℕ) → Reads main_map at → is_open_to_code at ≡ false
@@ -75,7 +75,7 @@ none_shown handler at w shown = by (byte_at handler at) refl
   where
     by : (o : Option ℕ) → byte_at handler at ≡ o → byte_at handler at ≡ None
     by None e = e
-    by (Some v) e = let r = in_code handler at v w e in absurd (both (is_open_to_code at) (code_open at r.0 r.1) shown)
+    by (Some v) e = let r = in_code handler at v w e in absurd (both_ways (is_open_to_code at) shown (code_open at r.0 r.1))
 
 not_vector : (at : ℕ) → is_open_to_code at ≡ false → (65522 ≢ at) × (65523 ≢ at)
 not_vector at shown = (λ e. first e, λ e. second e)

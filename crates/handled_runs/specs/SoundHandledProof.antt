@@ -1,15 +1,15 @@
 -- A firmware whose interrupts run an accepted handler is a sound form. The proof stands here, where an impl can cite
 -- it.
 -- Beside the promise.
-use Rattle.std.proofs.Common.{◌≡◌, ℕ, suc, ◌+◌, ◌<◌, ◌≤◌, ◌⊎◌, inl, inr, Bool, true, false, Some, List, [], ◌∷◌}
+use Rattle.std.proofs.Common.{◌≡◌, ℕ, suc, ◌+◌, ◌<◌, ◌≤◌, ◌⊎◌, inl, inr, true, false, Some, List, [], ◌∷◌}
 use Rattle.std.proofs.Common.{get_or, refl, ap, sym, ◌∙◌, subst, arith, nat_lt, nat_le}
 use Rattle.std.specs.Prelude.{All, ◌&&◌, ◌||◌}
 use Rattle.std.specs.Option.{is_some}
-use Rattle.std.proofs.lemmas.Bool.{or_parts, cases_lt}
+use Rattle.std.proofs.lemmas.Bool.{both_ways, or_parts, cases_lt}
 use Rattle.std.proofs.lemmas.Bool.Decides.{nat_tests}
 use Rattle.std.proofs.lemmas.List.Elements.{All-cons}
 use Rattle.cpu12_isa.specs.declared.{instr.Regs.Regs, instr.Write.Write}
-use Rattle.cpu12_isa.specs.Regions.{is_free, is_hidden, vector, is_vector, LeavesStack}
+use Rattle.cpu12_isa.specs.Regions.{is_free, is_hidden, stack_end, vector, is_vector, LeavesStack}
 use Rattle.cpu12_isa.specs.{Agreement.Agree, Agreement.WritesAgree, Fits.FitsRegs, Memory.word_of}
 use Rattle.cpu12_asm.specs.Bytes.{byte_at}
 use Rattle.cpu12_parts.specs.{State.State, Parts.suspended, Parts.wav}
@@ -19,7 +19,8 @@ use Rattle.run_law.specs.Soundness.{Begins, Quiet, Sound, SumsFitBelow, WritesAr
 use Rattle.handler_check.specs.Images.{IsWhole, IsHandler}
 use Rattle.handler_check.specs.Running.{HasImage, CanBegin, IsQuietCode, HandlersAreQuiet}
 use Rattle.interrupt_plan.specs.{declared.Request.Request, Plans.IsGoodRequest}
-use Rattle.firmware_code.specs.{declared.firmware.Firmware.Firmware, Interruptible.IsStackOfOneCall}
+use Rattle.firmware_code.specs.{declared.firmware.Firmware.Firmware}
+use Rattle.firmware_code.proofs.Algebra.{sp_near}
 use Rattle.firmware_runs.specs.Facts.{FactsBeside}
 use Rattle.alone_runs.specs.Following.{IsLow, OpensFree}
 use Rattle.alone_runs.specs.OpenBytes.{AreOpenAlike, StepsLeaveOpen}
@@ -58,17 +59,14 @@ not_open at (inr (inl h)) = let lo = h.0 in let hi = h.1 in grind (arith, nat_te
 not_open at (inr (inr (inl h))) = let lo = h.0 in let hi = h.1 in grind (arith, nat_tests)
 not_open at (inr (inr (inr h))) = grind (arith, nat_tests)
 
-pub both : (b : Bool) → b ≡ true → b ≡ false → ⊥
-both b t f = cc
-
 pub opens_free : OpensFree is_open_to_code
 opens_free = record { apart = leaves; free = λ at h. rw h refl; low = λ at h. not_open at (inl h) }
   where
     leaves : LeavesStack is_open_to_code
     leaves at h = elim (cases_lt at 0x1FE0) [
       | inl below ↦ inl below
-      | inr from ↦ elim (cases_lt at 0x2000) [
-        | inl inside ↦ absurd (both (is_open_to_code at) h (not_open at (inr (inl (from, omega arith)))))
+      | inr from ↦ elim (cases_lt at stack_end) [
+        | inl inside ↦ absurd (both_ways (is_open_to_code at) (not_open at (inr (inl (from, omega arith)))) h)
         | inr above ↦ inr above
       ]
     ]
@@ -112,11 +110,6 @@ stands image most done w u whole alike h = record {
   back = h.back;
 }
 
--- SP under interrupts
-sp_near : (sp : ℕ) → IsStackOfOneCall sp → (0x1FFE ≤ sp) × (sp ≤ 0x2000)
-sp_near sp (inl e) = (omega arith, omega arith)
-sp_near sp (inr e) = (omega arith, omega arith)
-
 -- an interrupt
 all_open : (ws : List Write) → All (λ (w : Write). is_free w.at ≡ true) ws → AreOpen is_free ws
 all_open [] g = tt
@@ -131,7 +124,7 @@ more_hidden sp m n a = record { size = a.size; bytes = λ at h. a.bytes at (less
         let f = or_parts (is_free at) (is_code at || is_vector at) p.0 in
         rw (f.0, p.1) refl
 
-shown_high : (sp at : ℕ) → sp ≤ 0x2000 → 0x4000 ≤ at → is_hidden is_free sp at ≡ false
+shown_high : (sp at : ℕ) → sp ≤ stack_end → 0x4000 ≤ at → is_hidden is_free sp at ≡ false
 shown_high sp at l h =
     let a : is_free at ≡ false = grind (arith, nat_tests) in
     let b : (nat_le 0x1FE0 at && nat_lt at sp) ≡ false = grind (arith, nat_tests) in
@@ -151,7 +144,7 @@ can_begin sums_fit_below flags f v s p begins =
       size = begins.mem.size ∙ room.size;
       fits = subst (λ (r : Regs). FitsRegs r) (sym begins.regs) below.fits;
       low = subst (λ (r : Regs). 0x1FF8 ≤ r.sp) (sym begins.regs) (omega (arith, below.low, near.0));
-      high = subst (λ (r : Regs). r.sp ≤ 0x2000) (sym begins.regs) (omega (arith, below.high, near.1));
+      high = subst (λ (r : Regs). r.sp ≤ stack_end) (sym begins.regs) (omega (arith, below.high, near.1));
     }
 
 serves : (x : Handled) (done : List (Request × HandlerEnd)) (a : Request) (v s : State) → IsGoodRequest a
