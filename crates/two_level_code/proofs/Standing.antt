@@ -1,10 +1,10 @@
 -- Memory from the image of both blocks, beside that of the slow firmware alone.
-use Rattle.std.proofs.Common.{◌≡◌, ◌⊎◌, inl, inr, ℕ, ◌+◌, ◌-◌, ◌*◌, ◌^◌, ◌<◌, ◌≤◌, nat_lt, nat_le, ◌&&◌, ◌||◌, Bool}
+use Rattle.std.proofs.Common.{◌≡◌, ◌⊎◌, inl, inr, ℕ, ◌+◌, ◌-◌, ◌*◌, ◌^◌, ◌<◌, ◌≤◌, nat_lt, nat_le, ◌&&◌, ◌||◌}
 use Rattle.std.proofs.Common.{true, false, List, [], ◌∷◌, ◌++◌, All, get_or, Option, None, refl, sym, ap, ap₂, ◌∙◌}
 use Rattle.std.proofs.Common.{subst, arith, nat_cmp}
 use Rattle.std.specs.BTreeMap.{is_at}
 use Rattle.std.specs.List.{list_all}
-use Rattle.std.proofs.lemmas.Bool.{cases_lt, and_parts, or_parts, ltb-true}
+use Rattle.std.proofs.lemmas.Bool.{both_ways, cases_lt, and_parts, or_parts, ltb-true}
 use Rattle.std.proofs.lemmas.Bool.Decides.{nat_tests}
 use Rattle.std.proofs.lemmas.List.{get_or_past}
 use Rattle.std.proofs.lemmas.List.Elements.{All-nil, All-cons, All-append}
@@ -56,25 +56,25 @@ high at from to = grind (arith, nat_tests)
 top : (at : ℕ) → vector + 2 ≤ at → is_open_to_fast at ≡ false
 top at from = grind (arith, nat_tests)
 
-not_read : (at : ℕ) → Reads main_map at → is_open_to_fast at ≡ false
-not_read at (inl o) = low at (omega (arith, o.1))
-not_read at (inr (inl o)) = low at (omega (arith, o.1))
-not_read at (inr (inr (inl o))) = high at (omega (arith, o.0)) (omega (arith, o.1))
-not_read at (inr (inr (inr (inl o)))) = high at (omega (arith, o.0)) (omega (arith, o.1))
-not_read at (inr (inr (inr (inr (inl o))))) = high at (omega (arith, o.0)) (omega (arith, o.1))
-not_read at (inr (inr (inr (inr (inr (inl o)))))) = high at (omega (arith, o.0)) (omega (arith, o.1))
-not_read at (inr (inr (inr (inr (inr (inr o)))))) = absurd o
+reads_not_open : (at : ℕ) → Reads main_map at → is_open_to_fast at ≡ false
+reads_not_open at (inl o) = low at (omega (arith, o.1))
+reads_not_open at (inr (inl o)) = low at (omega (arith, o.1))
+reads_not_open at (inr (inr (inl o))) = high at (omega (arith, o.0)) (omega (arith, o.1))
+reads_not_open at (inr (inr (inr (inl o)))) = high at (omega (arith, o.0)) (omega (arith, o.1))
+reads_not_open at (inr (inr (inr (inr (inl o))))) = high at (omega (arith, o.0)) (omega (arith, o.1))
+reads_not_open at (inr (inr (inr (inr (inr (inl o)))))) = high at (omega (arith, o.0)) (omega (arith, o.1))
+reads_not_open at (inr (inr (inr (inr (inr (inr o)))))) = absurd o
 
-not_written : (at : ℕ) → Writes main_map at → is_open_to_fast at ≡ false
-not_written at (inl o) = low at (omega (arith, o.1))
-not_written at (inr (inl o)) = low at (omega (arith, o.1))
-not_written at (inr (inr o)) = absurd o
+writes_not_open : (at : ℕ) → Writes main_map at → is_open_to_fast at ≡ false
+writes_not_open at (inl o) = low at (omega (arith, o.1))
+writes_not_open at (inr (inl o)) = low at (omega (arith, o.1))
+writes_not_open at (inr (inr o)) = absurd o
 
 main_left : LeavesMapped is_open_to_fast main_map
 main_left = record {
   ready = refl;
-  reads = not_read;
-  writes = not_written;
+  reads = reads_not_open;
+  writes = writes_not_open;
   stack = λ at from to. between at from (omega arith);
   code = λ at from to. high at (omega arith) (omega arith);
   reset = λ at from to. top at (omega arith);
@@ -234,15 +234,12 @@ no_outputs laws slow fast two h is o lo hi =
     (zero_low laws slow fast two (0x1410 + 1 * (o - 1)) h is (omega arith), tt)
 
 -- and elsewhere memory is as the slow firmware's alone
-both : (b : Bool) → b ≡ true → b ≡ false → ⊥
-both b t f = cc
-
 apart : (lo hi at : ℕ) → (nat_le lo at && nat_lt at hi) ≡ false → (at < lo) ⊎ (hi ≤ at)
 apart lo hi at h = elim (cases_lt at lo) [
   | inl below ↦ inl below
   | inr from ↦ elim (cases_lt at hi) [
     | inl inside ↦ (let t : (nat_le lo at && nat_lt at hi) ≡ true = grind (arith, nat_tests) in
-        absurd (both (nat_le lo at && nat_lt at hi) t h))
+        absurd (both_ways (nat_le lo at && nat_lt at hi) h t))
     | inr above ↦ inr above
   ]
 ]
