@@ -1,15 +1,15 @@
 -- Whole instructions of the fast code are stretches of its steps.
-use Rattle.two_level_runs.proofs.Words.{[], act_of, addresses, all_steps, ap, arith, Bool, Each, effect, false}
-use Rattle.two_level_runs.proofs.Words.{fast_code, fast_map, has, HasFastRom, inl, inr, interrupts_masked, is_foreign}
-use Rattle.two_level_runs.proofs.Words.{is_hidden, is_kept, is_open_inside, IsFastStack, IsFastState, IsIn, IsInFast}
-use Rattle.two_level_runs.proofs.Words.{IsInstructionOver, joined, length, List, read_by, Reads, refl, six_from}
-use Rattle.two_level_runs.proofs.Words.{State, Stretch, subst, suc, sym, true, uninterrupted, Writes, ℕ, ◌+◌, ◌<◌}
-use Rattle.two_level_runs.proofs.Words.{◌^◌, ◌∙◌, ◌∷◌, ◌≡◌, ◌≤◌}
+use Rattle.two_level_runs.proofs.Words.{[], act_of, addresses, all_steps, ap, arith, Bool, both_ways, Each, effect}
+use Rattle.two_level_runs.proofs.Words.{false, fast_code, fast_map, has, HasFastRom, inl, inr, interrupts_masked}
+use Rattle.two_level_runs.proofs.Words.{is_foreign, is_hidden, is_kept, is_open_inside, IsFastStack, IsFastState}
+use Rattle.two_level_runs.proofs.Words.{IsIn, IsInFast, IsInstructionOver, joined, length, List, read_by, Reads, refl}
+use Rattle.two_level_runs.proofs.Words.{six_from, State, Stretch, subst, suc, sym, true, uninterrupted, Writes, ℕ}
+use Rattle.two_level_runs.proofs.Words.{◌+◌, ◌<◌, ◌^◌, ◌∙◌, ◌∷◌, ◌≡◌, ◌≤◌}
 use Rattle.cpu12_parts.specs.Averages.{wav_read}
 use Rattle.cpu12_parts.specs.Rules.{rev_operands, revw_operands, rules_read, rules_written}
 use Rattle.firmware_runs.specs.Within.{InstructionStaysWithin, IsReached, IsWithin}
 use Rattle.run_law.proofs.Algebra.{no_stretch}
-use Rattle.two_level_runs.proofs.Owned.{code_own, own_shown, read_own, rom_kept, write_own, both}
+use Rattle.two_level_runs.proofs.Owned.{code_own, own_shown, read_own, rom_kept, write_own}
 use Rattle.eval_code.specs.Evaluation.{eval_frame}
 use Rattle.eval_code.specs.Frames.{FramesLeave, IsLeft, IsRunIn, IsStepIn}
 use Rattle.eval_code.proofs.Algebra.{each_more}
@@ -109,7 +109,7 @@ instruction_at law image masked flags sp d s t hf h e mask over rises =
 pub rom_left : (image : List ℕ) (s t : State) → IsLeft (eval_frame fast_map) s t → HasFastRom image s.mem
     → HasFastRom image t.mem
 rom_left image s t left rom at lo hi =
-    left.bytes at (λ w. both (is_kept at) (rom_kept at (omega arith)) (write_own at w)) ∙ rom at lo hi
+    left.bytes at (λ w. both_ways (is_kept at) (write_own at w) (rom_kept at (omega arith))) ∙ rom at lo hi
 
 -- its instructions
 pub instructions_at : InstructionStaysWithin → FramesLeave → (image : List ℕ) (flags sp : ℕ) (ds : List ℕ) (s t : State)

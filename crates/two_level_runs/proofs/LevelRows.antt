@@ -1,11 +1,11 @@
 -- What rows under levels are to be.
 use Rattle.two_level_runs.proofs.Words.{[], ◌<◌, ◌∙◌, ◌∷◌, ◌≡◌, ◌≤◌, ◌⊎◌, All, All-cons, AllComplete, ap, ap₂}
-use Rattle.two_level_runs.proofs.Words.{AreOnStack, arith, Before, Bool, Completes, counted, FactsBeside, false}
-use Rattle.two_level_runs.proofs.Words.{frames_of, FrameSeen, given, inl, inr, is_open_to_fast}
-use Rattle.two_level_runs.proofs.Words.{Level, two_level_form, levels_of, List, map, may_interrupt, None, not, plan_of}
-use Rattle.two_level_runs.proofs.Words.{refl, Request, request_of, requests_of, resumed_of, rows_of_samples, RowSeen}
-use Rattle.two_level_runs.proofs.Words.{State, subst, suc, sym, taken_at, taken_before, taken_by, TakenAtOnce, true}
-use Rattle.two_level_runs.proofs.Words.{Two, uninterrupted, with_writes, ℕ, cases_lt, length, OnStackOrNone}
+use Rattle.two_level_runs.proofs.Words.{AreOnStack, arith, Before, both_ways, Completes, counted, FactsBeside, false}
+use Rattle.two_level_runs.proofs.Words.{frames_of, FrameSeen, given, inl, inr, is_open_to_fast, Level, two_level_form}
+use Rattle.two_level_runs.proofs.Words.{levels_of, List, map, may_interrupt, None, not, plan_of, refl, Request}
+use Rattle.two_level_runs.proofs.Words.{request_of, requests_of, resumed_of, rows_of_samples, RowSeen, State, subst}
+use Rattle.two_level_runs.proofs.Words.{suc, sym, taken_at, taken_before, taken_by, TakenAtOnce, true, Two}
+use Rattle.two_level_runs.proofs.Words.{uninterrupted, with_writes, ℕ, cases_lt, length, OnStackOrNone}
 use Rattle.run_law.specs.Following.{expected_rows, expected_taken, RowsSimulate}
 use Rattle.alone_runs.specs.Following.{AllWait}
 use Rattle.firmware_runs.specs.{Facts.WaitsAlone, Ports.answers_in}
@@ -23,15 +23,12 @@ one_number : (P Q : State → Type 0) (flags : ℕ) (f : Firmware) (m n : ℕ) (
     → Completes P (with_writes flags f) 0 m m s → Completes Q (with_writes flags f) 0 n n s → m ≡ n
 one_number P Q flags f m n s a b = by (order m n)
   where
-    both : (t : Bool) → t ≡ true → t ≡ false → ⊥
-    both t h k = cc
-
     order : (m n : ℕ) → (suc m ≤ n) ⊎ ((suc n ≤ m) ⊎ (m ≡ n))
     order m n = grind arith
 
     by : (suc m ≤ n) ⊎ ((suc n ≤ m) ⊎ (m ≡ n)) → m ≡ n
-    by (inl l) = absurd (both _ a.ended (b.on m (omega arith) l))
-    by (inr (inl l)) = absurd (both _ b.ended (a.on n (omega arith) l))
+    by (inl l) = absurd (both_ways _ (b.on m (omega arith) l) a.ended)
+    by (inr (inl l)) = absurd (both_ways _ (a.on n (omega arith) l) b.ended)
     by (inr (inr e)) = e
 
 pub same_numbers : (P Q : State → Type 0) (flags : ℕ) (f : Firmware) (ms ns : List ℕ) (samples : List (List ℕ))

@@ -1,14 +1,13 @@
 -- A level's interrupt is quiet, and the fast code and its answers stand after it.
-use Rattle.two_level_runs.proofs.Words.{[], ◌-◌, ◌<◌, ◌^◌, ◌∙◌, ◌∷◌, ◌≡◌, ◌≤◌, ◌⊎◌, Agree, All, All-cons}
-use Rattle.two_level_runs.proofs.Words.{ap, ap₂, AreInputBytes, AreSlow, arith, Ascend, Begins}
-use Rattle.two_level_runs.proofs.Words.{below_sums, Block, bytes_of, CanEnter, counted, entered, FactsBeside, false}
-use Rattle.two_level_runs.proofs.Words.{fast_most, fast_run, FastRunsFollow, FastSeen, FastStands, FollowsInside}
-use Rattle.two_level_runs.proofs.Words.{framed, Free, HasFastCode, HasRoom, image_memory, inl, inr, is_fast_ram}
-use Rattle.two_level_runs.proofs.Words.{is_hidden, is_open_inside, is_open_to_fast, IsGoodLevel, IsQuietRun}
-use Rattle.two_level_runs.proofs.Words.{IsReadOff, IsServable, IsTold, LeavesStack, length, Level}
-use Rattle.two_level_runs.proofs.Words.{List, nat_tests, None, OnStack, OnStackOrNone, Option, OuterEnters}
-use Rattle.two_level_runs.proofs.Words.{OuterIsQuiet, OuterIsServable, OuterServes, outputs_after, Quiet, Ran, refl}
-use Rattle.two_level_runs.proofs.Words.{Regs, Running, RunsFast, sample_of, seen_of, served_by, slice_get, Some}
+use Rattle.two_level_runs.proofs.Words.{[], ◌-◌, ◌<◌, ◌^◌, ◌∙◌, ◌∷◌, ◌≡◌, ◌≤◌, ◌⊎◌, Agree, All, All-cons, ap, ap₂}
+use Rattle.two_level_runs.proofs.Words.{AreInputBytes, arith, Ascend, Begins, below_sums, Block, bytes_of, CanEnter}
+use Rattle.two_level_runs.proofs.Words.{counted, entered, FactsBeside, false, fast_most, fast_run, FastRunsFollow}
+use Rattle.two_level_runs.proofs.Words.{FastSeen, FastStands, FollowsInside, framed, HasFastCode, HasRoom}
+use Rattle.two_level_runs.proofs.Words.{image_memory, inl, inr, is_fast_ram, is_hidden, is_open_inside}
+use Rattle.two_level_runs.proofs.Words.{is_open_to_fast, IsGoodLevel, IsQuietRun, IsReadOff, IsServable, IsTold}
+use Rattle.two_level_runs.proofs.Words.{LeavesStack, length, Level, List, nat_tests, None, OnStackOrNone, Option}
+use Rattle.two_level_runs.proofs.Words.{OuterEnters, OuterIsQuiet, OuterIsServable, OuterServes, outputs_after, Quiet}
+use Rattle.two_level_runs.proofs.Words.{Ran, refl, Regs, RunsFast, sample_of, seen_of, served_by, slice_get, Some}
 use Rattle.two_level_runs.proofs.Words.{State, subst, suc, sym, Temps, told_by, true, Two, word_of, zero, ℕ}
 use Rattle.firmware_code.specs.Interruptible.{IsStackOfOneCall}
 use Rattle.std.specs.{Prelude.slice_index_or}
@@ -16,7 +15,6 @@ use Rattle.fuzzy_meaning.specs.{Blocks.IsValid}
 use Rattle.cpu12_emul.specs.{Simulation.TakesQuietly}
 use Rattle.run_law.specs.{Soundness.FitBelow}
 use Rattle.two_level_code.specs.{Images.IsFastOf, Images.IsTwoOf}
-use Rattle.firmware_runs.specs.{Facts.AreNoneOrRunning}
 use Rattle.alone_runs.specs.{OpenBytes.StepsLeaveOpen, OpenBytes.GivenLeavesOpen}
 use Rattle.two_level_runs.specs.{Runs.Outer, Runs.served, Runs.told, Rows.outer_of}
 use Rattle.std.specs.List.Sorted.{IsNonDecreasing}
@@ -282,11 +280,6 @@ inner_ascends ms rise = go ms 0 (λ l. omega arith) rise
           (λ i j d le lt. rise (suc i) (suc j) d (omega arith) (omega arith)),
     )
 
-slow_sums : (t : Temps) → AreNoneOrRunning t → AreSlow t
-slow_sums Free h = tt
-slow_sums OnStack h = absurd h
-slow_sums (Running p w) h = tt
-
 -- what a level leaves, with so many outputs and this sample
 abbrev AfterLevel : (x : Given) → List (Level × Option FastSeen) → Level → State → State → ℕ → Option (List ℕ) → Type 0
 AfterLevel x done l v s n sample =
@@ -319,7 +312,7 @@ serves x done l v s good h =
         l.inner.items sample v) v s
     quiet sample good_sample =
         (let laws = x.laws in
-        let slow = (let p = h.facts in let facts = p.facts in slow_sums s.temps facts.sums) in
+        let slow = (let p = h.facts in let facts = p.facts in facts.sums) in
         laws.serves x.fast (image_memory x.two.image.bytes) x.flags (most_of x) (outputs_after x.fast x.samples done)
         (outer sample) v s
         x.flags_fit (few_inputs x) (few_outputs x) (can_enter x done v s h) good_sample ascend

@@ -1,8 +1,8 @@
 -- What the fast code reads and writes is its block's own.
-use Rattle.two_level_runs.proofs.Words.{◌&&◌, ◌+◌, ◌<◌, ◌≡◌, ◌≤◌, arith, Bool, Each, false, fast_code, fast_map, from}
-use Rattle.two_level_runs.proofs.Words.{inl, inr, is_fast_ram, is_fast_rom, is_foreign, is_hidden, is_kept}
-use Rattle.two_level_runs.proofs.Words.{is_open_inside, IsIn, nat_le, nat_lt, nat_tests, plus, Reads, refl, suc, true}
-use Rattle.two_level_runs.proofs.Words.{Writes, zero, ℕ}
+use Rattle.two_level_runs.proofs.Words.{◌&&◌, ◌+◌, ◌<◌, ◌≡◌, ◌≤◌, arith, Each, false, fast_code, fast_map, from, inl}
+use Rattle.two_level_runs.proofs.Words.{inr, is_fast_ram, is_fast_rom, is_foreign, is_hidden, is_kept, is_open_inside}
+use Rattle.two_level_runs.proofs.Words.{IsIn, nat_le, nat_lt, nat_tests, plus, Reads, refl, suc, true, Writes, zero}
+use Rattle.two_level_runs.proofs.Words.{ℕ}
 
 -- a byte of the RAM, of the ROM, and of the frame
 pub ram_own : (sp at : ℕ) → 0x1400 ≤ at → at < 0x162C → is_foreign sp at ≡ false
@@ -54,9 +54,6 @@ frame_shown (suc n) sp at lo hi end low = (
 -- what is not foreign is shown to inner requests
 pub own_shown : (sp at : ℕ) → sp ≤ 0x2000 → is_foreign sp at ≡ false → is_hidden is_open_inside sp at ≡ false
 own_shown sp at le h = grind (arith, nat_tests)
-
-pub both : (b : Bool) → b ≡ true → b ≡ false → ⊥
-both b t f = cc
 
 pub rom_kept : (at : ℕ) → 0x4000 ≤ at → is_kept at ≡ true
 rom_kept at lo = let a : is_fast_ram at ≡ false = grind (arith, nat_tests) in rw a refl

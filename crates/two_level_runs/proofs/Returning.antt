@@ -1,14 +1,14 @@
 -- The fast code as steps, up to behind its return.
 use Rattle.two_level_runs.proofs.Words.{◌+◌, ◌<◌, ◌^◌, ◌∙◌, ◌∷◌, ◌≡◌, ◌≤◌, all_steps, ap, ap₂, arith, Before, Block}
-use Rattle.two_level_runs.proofs.Words.{Bool, bytes_at, counted, decode_at, Each, false, fast_map, FastStepsReturn}
-use Rattle.two_level_runs.proofs.Words.{from, has, inl, inr, interrupts_masked, is_foreign, is_kept, IsFastRun}
-use Rattle.two_level_runs.proofs.Words.{IsInFast, joined, length, List, not, Ok, plus, refl, slice_index, State}
-use Rattle.two_level_runs.proofs.Words.{stepped, Stretch, subst, suc, sym, true, uninterrupted, zero, ℕ}
+use Rattle.two_level_runs.proofs.Words.{Bool, both_ways, bytes_at, counted, decode_at, Each, false, fast_map}
+use Rattle.two_level_runs.proofs.Words.{FastStepsReturn, from, has, inl, inr, interrupts_masked, is_foreign, is_kept}
+use Rattle.two_level_runs.proofs.Words.{IsFastRun, IsInFast, joined, length, List, not, Ok, plus, refl, slice_index}
+use Rattle.two_level_runs.proofs.Words.{State, stepped, Stretch, subst, suc, sym, true, uninterrupted, zero, ℕ}
 use Rattle.cpu12_isa.specs.{declared.instr.Instr.TheVariants.Andcc, declared.instr.Instr.TheVariants.Rti}
 use Rattle.cpu12_parts.specs.{Whole.after_plain}
 use Rattle.two_level_runs.specs.{Steps.IsOpenState}
 use Rattle.firmware_runs.specs.Within.{InstructionStaysWithin}
-use Rattle.two_level_runs.proofs.Owned.{frame_shown, stack_kept, both, write_own}
+use Rattle.two_level_runs.proofs.Owned.{frame_shown, stack_kept, write_own}
 use Rattle.two_level_runs.proofs.Pulling.{pulled_same}
 use Rattle.two_level_runs.proofs.Instructions.{Kept, instruction_at, instructions_at}
 use Rattle.eval_code.specs.Evaluation.{eval_frame, IsEvaluated}
@@ -84,7 +84,7 @@ run_of b image flags bytes before s u entered decoded e left first body last =
     (let q : further ≡ suc (all_steps ds) = omega arith in ap (λ (n : ℕ). uninterrupted flags n s) q)
     ∙ ap (uninterrupted flags (all_steps ds)) there ∙ body.goes in
     let kept_at : (at : ℕ) → is_kept at ≡ true → slice_index t.mem at ≡ slice_index s.mem at =
-    λ at k. left.bytes at (λ w. both (is_kept at) k (write_own at w)) in
+    λ at k. left.bytes at (λ w. both_ways (is_kept at) (write_own at w) k) in
     let counts : counted flags (suc further) s ≡ suc (length ds + 1) =
     (let c = first.counts in let k = ap (counted flags further) there in omega (arith, c, k, tail.counts)) in
     let x_left : has v.regs.ccr 6 ≡ has s.regs.ccr 6 = bit_and_is s.regs.ccr.0 239 6 in

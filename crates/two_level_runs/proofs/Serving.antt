@@ -1,11 +1,12 @@
 -- An outer request is quiet.
-use Rattle.two_level_runs.proofs.Words.{[], ◌&&◌, ◌<◌, ◌∙◌, ◌≡◌, ◌≤◌, Agree, AreSlow, arith, Bool, cases_lt, entered}
+use Rattle.two_level_runs.proofs.Words.{[], ◌&&◌, ◌<◌, ◌∙◌, ◌≡◌, ◌≤◌, Agree, arith, both_ways, cases_lt, entered}
 use Rattle.two_level_runs.proofs.Words.{false, fast_run, Free, inl, inr, is_fast_ram, is_fast_rom, is_free, is_hidden}
 use Rattle.two_level_runs.proofs.Words.{is_open_to_fast, IsOff, IsQuietRun, IsServable, LeavesStack, length, List}
 use Rattle.two_level_runs.proofs.Words.{nat_le, nat_lt, nat_tests, OnStack, OnStackOrNone, or_parts, OuterIsQuiet}
-use Rattle.two_level_runs.proofs.Words.{OuterServes, Quiet, refl, Running, RunsFast, served_by, sym, Temps, true}
+use Rattle.two_level_runs.proofs.Words.{OuterServes, Quiet, refl, Running, RunsFast, served_by, sym, Temps}
 use Rattle.two_level_runs.proofs.Words.{WritesAreQuiet, ℕ}
 use Rattle.std.proofs.Common.{◌||◌, Option, None, Some}
+use Rattle.firmware_runs.specs.{Facts.AreNoneOrRunning}
 use Rattle.cpu12_isa.specs.{Regions.is_vector}
 use Rattle.run_law.specs.{Soundness.AreLeft}
 
@@ -25,10 +26,7 @@ open_apart at h = elim (cases_lt at 0x1FE0) [
         let b : is_fast_ram at ≡ false = grind (arith, nat_tests) in
         let c : is_fast_rom at ≡ false = grind (arith, nat_tests) in
         let d : is_vector at ≡ false = grind (arith, nat_tests) in
-        both (is_open_to_fast at) h (rw (a, b, c, d) refl))
-      where
-        both : (x : Bool) → x ≡ true → x ≡ false → ⊥
-        both x t f = cc
+        both_ways (is_open_to_fast at) (rw (a, b, c, d) refl) h)
 
 -- less is hidden where the RAM alone is open
 more_hidden : (sp : ℕ) (m n : List ℕ) → Agree (is_hidden is_fast_ram sp) m n → Agree (is_hidden is_open_to_fast sp) m n
@@ -42,7 +40,7 @@ more_hidden sp m n a = record { size = a.size; bytes = λ at h. a.bytes at (less
         rw (r.0, p.1) refl
 
 -- the sums that are left
-left : (t u v : Temps) → AreSlow t → IsOff u → (v ≡ Free → u ≡ Free) → (t ≡ Free → v ≡ Free)
+left : (t u v : Temps) → AreNoneOrRunning t → IsOff u → (v ≡ Free → u ≡ Free) → (t ≡ Free → v ≡ Free)
     → AreLeft OnStackOrNone t u v
 left (Running p w) u v slow off stays same = off
 left Free u v slow off stays same = stays (same refl) ∙ sym (same refl)

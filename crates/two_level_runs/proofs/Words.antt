@@ -21,7 +21,7 @@ pub use Rattle.two_level_code.specs.Running.{HasFastRom, IsFastStack, IsInFast, 
 pub use Rattle.two_level_runs.specs.Answering.{AreTold, IsReadOff, IsTold, IsToldFrom, answer_of_fast, outputs_after}
 pub use Rattle.two_level_runs.specs.Answering.{plan_of, request_of, taken_by}
 pub use Rattle.two_level_runs.specs.Inside.{AreBelow, AreOnStack, FastRunsFollow, FollowsInside}
-pub use Rattle.two_level_runs.specs.Outer.{AreSlow, CanEnter, HasFastCode, IsQuietRun, IsServable, OuterEnters}
+pub use Rattle.two_level_runs.specs.Outer.{CanEnter, HasFastCode, IsQuietRun, IsServable, OuterEnters}
 pub use Rattle.two_level_runs.specs.Outer.{OuterIsQuiet, OuterIsServable, OuterServes, RunsFast}
 pub use Rattle.two_level_runs.specs.Rows.{first_two, two_level_form, levels_of, place_of_level, sample_of}
 pub use Rattle.two_level_runs.specs.Runs.{FastSeen, entered, fast_run, seen_of, served_by, told_by}
@@ -48,8 +48,8 @@ pub use Rattle.interrupt_plan.specs.{Levels.AreGoodLevels, Levels.IsGoodLevel, L
 pub use Rattle.interrupt_plan.specs.{declared.Request.Request, declared.levels.Level.Level}
 pub use Rattle.run_forms.specs.{Rest.SampleSummary, Rest.counted_at}
 pub use Rattle.run_law.specs.{Moments.TakenAtOnce}
-pub use Rattle.std.proofs.{lemmas.Bool.Decides.nat_tests, lemmas.Bool.cases_lt, lemmas.Bool.or_parts}
-pub use Rattle.std.proofs.{lemmas.List.Elements.All-cons, lemmas.List.length-map}
+pub use Rattle.std.proofs.{lemmas.Bool.Decides.nat_tests, lemmas.Bool.both_ways, lemmas.Bool.cases_lt}
+pub use Rattle.std.proofs.{lemmas.Bool.or_parts, lemmas.List.Elements.All-cons, lemmas.List.length-map}
 pub use Rattle.trace_io.specs.{Traces.input_bytes}
 pub use Rattle.two_level_code.specs.{Images.fast_most, Standing.StandsBeside}
 pub use Rattle.two_level_code.specs.{Standing.TwoStandBeside, declared.two.Two.Two}

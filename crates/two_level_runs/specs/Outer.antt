@@ -5,8 +5,7 @@ use Rattle.fuzzy_meaning.specs.{declared.block.Block.Block, Blocks.IsValid}
 use Rattle.rule_layout.specs.Layouts.{IsWithinLimits}
 use Rattle.cpu12_isa.specs.{Agreement.Agree, Fits.FitsRegs, Fits.AreBytes}
 use Rattle.cpu12_isa.specs.Regions.{stack_start, stack_end, is_hidden, vector_word}
-use Rattle.cpu12_parts.specs.{declared.temps.Temps.Temps, State.State, Laws.IsOff}
-use Rattle.cpu12_parts.specs.declared.temps.Temps.TheVariants.{Free, Running, OnStack}
+use Rattle.cpu12_parts.specs.{declared.temps.Temps.TheVariants.Free, State.State, Laws.IsOff}
 use Rattle.byte_scaling.specs.declared.width.Width.TheVariants.{Byte}
 use Rattle.eval_code.specs.{Widths.answer, Firing.AreInputBytes, Evaluation.HasAnswers}
 use Rattle.cpu12_emul.specs.{Image.image_memory, Simulation.OnStackOrNone, Simulation.HasRoom}
@@ -14,6 +13,7 @@ use Rattle.run_law.specs.{Forms.Ran, Soundness.Ascend, Soundness.Begins, Soundne
 use Rattle.two_level_code.specs.declared.two.Two.{Two}
 use Rattle.two_level_code.specs.MemoryMaps.{fast_map, is_fast_ram, is_open_to_fast}
 use Rattle.two_level_code.specs.{Images.fast_most, Images.IsTwoOf, Running.HasFastRom, Running.IsEntered}
+use Rattle.firmware_runs.specs.Facts.{AreNoneOrRunning}
 use Rattle.two_level_runs.specs.{Runs.entered, Runs.fast_run, Runs.Outer, Runs.served, Steps.IsFastRun}
 
 -- the fast code stands in memory, and the vector leads to it
@@ -80,12 +80,6 @@ OuterIsServable =
     → AreInputBytes fast bytes → CanEnter fast (image_memory two.image.bytes) before v
     → IsServable fast (image_memory two.image.bytes) flags (fast_most two.fast.step_bound) before v (Some bytes)
 
--- sums that stand in the run without interrupts: none, or running
-abbrev pub AreSlow : Temps → Type 0
-AreSlow Free = Unit {0}
-AreSlow OnStack = ⊥
-AreSlow (Running p w) = Unit {0}
-
 -- An outer request is quiet beside the slow firmware, from where the fast code can be entered: where the slow sums are
 -- none they stay so; where they run they may end as none.
 abbrev pub OuterServes : Type 0
@@ -93,5 +87,5 @@ OuterServes =
     (b : Block) (image : List ℕ) (flags most : ℕ) (before : ℕ → ℕ) (q : Outer) (v s : State) → flags < 2 ^ 8
     → length b.inputs ≤ 8 → length b.outputs ≤ 8 → CanEnter b image before v
     → IsServable b image flags most before v q.sample → Ascend (λ k. k) 0 q.inner → HasRoom s
-    → Begins is_open_to_fast v s → AreSlow s.temps
+    → Begins is_open_to_fast v s → AreNoneOrRunning s.temps
     → Quiet OnStackOrNone is_open_to_fast (served flags (length b.outputs) most q v) v s
