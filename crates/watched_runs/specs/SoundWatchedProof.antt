@@ -8,11 +8,12 @@ use Rattle.cpu12_emul.specs.{Image.image_memory, Simulation.OnStackOnly, Simulat
 use Rattle.run_law.specs.Soundness.{Sound, WritesAreQuiet}
 use Rattle.interrupt_plan.specs.Plans.{IsGoodRequest}
 use Rattle.firmware_code.specs.declared.firmware.Firmware.{Firmware}
+use Rattle.firmware_code.proofs.Algebra.{low_shown}
 use Rattle.watched_code.specs.{Watched.Change, Watched.changed, Watched.restored, WatchedCode.fault_at}
 use Rattle.alone_runs.specs.Following.{IsLow, Nothing}
 use Rattle.firmware_runs.specs.Ports.{given}
 use Rattle.alone_runs.specs.SoundAloneProof as alone
-use Rattle.alone_runs.specs.SoundAloneProof.{leaves_stack, free_opens, low_shown, all_open}
+use Rattle.alone_runs.specs.SoundAloneProof.{leaves_stack, free_opens, all_open}
 use Rattle.watched_runs.specs.Forms.{watched_form, FactsWatched}
 
 -- one byte more is written alike
