@@ -1,6 +1,6 @@
 -- Contents of each command make an output, or they are refused.
-use Rattle.std.proofs.Common.{◌≡◌, ℕ, zero, suc, ◌+◌, ◌<◌, ◌≤◌, List, refl, ap, arith, Bool, false, inl, inr}
-use Rattle.std.specs.Prelude.{Result, Ok, Err, length, true}
+use Rattle.std.proofs.Common.{◌≡◌, ℕ, zero, suc, refl, arith, Bool, false, inl, inr}
+use Rattle.std.specs.Prelude.{Result, Ok, Err, true}
 use Rattle.command_parts.proofs.Algebra.{records_carry, result_of}
 use Rattle.command_parts.specs.Judged.{BlocksAreJudged, CertsAreJudged, FirmwaresAreJudged, HalvingsAreJudged}
 use Rattle.command_parts.specs.Judged.{HandlersAreJudged, HasResult, TwosAreJudged}
@@ -23,7 +23,7 @@ use Rattle.build_commands.specs.Certify.{CertifyGives, CertifyIsSettled, certify
 use Rattle.build_commands.specs.Check.{CheckGives, CheckIsSettled, check_reading}
 use Rattle.build_commands.specs.{Compile.CompileIsSettled, Compile.bound_of, Exec.ExecMakes, Written.WritesFirmware}
 use Rattle.build_commands.specs.{Hcheck.HcheckGives, Hcheck.HcheckIsSettled}
-use Rattle.build_commands.specs.{Lcompile.LcompileGives, Lcompile.LcompileIsSettled, declared.exec.Exec.Exec}
+use Rattle.build_commands.specs.{Lcompile.LcompileGives, Lcompile.LcompileIsSettled}
 
 -- ---- readings
 

@@ -1,5 +1,4 @@
 //! The command `asm SRC OUT`.
-ghost use Rattle.std.specs.Prelude.{◌≡◌, length, IfOk};
 ghost use Rattle.std.specs.Prelude.{◌≡◌, ◌∷◌, [], length, IfOk};
 ghost use Rattle.std.specs.Prelude.{codes};
 ghost use Rattle.command_parts.specs.{SeenOutputs.IsResultOf, Lines.line};

@@ -1,5 +1,4 @@
 //! The command `exec IMAGE STEPS FLAGS`.
-ghost use Rattle.std.specs.Prelude.{◌≡◌, IfOk};
 ghost use Rattle.std.specs.Prelude.{◌≡◌, ◌∷◌, [], IfOk};
 ghost use Rattle.command_parts.specs.SeenOutputs.{IsResultOf};
 ghost use Rattle.build_commands.specs.Exec.{ExecMakes, exec_in, exec_line};

@@ -1,5 +1,4 @@
 //! The command `hcheck HANDLER`.
-ghost use Rattle.std.specs.Prelude.{◌≡◌, codes, IfOk};
 ghost use Rattle.std.specs.Prelude.{◌≡◌, ◌∷◌, [], codes, IfOk};
 ghost use Rattle.command_parts.specs.{SeenOutputs.IsResultOf, Lines.line};
 ghost use Rattle.build_commands.specs.Hcheck.{HcheckMakes};

@@ -1,6 +1,5 @@
 //! The command `lcompile SLOW FAST OUT`.
 ghost use Rattle.std.specs.Prelude.{◌≡◌, length, IfOk};
-ghost use Rattle.std.specs.Prelude.{◌≡◌, length, IfOk};
 ghost use Rattle.two_level_code.specs.Images.{fast_most};
 ghost use Rattle.command_parts.specs.SeenOutputs.{IsResultOf};
 ghost use Rattle.build_commands.specs.Lcompile.{LcompileMakes, lcompile_lines};

@@ -1,11 +1,11 @@
 -- Each file gives something or is refused, and so does a reading of several.
 use Rattle.std.proofs.Common.{◌≡◌, ◌≢◌, ◌⊎◌, ◌∙◌, inl, inr, ℕ, zero, suc, ◌+◌, ◌-◌, ◌<◌, ◌≤◌, List, [], ◌∷◌, ◌++◌, length}
-use Rattle.std.proofs.Common.{map, take, Option, Some, None, refl, sym, ap, subst, arith, append_assoc}
+use Rattle.std.proofs.Common.{map, take, Option, Some, None, refl, sym, ap, subst, arith}
 use Rattle.std.proofs.{lemmas.Bool.cases_lt, lemmas.Bool.cases_eq, lemmas.Bool.Decides.nat_tests, Math.Seq.take-length}
 use Rattle.std.specs.{BTreeMap.is_at, Ordering.nat_cmp}
-use Rattle.std.proofs.Common.{Bool, false}
+use Rattle.std.proofs.Common.{false}
 use Rattle.cpu12_asm.specs.Bytes.{IsFirstDifference, byte_at}
-use Rattle.std.specs.Prelude.{Result, Ok, Err, All}
+use Rattle.std.specs.Prelude.{Result, Ok, Err}
 use Rattle.byte_scaling.specs.{Widths.parts, declared.width.Width.Width}
 use Rattle.byte_scaling.specs.declared.width.Width.TheVariants.{Byte, Word}
 use Rattle.cert_check.specs.Laws.{EachCertTextIsJudged, IsTextAnswer}
@@ -15,17 +15,16 @@ use Rattle.cert_check.specs.TextFaults.{HasTextFault, of_text, of_cert}
 use Rattle.error_certifier.specs.{Laws.EachBlockIsHalved, Laws.CellsAreOutOfReach, Laws.IsAnswerFor, Targets.targets_of}
 use Rattle.error_certifier.specs.declared.certifier.NotReached.{NotReached}
 use Rattle.error_certifier.specs.declared.certifier.NotReached.TheVariants as stop
-use Rattle.std.proofs.Common.{replicate}
 use Rattle.std.specs.List.{flat_map}
 use Rattle.std.specs.Str.{str_to_ascii_lowercase}
 use Rattle.box_tree.specs.declared.cert.Cert.{Cert}
 use Rattle.fcl_check.specs.{Faults.kinds, Places.first, Texts.EachTextIsJudged, Texts.HasLoadFault}
-use Rattle.fcl_check.specs.{Texts.SpellsBlock, declared.fault.LoadFault.LoadFault}
+use Rattle.fcl_check.specs.{declared.fault.LoadFault.LoadFault}
 use Rattle.fcl_check.specs.declared.fault.LoadFault.TheVariants as load
-use Rattle.fcl_syntax.specs.{Text.IsFirstFault, declared.text.SyntaxFault.SyntaxFault}
+use Rattle.fcl_syntax.specs.{Text.IsFirstFault}
 use Rattle.fcl_syntax.specs.declared.text.SyntaxFault.TheVariants as syntax
-use Rattle.fuzzy_meaning.specs.{Blocks.IsValid, declared.block.Block.Block, declared.block.Rule.Rule}
-use Rattle.rule_layout.specs.Layouts.{IsWithinLimits, IsFaultOf, IsFirstTooMany, IsTooLong, conjunction_count, list_size}
+use Rattle.fuzzy_meaning.specs.{declared.block.Block.Block, declared.block.Rule.Rule}
+use Rattle.rule_layout.specs.Layouts.{IsWithinLimits, IsFaultOf, IsFirstTooMany, conjunction_count, list_size}
 use Rattle.rule_layout.specs.declared.flat.LayoutFault.{LayoutFault}
 use Rattle.rule_layout.specs.declared.flat.LayoutFault.TheVariants as layout
 use Rattle.fz_status.specs.{Refusals.Refuses, Refusals.CarriesNoMemory, declared.status.Status.Status}
@@ -42,7 +41,6 @@ use Rattle.command_parts.specs.Judged.{BlocksAreJudged, CertsAreJudged, Firmware
 use Rattle.command_parts.specs.Judged.{HandlersAreJudged, ImagesAreJudged, TwosAreJudged}
 use Rattle.command_parts.specs.Firmwares.{GivenBlocksHaveFirmware, GivesBlock, text_refusals}
 use Rattle.command_parts.specs.{Certs.cert_in, Certs.halving_in, Twos.GivenBlocksHaveTwos, Twos.two_refusals}
-use Rattle.command_parts.specs.declared.{firmware.Compiled.Compiled, twos.CompiledTwoLevel.CompiledTwoLevel}
 use Rattle.command_parts.proofs.{Algebra.records_carry, CertLemmas.check_carries, CertLemmas.text_carries}
 use Rattle.command_parts.proofs.NumberLemmas.{each_millionths}
 

@@ -1,6 +1,6 @@
 -- What each file of a command gives is one, and then nothing refuses it; and what refuses it is one.
 use Rattle.std.proofs.Common.{◌≡◌, ◌≢◌, ◌∙◌, ◌-◌, ◌≤◌, ◌<◌, ℕ, zero, suc, List, [], ◌∷◌, length, take, ap, arith}
-use Rattle.std.proofs.Common.{◌+◌, inl, inr, refl, subst, sym}
+use Rattle.std.proofs.Common.{inl, inr, refl, subst, sym}
 use Rattle.std.proofs.{lemmas.Bool.cases_lt, lemmas.List.Sums.sum_by-cons, Math.Seq.take-length}
 use Rattle.std.specs.Prelude.{Result, Ok, Err}
 use Rattle.firmware_code.specs.declared.firmware.Firmware.{Firmware}

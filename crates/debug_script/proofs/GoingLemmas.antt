@@ -14,7 +14,7 @@ use Rattle.debug_script.specs.declared.{marks.Marks.Marks, order.Order.Order}
 use Rattle.alone_runs.specs.Sessions.{SessionSeen}
 use Rattle.debug_script.specs.declared.order.Order.TheVariants as order
 use Rattle.debug_script.specs.declared.shown.Shown.{Shown}
-use Rattle.debug_script.proofs.PlaceLemmas.{go_more, go_stops, on_last, on_more}
+use Rattle.debug_script.proofs.PlaceLemmas.{go_more, go_stops, on_more}
 
 -- ---- one position on
 
@@ -45,12 +45,6 @@ step_more old new left e some =
     let n : left ≡ left - 1 + 1 = omega arith in
     ap₂ (λ (k : ℕ) (ps : List Position). on k ps) n (place_more old new e)
     ∙ on_more (left - 1) old.rest.here new.rest.here new.rest.later
-
--- at the last position
-pub last_place : (s : SessionSeen) (n : ℕ) → s.rest.later ≡ [] → on n (place_of s) ≡ place_of s
-last_place s n e =
-    ap (λ (ps : List Position). on n (s.rest.here ∷ ps)) e ∙ on_last n s.rest.here
-    ∙ ap (λ (ps : List Position). s.rest.here ∷ ps) (sym e)
 
 -- ---- how far `go` leads
 

@@ -1,5 +1,5 @@
 -- A place by the next position.
-use Rattle.std.proofs.Common.{◌≡◌, ℕ, suc, ◌+◌, ◌-◌, Bool, true, false, min, List, [], ◌∷◌, drop, length, refl, ap, ◌∙◌}
+use Rattle.std.proofs.Common.{◌≡◌, ℕ, suc, ◌+◌, ◌-◌, Bool, true, false, min, List, ◌∷◌, drop, length, refl, ap, ◌∙◌}
 use Rattle.std.proofs.Common.{arith}
 use Rattle.std.specs.List.{position_or_len}
 use Rattle.debug_script.specs.Places.{distance, on, stops_behind}
@@ -7,10 +7,6 @@ use Rattle.debug_script.specs.Places.{distance, on, stops_behind}
 module _ {X : Type 0} where
   pub on_nothing : (ps : List X) → on 0 ps ≡ ps
   on_nothing ps = let none : min 0 (length ps - 1) ≡ 0 = omega arith in ap (λ (n : ℕ). drop n ps) none
-
-  -- at the last position it stays
-  pub on_last : (n : ℕ) (p : X) → on n (p ∷ []) ≡ p ∷ []
-  on_last n p = let none : min n (length (p ∷ []) - 1) ≡ 0 = omega arith in ap (λ (k : ℕ). drop k (p ∷ [])) none
 
   pub on_more : (n : ℕ) (p q : X) (ps : List X) → on (n + 1) (p ∷ q ∷ ps) ≡ on n (q ∷ ps)
   on_more n p q ps =

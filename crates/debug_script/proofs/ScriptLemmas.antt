@@ -1,7 +1,7 @@
 -- A text by its first line.
 use Rattle.std.proofs.Common.{◌≡◌, ℕ, ◌+◌, ◌-◌, ◌<◌, ◌≤◌, ◌==◌, List, [], ◌∷◌, ◌++◌, take, drop, length, refl, sym, ap}
 use Rattle.std.proofs.Common.{◌∙◌, subst, inl, inr, arith}
-use Rattle.std.proofs.Common.{append_assoc, append-nil}
+use Rattle.std.proofs.Common.{append_assoc}
 use Rattle.std.specs.Prelude.{Option, Some, None, Result, Ok, Err}
 use Rattle.std.proofs.lemmas.List.{take_rest}
 use Rattle.std.proofs.lemmas.Bool.{cases_Bool}
@@ -69,19 +69,6 @@ line_fails all orders text line rest n so_far e is =
     let others = orders_from (n + 1) (pieces rest) in
     so_far ∙ ap (before orders) (line_first text line rest n e)
     ∙ ap (λ (found : Option Order). before orders (with_order n found others)) (sym is)
-
--- or it has no end
-pub end_fails : (all : Result (List Order) ℕ) (orders : List Order) (text : List ℕ) (n : ℕ)
-    → all ≡ before orders (orders_from n (pieces text)) → pieces text ≡ text ∷ [] → 0 < length text → all ≡ Err n
-end_fails all orders [] n so_far e some = absurd (omega arith)
-end_fails all orders (b ∷ text) n so_far e some =
-    so_far ∙ ap (λ (ps : List (List ℕ)). before orders (orders_from n ps)) e
-
--- or there is none
-pub text_ends : (all : Result (List Order) ℕ) (orders : List Order) (text : List ℕ) (n : ℕ)
-    → all ≡ before orders (orders_from n (pieces text)) → length text ≡ 0 → all ≡ Ok orders
-text_ends all orders [] n so_far none = so_far ∙ ap (λ (os : List Order). Ok os) (append-nil orders)
-text_ends all orders (b ∷ text) n so_far none = absurd (omega arith)
 
 pub text_begins : (text : List ℕ) → script_of text ≡ before [] (orders_from 1 (pieces text))
 text_begins text = same (orders_from 1 (pieces text))

@@ -1,6 +1,6 @@
 -- What contents make of each command: an output or a refusal.
 -- Beside the promise.
-use Rattle.std.specs.Prelude.{◌<◌, ◌≤◌, ◌^◌, ℕ, length}
+use Rattle.std.specs.Prelude.{◌<◌, ◌≤◌, ◌^◌, length}
 use Rattle.command_parts.specs.Judged.{HasResult}
 use Rattle.form_commands.specs.{Hrun.HrunMakes, Lrun.LrunMakes, Mrun.MrunMakes, Srun.SrunMakes}
 use Rattle.form_commands.specs.declared.form_run.FormRun.{FormRun}

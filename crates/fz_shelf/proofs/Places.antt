@@ -1,6 +1,7 @@
 -- The first file of a name among those of a shelf in memory.
-use Rattle.std.proofs.Common.{◌≡◌, ◌≢◌, ◌⊎◌, inl, inr, ◌≤◌, ◌<◌, ◌+◌, ℕ, zero, suc, Bool, true, false, cond, List, []}
+use Rattle.std.proofs.Common.{◌≡◌, ◌≢◌, inl, inr, ◌≤◌, ◌<◌, ◌+◌, ℕ, zero, suc, Bool, true, false, cond, List, []}
 use Rattle.std.proofs.Common.{◌∷◌, length, get_or, set, refl, sym, ◌∙◌, ap, arith, slice_set, slice_index_or}
+use Rattle.std.proofs.lemmas.Bool.{cases_Bool}
 use Rattle.std.specs.Prelude.{Option, Some, None, position, nat_lt, not, MatchOption}
 use Rattle.std.specs.List.{position_or_len}
 use Rattle.std.proofs.lemmas.Bool.Decides.{nat_tests}
@@ -10,12 +11,8 @@ use Rattle.std.proofs.lemmas.Slice.Eq.{bytes_eq-Decides}
 use Rattle.fz_shelf.specs.{Files.File, Files.absent, declared.mem_shelf.MemFile.MemFile}
 use Rattle.fz_shelf.specs.MemFiles.{file_of, file_in, is_named, IsPlace}
 
-pub bool_cases : (b : Bool) → (b ≡ true) ⊎ (b ≡ false)
-bool_cases true = inl refl
-bool_cases false = inr refl
-
 not_named : (a name other : List ℕ) → bytes_eq a name ≡ true → other ≢ name → bytes_eq a other ≡ false
-not_named a name other is ne = elim (bool_cases (bytes_eq a other)) [
+not_named a name other is ne = elim (cases_Bool (bytes_eq a other)) [
   | inl same ↦ absurd (ne (sym ((bytes_eq-Decides a other).0 same) ∙ (bytes_eq-Decides a name).0 is))
   | inr apart ↦ apart
 ]
@@ -69,9 +66,6 @@ others_at fs name i f d at same other ne =
 -- no place, no file
 from_none : (n m : ℕ) → cond (nat_lt n m) (Some n) None ≡ None → m ≤ n
 from_none n m none = grind (arith, nat_tests)
-
-to_none : (n m : ℕ) → m ≤ n → cond (nat_lt n m) (Some n) None ≡ None
-to_none n m le = grind (arith, nat_tests)
 
 past_at : (f : MemFile) (fs : List MemFile) (name : List ℕ) (b : Bool) → is_named name f ≡ b
     → length (f ∷ fs) ≤ position_or_len (is_named name) (f ∷ fs)

@@ -49,16 +49,6 @@ pub whole : {old now : Option Taken} {bytes : List ℕ} (rest : List ℕ) → Pu
 whole {old} {now} {bytes} [] p none = p.told ∙ ap (gained old) (sym (append-nil p.part) ∙ p.split)
 whole (b ∷ rest) p none = absurd (omega arith)
 
-pub partly : {old now : Option Taken} {bytes rest : List ℕ} → Putting old now bytes rest → GainedPart old now bytes
-partly {old} {now} {bytes} {rest} p = record { part = p.part; rest = rest; split = p.split; told = p.told }
-
-pub room_left : {old now : Option Taken} {bytes rest : List ℕ} → Putting old now bytes rest → HasRoom old (length bytes)
-    → HasRoom now (length rest)
-room_left {old} {now} {bytes} {rest} p h =
-    let size : length p.part + length rest ≡ length bytes = sym (length-append p.part rest) ∙ ap length p.split in
-    let fits : HasRoom old (length p.part + length rest) = rw size h in
-    rw p.told (room-gained old p.part (length rest) fits)
-
 -- one whole piece more
 pub goes_piece : {old now : Option Taken} {bytes : List ℕ} (piece rest : List ℕ) → Putting old now bytes (piece ++ rest)
     → (next : Option Taken) → next ≡ gained now piece → Putting old next bytes rest
@@ -81,15 +71,6 @@ stops_in {old} {now} {bytes} piece rest p next g = record {
   told = g.told ∙ ap (λ (t : Option Taken). gained t g.part) p.told ∙ gained-append old p.part g.part;
 }
 
-pub room_for : {old now : Option Taken} {bytes : List ℕ} (piece rest : List ℕ) → Putting old now bytes (piece ++ rest)
-    → HasRoom old (length bytes) → HasRoom now (length piece)
-room_for {old} {now} {bytes} piece rest p h =
-    less now (length piece) (length rest) (let k = room_left p h in rw length-append at k)
-  where
-    less : (t : Option Taken) (a b : ℕ) → HasRoom t (a + b) → HasRoom t a
-    less None a b h = h
-    less (Some t) a b h = let h' : a + b ≤ t.room = h in omega arith
-
 -- the pieces from the i-th on
 pub flat-drop : {X : Type 0} (f : X → List ℕ) (xs : List X) (i : ℕ) (x : X) → i < length xs → x ≡ get_or xs i x
     → flat_map f (drop i xs) ≡ f x ++ flat_map f (drop (i + 1) xs)
@@ -111,9 +92,6 @@ module _ {X : Type 0} (f : X → List ℕ) {old now : Option Taken} (xs : List X
 
   pub in_piece : (next : Option Taken) → GainedPart now next piece → GainedPart old next (flat_map f xs)
   in_piece next g = stops_in piece (flat_map f (drop (i + 1) xs)) split_here next g
-
-  pub piece_fits : HasRoom old (length (flat_map f xs)) → HasRoom now (length piece)
-  piece_fits h = room_for piece (flat_map f (drop (i + 1) xs)) split_here h
 
 -- the default does not matter below the length
 get_or-any : {X : Type 0} (xs : List X) (i : ℕ) (d e : X) → i < length xs → get_or xs i d ≡ get_or xs i e

@@ -3,7 +3,7 @@ use Rattle.std.proofs.Common.{◌≡◌, inl, inr, List, refl, sym, ◌∙◌, a
 use Rattle.std.specs.Prelude.{Option, Some, None, option_and_then}
 use Rattle.fz_words.specs.App.{IsRefused}
 use Rattle.fz_top.specs.Commands.{name_in, table, command_in, command_named, IsUsage}
-use Rattle.fz_top.specs.declared.{command.Name.Name, command.Command.Command}
+use Rattle.fz_top.specs.declared.{command.Name.Name}
 use Rattle.fz_status.specs.Words.{Text}
 
 module _ (words : List Text)
@@ -24,9 +24,3 @@ module _ (words : List Text)
 
   pub usage_law : (command_in words ≡ None → IsUsage words) × (IsUsage words → command_in words ≡ None)
   usage_law = (none_usage, usage_none)
-
-  pub unformed : (n : Name) → name_in words ≡ Some n → command_named n words ≡ None → command_in words ≡ None
-  unformed n is bad = named (Some n) is ∙ bad
-
-  pub formed : (n : Name) (c : Command) → name_in words ≡ Some n → command_named n words ≡ Some c → command_in words ≡ Some c
-  formed n c is good = named (Some n) is ∙ good

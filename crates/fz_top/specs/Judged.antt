@@ -1,8 +1,7 @@
 -- What contents make of every command: one output or one refusal.
 -- Beside the promise.
-use Rattle.std.specs.Prelude.{◌≡◌, ◌<◌, ◌≤◌, ◌^◌, ℕ, List, All, length, Result}
-use Rattle.command_parts.specs.{Judged.HasResult, SeenOutputs.SeenOutput, Words.AreMillionths}
-use Rattle.fz_status.specs.declared.status.Status.{Status}
+use Rattle.std.specs.Prelude.{◌<◌, ◌≤◌, ◌^◌, ℕ, List, All, length}
+use Rattle.command_parts.specs.{Judged.HasResult, Words.AreMillionths}
 use Rattle.fz_top.specs.{Accepted.run_flags, Commands.Makes, Runs.HasOneResult, declared.command.Command.Command}
 use Rattle.fz_top.specs.declared.command.Command.TheVariants.{Certify}
 

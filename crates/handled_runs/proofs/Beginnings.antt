@@ -1,5 +1,5 @@
 -- Where a run begins whose interrupts run code.
-use Rattle.std.proofs.Common.{◌≡◌, ◌≢◌, ℕ, ◌+◌, ◌*◌, ◌^◌, ◌<◌, ◌≤◌, ◌⊎◌, inl, inr, Bool, true, false, cond, Option}
+use Rattle.std.proofs.Common.{◌≡◌, ◌≢◌, ℕ, ◌+◌, ◌*◌, ◌^◌, ◌<◌, ◌≤◌, ◌⊎◌, inl, inr, Bool, false, cond, Option}
 use Rattle.std.proofs.Common.{Some, None, List, [], ◌++◌, get_or, refl, ap, ap₂, sym, ◌∙◌, subst, arith, nat_cmp}
 use Rattle.std.specs.BTreeMap.{is_at}
 use Rattle.std.proofs.lemmas.Bool.{both_ways, cases_lt}
@@ -46,9 +46,6 @@ code_leaves = record {
 -- the joint image's bytes
 other : (p at : ℕ) → p ≢ at → is_at (nat_cmp at) p ≡ false
 other p at ne = grind (arith, nat_tests)
-
-here : (p : ℕ) → is_at (nat_cmp p) p ≡ true
-here p = grind (arith, nat_tests)
 
 behind_vector : (firmware handler : List (ℕ × ℕ)) (at : ℕ) → 65522 ≢ at → 65523 ≢ at
     → byte_at (joint_bytes firmware handler) at ≡ or_else (byte_at handler at) (byte_at firmware at)

@@ -2,7 +2,7 @@
 use Rattle.handler_check.proofs.Words.{[], ◌++◌, ◌+◌, ◌-◌, ◌<◌, ◌∙◌, ◌∷◌, ◌≡◌, ◌≤◌, ap, AreFirsts, arith, Bool}
 use Rattle.handler_check.proofs.Words.{cases_eq, code_end, code_limit, false, false≢true, inl, inr, Instr, IsAt}
 use Rattle.handler_check.proofs.Words.{IsFirst, length, length-set, List, nat_lt, nat_tests, None, Option, refl}
-use Rattle.handler_check.proofs.Words.{replicate, set, slice_get, Some, subst, suc, sym, true, unwrap_or, zero, ℕ}
+use Rattle.handler_check.proofs.Words.{set, slice_get, Some, subst, suc, sym, true, unwrap_or, zero, ℕ}
 use Rattle.std.proofs.lemmas.Option.{slice_get_within}
 use Rattle.handler_check.proofs.Places.{below_end, at-push, at-front, at-last}
 
@@ -19,18 +19,10 @@ get_other (x ∷ xs) zero (suc k) v n = refl
 get_other (x ∷ xs) (suc j) zero v n = refl
 get_other (x ∷ xs) (suc j) (suc k) v n = get_other xs j k v (λ e. n (ap suc e))
 
-none_true : (n k : ℕ) → slice_get (replicate n false) k ≡ Some true → ⊥
-none_true zero k e = cc
-none_true (suc n) zero e = cc
-none_true (suc n) (suc k) e = none_true n k e
-
 -- the table tells of the instructions so far
 pub record Table (is : List Instr) (firsts : List Bool) : Type 0 where
   pub only : (k : ℕ) → slice_get firsts k ≡ Some true → (i : Instr) × IsAt is (16384 + k) i
   pub all : (k : ℕ) (i : Instr) → IsAt is (16384 + k) i → slice_get firsts k ≡ Some true
-
-pub table_none : (n : ℕ) → Table [] (replicate n false)
-table_none n = record { only = λ k e. absurd (none_true n k e); all = λ k i w. absurd w }
 
 pub table_push : (is : List Instr) (i : Instr) (firsts : List Bool) (j : ℕ) → Table is firsts → code_end is ≡ 16384 + j
     → j < length firsts → Table (is ++ i ∷ []) (set firsts j true)
@@ -49,16 +41,6 @@ table_push is i firsts j t e l = record { only = only; all = all }
           ∙ elim (at-push is i (16384 + k) d w)
           [ inl o ↦ t.all k d o | inr o ↦ absurd (n (let a = o.0 in omega arith)) ]
     ]
-
-pub table_end : (is : List Instr) (firsts : List Bool) → Table is firsts → code_end is ≡ 16384 + length firsts
-    → 16384 + length firsts ≤ 20480 → AreFirsts is false firsts
-table_end is firsts t e l = record {
-  ends = omega arith;
-  limit = l;
-  trap = sym (let b : nat_lt (code_end is) (16384 + length firsts) ≡ false = grind (arith, nat_tests) in b);
-  only = λ k s. inl (t.only k s);
-  all = λ k f. elim f [ inl p ↦ t.all k p.0 p.1 | inr p ↦ absurd (false≢true p.0) ];
-}
 
 pub table_trap : (is : List Instr) (firsts : List Bool) (j : ℕ) → Table is firsts → code_end is ≡ 16384 + j
     → j < length firsts → 16384 + length firsts ≤ 20480 → AreFirsts is true (set firsts j true)

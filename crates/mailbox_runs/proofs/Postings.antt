@@ -1,32 +1,9 @@
 -- Posts in their order, and the writes of one.
-use Rattle.mailbox_runs.proofs.Words.{[], ◌++◌, ◌+◌, ◌-◌, ◌<◌, ◌==◌, ◌∙◌, ◌∷◌, ◌≡◌, ◌≤◌, All-cons, ap, append_assoc}
-use Rattle.mailbox_runs.proofs.Words.{arith, behind, Bool, drop, false, get_or, if◌then◌else◌, IsGoodPost, length}
-use Rattle.mailbox_runs.proofs.Words.{List, nat_le, nat_tests, plus, Post, refl, subst, suc, sym, take, true, up_to}
-use Rattle.mailbox_runs.proofs.Words.{waiting, Write, writes_from, zero, ℕ}
-use Rattle.std.proofs.{Common.drop-cons}
+use Rattle.mailbox_runs.proofs.Words.{[], ◌+◌, ◌-◌, ◌==◌, ◌∙◌, ◌∷◌, ◌≡◌, ◌≤◌, All-cons, ap}
+use Rattle.mailbox_runs.proofs.Words.{arith, behind, Bool, drop, false, if◌then◌else◌, IsGoodPost, length}
+use Rattle.mailbox_runs.proofs.Words.{List, nat_le, nat_tests, Post, refl, subst, suc, sym, take, true, up_to}
+use Rattle.mailbox_runs.proofs.Words.{waiting, zero, ℕ}
 use Rattle.std.specs.{Prelude.min, Prelude.All}
-
-drop_here : {A : Type 0} (xs : List A) (i : ℕ) (d : A) → i < length xs → drop i xs ≡ get_or xs i d ∷ drop (i + 1) xs
-drop_here {A = A} xs i d h =
-    drop-cons xs i d h ∙ ap (λ (k : ℕ). get_or xs i d ∷ drop k xs) (let e : suc i ≡ i + 1 = omega arith in e)
-
--- one post more
-pub waits_on : (w : ℕ) (ps : List Post) (i : ℕ) (d : Post) → i < length ps
-    → waiting w (drop i ps) ≡ waiting (if (get_or ps i d).sample == 0 then w else (get_or ps i d).sample)
-    (drop (i + 1) ps)
-waits_on w ps i d h = ap (waiting w) (drop_here ps i d h)
-
-pub few_on : (k : ℕ) (ps : List Post) (i : ℕ) (d : Post) → i < length ps → (get_or ps i d).moment ≤ k
-    → length (up_to k (drop i ps)) ≡ suc (length (up_to k (drop (i + 1) ps)))
-few_on k ps i d h due =
-    let t : nat_le (get_or ps i d).moment k ≡ true = grind (arith, nat_tests) in
-    ap (λ (xs : List Post). length (up_to k xs)) (drop_here ps i d h) ∙ rw t refl
-
-pub few_end : (k : ℕ) (ps : List Post) (i : ℕ) (d : Post) → i < length ps → k < (get_or ps i d).moment
-    → length (up_to k (drop i ps)) ≡ 0
-few_end k ps i d h late =
-    let t : nat_le (get_or ps i d).moment k ≡ false = grind (arith, nat_tests) in
-    ap (λ (xs : List Post). length (up_to k xs)) (drop_here ps i d h) ∙ rw t refl
 
 -- the first posts, and those behind them
 front_by : (b : Bool) (k : ℕ) (p : Post) (ps : List Post) → nat_le p.moment k ≡ b
@@ -119,16 +96,6 @@ behind_less k (p ∷ ps) = behind_less_by (nat_le p.moment k) k p ps refl (behin
 
 behind_few : (k : ℕ) (ps : List Post) → min (waiting 0 (behind k ps)) 1 ≤ length ps
 behind_few k ps = let a = waits_few 0 (behind k ps) in let b = behind_less k ps in omega (arith, a, b)
-
--- bytes one after the other
-pub bytes_on : (ws ws2 : List Write) (at : ℕ) (bytes : List ℕ) (i d : ℕ) → i < length bytes
-    → ws2 ≡ ws ++ record { at = at; value = get_or bytes i d } ∷ []
-    → ws2 ++ writes_from (plus at 1) (drop (i + 1) bytes) ≡ ws ++ writes_from at (drop i bytes)
-bytes_on ws ws2 at bytes i d h e =
-    let rest : List Write = writes_from (plus at 1) (drop (i + 1) bytes) in
-    ap (λ (l : List Write). l ++ rest) e
-    ∙ append_assoc ws (record { at = at; value = get_or bytes i d } ∷ []) rest
-    ∙ ap (λ (l : List ℕ). ws ++ writes_from at l) (sym (drop_here bytes i d h))
 
 -- a slice of good posts
 pub all_drop : (n i : ℕ) (ps : List Post) → All (IsGoodPost n) ps → All (IsGoodPost n) (drop i ps)

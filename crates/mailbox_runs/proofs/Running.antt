@@ -78,14 +78,7 @@ run_turn flags f samples last n g w v qs qs1 s s1 fs fs1 us us1 te ve e =
     (sym ve)
     (ap₂ (λ (l : List Post) (u : State). run_from form (last - g) g false l u) el es)
 
--- whether no post is left
-pub none_behind : (posts : List Post) (i : ℕ) → i ≡ length posts → is_empty (drop i posts) ≡ true
-none_behind posts i e = ap (λ (l : List Post). is_empty l) (ap (λ (k : ℕ). drop k posts) e ∙ drop_whole posts)
-  where
-    drop_whole : (xs : List Post) → drop (length xs) xs ≡ []
-    drop_whole [] = refl
-    drop_whole (x ∷ xs) = drop_whole xs
-
+-- whether a post is left
 pub some_behind : (posts : List Post) (i : ℕ) → i ≤ length posts → (i ≡ length posts → ⊥)
     → is_empty (drop i posts) ≡ false
 some_behind [] zero l e = absurd (e refl)

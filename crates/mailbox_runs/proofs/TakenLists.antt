@@ -16,10 +16,6 @@ moment_of p = p.moment
 abbrev pub Rise : ℕ → List Post → Type 0
 Rise = Ascend moment_of
 
-pub rise_less : (k j : ℕ) (ps : List Post) → k ≤ j → Rise j ps → Rise k ps
-rise_less k j [] le r = tt
-rise_less k j (p ∷ ps) le r = (omega (arith, r.0), r.1)
-
 rise_by : (b : Bool) (k j : ℕ) (p : Post) (ps : List Post) → nat_le p.moment j ≡ b → k ≤ p.moment → Rise p.moment ps
     → Rise (suc j) (behind j ps) → Rise (suc j) (behind j (p ∷ ps))
 rise_by true k j p ps e lo r rest = rw e rest

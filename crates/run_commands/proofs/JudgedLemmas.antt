@@ -1,5 +1,5 @@
 -- Contents of each command make an output, or they are refused.
-use Rattle.std.proofs.Common.{◌≡◌, ◌⊎◌, inl, inr, ℕ, List, refl}
+use Rattle.std.proofs.Common.{◌≡◌, inl, inr, ℕ, List, refl}
 use Rattle.std.specs.Prelude.{Result, Ok, Err, ◌≤◌, length}
 use Rattle.byte_scaling.specs.declared.width.Width.TheVariants.{Byte}
 use Rattle.command_parts.specs.Judged.{AreJudged, FirmwaresAreJudged, ImagesAreJudged, IsJudged}

@@ -1,6 +1,6 @@
 -- What contents make of each command: an output or a refusal.
 -- Beside the promise.
-use Rattle.std.specs.Prelude.{◌<◌, ◌≤◌, ◌^◌, ℕ, length}
+use Rattle.std.specs.Prelude.{◌<◌, ◌≤◌, ◌^◌, length}
 use Rattle.command_parts.specs.Judged.{HasResult}
 use Rattle.run_commands.specs.{Debug.DebugMakes, declared.debug.DebugFiles.DebugFiles, declared.debug.DebugRun.DebugRun}
 use Rattle.run_commands.specs.{Generate.GenerateMakes, declared.generate.Generate.Generate}

@@ -54,70 +54,58 @@ forgets b o bytes x p q is some = forgets_in (byte_shares b bytes o) (output_at 
 
 -- ---- the answers of a row are those to the samples up to it
 
--- where FAULT was 0 in each row before
-faultless_rows : (b : Block) (f : Firmware) (before : List (List Dec)) (given : ℕ → ℕ)
-    → ((o : ℕ) → given o ≡ answer_to 1 b o before) → (m : ℕ) (upsets : List Upset) (xs : List (List Dec))
-    → (rows : List FaultSeen)
-    → AreWatchedRows b f given (changes_from m upsets (map (bytes_of b.inputs) xs)) rows
-    → (k : ℕ) (r : FaultSeen) → slice_get rows k ≡ Some r → r.fault ≡ 0 → NoFaultBefore k rows
-    → (o : ℕ) → 1 ≤ o → o ≤ length b.outputs
-    → slice_index r.row.answers (o - 1) ≡ answer_to 1 b o (before ++ take (k + 1) xs)
-faultless_rows b f before given same m upsets xs [] h k r is zero_ none o from to =
-    absurd (let e : slice_get [] k ≡ Some r = is in cc)
-faultless_rows b f before given same m upsets [] (q ∷ rs) h k r is zero_ none o from to = absurd h
-faultless_rows b f before given same m upsets (x ∷ xs) (q ∷ rs) h zero r is zero_ none o from to =
-    let row_is : q ≡ r = cc in
-    let image = image_memory f.image.bytes in
-    let bytes = bytes_of b.inputs x in
-    let sample : Watched = record { bytes = bytes; change = change_of m upsets } in
-    let own = h.0.values o from to in
-    let fault : watched_fault image sample ≡ 0 = sym h.0.fault ∙ ap (λ (s : FaultSeen). s.fault) row_is ∙ zero_ in
-    ap (λ (s : FaultSeen). slice_index s.row.answers (o - 1)) (sym row_is) ∙ own
-    ∙ faultless_answer b image sample o (given o) fault
-    ∙ ap (λ (n : ℕ). answer_in 1 b o bytes n) (same o) ∙ sym (answer_to_next 1 b o before x)
-faultless_rows b f before given same m upsets (x ∷ xs) (q ∷ rs) h (suc k) r is zero_ none o from to =
-    let image = image_memory f.image.bytes in
-    let bytes = bytes_of b.inputs x in
-    let sample : Watched = record { bytes = bytes; change = change_of m upsets } in
-    let fault : watched_fault image sample ≡ 0 = sym h.0.fault ∙ none 0 q (omega arith) refl in
-    let next : (n : ℕ) → watched_answer b image sample n (given n) ≡ answer_to 1 b n (before ++ x ∷ []) =
-    λ n. faultless_answer b image sample n (given n) fault
-    ∙ ap (λ (p : ℕ). answer_in 1 b n bytes p) (same n) ∙ sym (answer_to_next 1 b n before x) in
-    let rest = faultless_rows b f (before ++ x ∷ []) (λ n. watched_answer b image sample n (given n)) next
-    (suc m) upsets
-    xs rs h.1 k r is zero_ (λ j s lt at. none (suc j) s (omega (arith, lt)) at) o from to in
-    let one_more : suc k + 1 ≡ suc (k + 1) = omega arith in
-    rest ∙ ap (λ (l : List (List Dec)). answer_to 1 b o l) (append_assoc before (x ∷ []) (take (k + 1) xs)
-    ∙ ap (λ (n : ℕ). before ++ take n (x ∷ xs)) (sym one_more))
+-- no answer before matters, or the one given is that to the samples before, and FAULT was 0 in each row since
+abbrev Follows : Block → ℕ → (ℕ → ℕ) → List (List Dec) → ℕ → List FaultSeen → Type 0
+Follows b o given before k rows =
+    ((bytes : List ℕ) (p q : ℕ) → answer_in 1 b o bytes p ≡ answer_in 1 b o bytes q)
+    ⊎ ((given o ≡ answer_to 1 b o before) × NoFaultBefore k rows)
 
--- where the output has a default
-default_rows : (b : Block) (f : Firmware) (o : ℕ) (y : Output) → 1 ≤ o → o ≤ length b.outputs
-    → output_at b o ≡ Some y → y.default ≢ None → (before : List (List Dec)) (given : ℕ → ℕ) (m : ℕ)
-    → (upsets : List Upset) (xs : List (List Dec)) (rows : List FaultSeen)
+abbrev sample_at : Block → List Dec → ℕ → List Upset → Watched
+sample_at b x m upsets = record { bytes = bytes_of b.inputs x; change = change_of m upsets }
+
+-- the answers behind it
+abbrev given_by : Block → Firmware → List Dec → ℕ → List Upset → (ℕ → ℕ) → ℕ → ℕ
+given_by b f x m upsets given n =
+    watched_answer b (image_memory f.image.bytes) (sample_at b x m upsets) n (given n)
+
+rows_follow : (b : Block) (f : Firmware) (o : ℕ) → 1 ≤ o → o ≤ length b.outputs → (before : List (List Dec))
+    → (given : ℕ → ℕ) (m : ℕ) (upsets : List Upset) (xs : List (List Dec)) (rows : List FaultSeen)
     → AreWatchedRows b f given (changes_from m upsets (map (bytes_of b.inputs) xs)) rows
-    → (k : ℕ) (r : FaultSeen) → slice_get rows k ≡ Some r → r.fault ≡ 0
+    → (k : ℕ) (r : FaultSeen) → slice_get rows k ≡ Some r → r.fault ≡ 0 → Follows b o given before k rows
     → slice_index r.row.answers (o - 1) ≡ answer_to 1 b o (before ++ take (k + 1) xs)
-default_rows b f o y from to out some before given m upsets xs [] h k r is zero_ =
+rows_follow b f o from to before given m upsets xs [] h k r is zero_ follows =
     absurd (let e : slice_get [] k ≡ Some r = is in cc)
-default_rows b f o y from to out some before given m upsets [] (q ∷ rs) h k r is zero_ = absurd h
-default_rows b f o y from to out some before given m upsets (x ∷ xs) (q ∷ rs) h zero r is zero_ =
+rows_follow b f o from to before given m upsets [] (q ∷ rs) h k r is zero_ follows = absurd h
+rows_follow b f o from to before given m upsets (x ∷ xs) (q ∷ rs) h zero r is zero_ follows =
     let row_is : q ≡ r = cc in
     let image = image_memory f.image.bytes in
-    let bytes = bytes_of b.inputs x in
-    let sample : Watched = record { bytes = bytes; change = change_of m upsets } in
+    let sample = sample_at b x m upsets in
     let own = h.0.values o from to in
     let fault : watched_fault image sample ≡ 0 = sym h.0.fault ∙ ap (λ (s : FaultSeen). s.fault) row_is ∙ zero_ in
     ap (λ (s : FaultSeen). slice_index s.row.answers (o - 1)) (sym row_is) ∙ own
     ∙ faultless_answer b image sample o (given o) fault
-    ∙ forgets b o bytes y (given o) (answer_to 1 b o before) out some ∙ sym (answer_to_next 1 b o before x)
-default_rows b f o y from to out some before given m upsets (x ∷ xs) (q ∷ rs) h (suc k) r is zero_ =
-    let image = image_memory f.image.bytes in
-    let sample : Watched = record { bytes = bytes_of b.inputs x; change = change_of m upsets } in
-    let rest = default_rows b f o y from to out some (before ++ x ∷ []) (λ n. watched_answer b image sample n (given n))
-    (suc m) upsets xs rs h.1 k r is zero_ in
+    ∙ alike follows ∙ sym (answer_to_next 1 b o before x)
+  where
+    alike : Follows b o given before zero (q ∷ rs)
+        → answer_in 1 b o (bytes_of b.inputs x) (given o) ≡ answer_in 1 b o (bytes_of b.inputs x) (answer_to 1 b o before)
+    alike (inl any) = any (bytes_of b.inputs x) (given o) (answer_to 1 b o before)
+    alike (inr same) = ap (λ (n : ℕ). answer_in 1 b o (bytes_of b.inputs x) n) same.0
+rows_follow b f o from to before given m upsets (x ∷ xs) (q ∷ rs) h (suc k) r is zero_ follows =
+    let rest = rows_follow b f o from to (before ++ x ∷ [])
+    (given_by b f x m upsets given) (suc m) upsets xs rs h.1 k r is zero_ (next follows) in
     let one_more : suc k + 1 ≡ suc (k + 1) = omega arith in
     rest ∙ ap (λ (l : List (List Dec)). answer_to 1 b o l) (append_assoc before (x ∷ []) (take (k + 1) xs)
     ∙ ap (λ (n : ℕ). before ++ take n (x ∷ xs)) (sym one_more))
+  where
+    next : Follows b o given before (suc k) (q ∷ rs)
+        → Follows b o (given_by b f x m upsets given) (before ++ x ∷ []) k rs
+    next (inl any) = inl any
+    next (inr same) = inr (
+      faultless_answer b (image_memory f.image.bytes) (sample_at b x m upsets) o (given o)
+          (sym h.0.fault ∙ same.1 0 q (omega arith) refl)
+          ∙ ap (λ (p : ℕ). answer_in 1 b o (bytes_of b.inputs x) p) same.0 ∙ sym (answer_to_next 1 b o before x),
+      λ j s lt at. same.1 (suc j) s (omega (arith, lt)) at,
+    )
 
 -- ---- the law
 
@@ -131,20 +119,14 @@ faultless_near near b f cert errors trace samples upsets rows valid spells h acc
     subst (λ (l : List (List ℕ)). AreWatchedRows b f (λ n. 0) (with_upsets upsets l) rows) bytes h in
     let to : o ≤ length b.outputs =
     (let lt = slice_get_within b.outputs (o - 1) x output in omega (arith, lt, from)) in
-    let is : slice_index r.row.answers (o - 1) ≡ answer_to 1 b o (take (k + 1) xs) = by own to either in
+    let is : slice_index r.row.answers (o - 1) ≡ answer_to 1 b o (take (k + 1) xs) =
+    rows_follow b f o from to [] (λ n. 0) 1 upsets xs rows own k r row_is fault (follows either) in
     let inputs : All (AreInputs b) (take (k + 1) xs) =
     All-take (AreInputs b) (k + 1) xs (are_inputs b spells.rows samples spells.spelled) in
     let close = near b 1 cert errors o x e (take (k + 1) xs) valid (omega arith) accepted from output error inputs in
     subst (λ (q : ℕ). IsClose (distance x.lo x.hi) e (value_in 1 x q) (exact_answer b o (take (k + 1) xs)))
     (sym is) close
   where
-    by : AreWatchedRows b f (λ n. 0) (changes_from 1 upsets (map (bytes_of b.inputs) (numbers_of samples))) rows
-        → o ≤ length b.outputs → HasDefaults b ⊎ NoFaultBefore k rows
-        → slice_index r.row.answers (o - 1) ≡ answer_to 1 b o (take (k + 1) (numbers_of samples))
-    by own to (inl defaults) =
-        default_rows b f o x from to output (defaults o x from output) [] (λ n. 0) 1 upsets
-        (numbers_of samples) rows own
-        k r row_is fault
-    by own to (inr none) =
-        faultless_rows b f [] (λ n. 0) (λ n. refl) 1 upsets (numbers_of samples) rows own k r row_is fault
-        none o from to
+    follows : HasDefaults b ⊎ NoFaultBefore k rows → Follows b o (λ n. 0) [] k rows
+    follows (inl defaults) = inl (λ bytes p q. forgets b o bytes x p q output (defaults o x from output))
+    follows (inr none) = inr (refl, none)

@@ -1,5 +1,5 @@
 -- Each file of a run gives something or is refused.
-use Rattle.std.proofs.Common.{◌≡◌, ◌≢◌, ◌⊎◌, ◌+◌, inl, inr, ℕ, ◌≤◌, List, length, refl}
+use Rattle.std.proofs.Common.{◌≢◌, ◌+◌, inl, inr, ℕ, List, length}
 use Rattle.box_tree.specs.declared.cert.CertFormat.{CertFormat}
 use Rattle.box_tree.specs.Texts.{format_of}
 use Rattle.byte_scaling.specs.declared.width.Width.TheVariants.{Byte}
@@ -27,7 +27,7 @@ use Rattle.command_parts.specs.Judged.{AreJudged, CertsAreJudged, FirmwaresAreJu
 use Rattle.command_parts.specs.Judged.{ImagesAreJudged, IsJudged, TwosAreJudged}
 use Rattle.command_parts.proofs.Algebra.{judged_fast}
 use Rattle.command_parts.specs.declared.firmware.Form.TheVariants.{Alone, Mailbox, Watched}
-use Rattle.run_reports.specs.Inputs.{inputs_reading, plan_in, trace_in}
+use Rattle.run_reports.specs.Inputs.{inputs_reading, trace_in}
 use Rattle.run_reports.specs.{TwoLevelRun.levels_in, MailboxRun.posts_in, WatchedRun.upsets_in}
 use Rattle.run_reports.specs.Judged.{HandledFilesAreJudged, TwoLevelFilesAreJudged, MailboxFilesAreJudged, RunFilesAreJudged}
 use Rattle.run_reports.specs.Judged.{PlansAreJudged, TracesAreJudged, WatchedFilesAreJudged}

@@ -4,7 +4,6 @@ use Rattle.std.proofs.Common.{Option, Some, None, Ok, Err}
 use Rattle.std.specs.Fmt.{digits}
 use Rattle.std.specs.List.{AllByRecursion, AllZip, flat_map, list_all, range_with_len}
 use Rattle.std.specs.Prelude.{codes, is_none}
-use Rattle.std.specs.Str.{str_to_ascii_lowercase}
 use Rattle.std.proofs.lemmas.Bool.{and_parts}
 use Rattle.fuzzy_meaning.specs.declared.block.Rule.{Rule}
 use Rattle.fcl_tokens.specs.Cuts.{CutsAreTokens}
@@ -66,9 +65,6 @@ spelled cuts shift h = record {
 }
 
 -- ---- the block
-
-abbrev letters_of : ℕ → List ℕ
-letters_of shift = str_to_ascii_lowercase (fcl_text shift)
 
 -- what stands behind the variables
 abbrev rest_of : ℕ → List ℕ

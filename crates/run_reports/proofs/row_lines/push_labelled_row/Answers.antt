@@ -1,4 +1,3 @@
-use Rattle.std.specs.Prelude.{decimal}
 use Rattle.fz_shelf.proofs.Algebra.{bare-append, bare-decimal}
 use Rattle.run_reports.proofs.row_lines.push_labelled_row.Goals as goal
 

@@ -1,11 +1,10 @@
 use Rattle.std.proofs.Common.{◌≡◌, ◌∙◌, ◌++◌, ℕ, List, ap}
-use Rattle.std.specs.Prelude.{map, string_bytes}
+use Rattle.std.specs.Prelude.{string_bytes}
 use Rattle.alone_runs.specs.Rows.{row_seen}
 use Rattle.fz_shelf.proofs.Algebra.{bare-append}
 use Rattle.fz_shelf.specs.Parts.{ended}
-use Rattle.run_forms.specs.Rows.{frames_seen}
 use Rattle.run_reports.proofs.Algebra.{row_written}
-use Rattle.run_reports.specs.RowLines.{frame_line, sample_told}
+use Rattle.run_reports.specs.RowLines.{sample_told}
 use Rattle.run_reports.proofs.row_lines.push_row.Goals as goal
 
 pub of-requires : goal.of-requires

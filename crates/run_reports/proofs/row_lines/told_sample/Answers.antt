@@ -2,7 +2,6 @@ use Rattle.std.proofs.Common.{◌≡◌, ◌∙◌, length, sym}
 use Rattle.std.proofs.lemmas.List.{length-map}
 use Rattle.alone_runs.specs.Rows.{row_seen}
 use Rattle.run_forms.specs.Rows.{boundary_seen, frames_seen}
-use Rattle.run_reports.specs.RowLines.{sample_told}
 use Rattle.run_reports.proofs.Algebra.{bare-sample, sample_written}
 use Rattle.run_reports.proofs.row_lines.told_sample.Goals as goal
 
