@@ -21,7 +21,8 @@ use Rattle.error_bound.specs.Flattening.{followed, parts, flats, flat_under, fla
 use Rattle.error_bound.specs.Spans.{Span, only, span, end_of, reversed, spans}
 use Rattle.error_bound.specs.{Flattening.FlatteningKeepsReaches, declared.boxes.Interval.Interval, Places.rise_end}
 use Rattle.error_bound.specs.{Ratios.value_of, Ratios.IsRatio, Reaches.IsEndOfCondition, Boxes.literal_byte_span}
-use Rattle.error_bound.specs.declared.ends.End.{End}
+use Rattle.error_bound.specs.declared.{ends.End.End, ends.Side.Side}
+use Rattle.error_bound.specs.declared.ends.Side.TheVariants.{Low, High}
 use Rattle.error_bound.proofs.SpanLemmas.{IsGrouping, AreGood, IsDegree, nothing_degree, spans_de_morgan}
 use Rattle.error_bound.proofs.SpanLemmas.{spans_grouping, truths_de_morgan, truths_grouping, levels_de_morgan}
 use Rattle.error_bound.proofs.SpanLemmas.{levels_grouping, errors_de_morgan, errors_grouping}
@@ -296,21 +297,21 @@ reaches_kept b c = record {
 -- ---- ends of spans
 
 module _ {A : Type 0} (minus : A → A) (j : Joins A) (s : ℕ → ℕ → Span A) where
-  abbrev reach : Bool → Condition → A
-  reach upper c = end_of upper (evaluate (reversed minus) (spans j) s c)
+  abbrev reach : Side → Condition → A
+  reach side c = end_of side (evaluate (reversed minus) (spans j) s c)
 
-  reach-also : (upper or : Bool) (c : Condition) (cs : Conditions)
-      → reach upper (group or (also c cs)) ≡ j.join or (reach upper c) (reach upper (group or cs))
-  reach-also true true c cs = refl
-  reach-also true false c cs = refl
-  reach-also false true c cs = refl
-  reach-also false false c cs = refl
+  reach-also : (side : Side) (or : Bool) (c : Condition) (cs : Conditions)
+      → reach side (group or (also c cs)) ≡ j.join or (reach side c) (reach side (group or cs))
+  reach-also High true c cs = refl
+  reach-also High false c cs = refl
+  reach-also Low true c cs = refl
+  reach-also Low false c cs = refl
 
-  reach-end : (upper or : Bool) → reach upper (group or end) ≡ j.none or
-  reach-end true true = refl
-  reach-end true false = refl
-  reach-end false true = refl
-  reach-end false false = refl
+  reach-end : (side : Side) (or : Bool) → reach side (group or end) ≡ j.none or
+  reach-end High true = refl
+  reach-end High false = refl
+  reach-end Low true = refl
+  reach-end Low false = refl
 
 -- ---- of conditions
 
@@ -322,30 +323,30 @@ from_place parts k part from to here_is =
     let back : suc (k - 1) ≡ k = omega arith in
     ap conditions (drop-cons parts (k - 1) part within ∙ ap₂ (λ x n. x ∷ drop n parts) (sym here_is) back)
 
-pub end_from : (b : Block) (box : List Interval) (or upper : Bool) (parts : List Condition) (k : ℕ) (part : Condition)
+pub end_from : (b : Block) (box : List Interval) (or : Bool) (side : Side) (parts : List Condition) (k : ℕ) (part : Condition)
     (p r s : End) → 1 ≤ k → k ≤ length parts → part ≡ get_or parts (k - 1) part
-    → IsEndOfCondition b box part upper p
-    → IsEndOfCondition b box (group or (conditions (drop k parts))) upper r
+    → IsEndOfCondition b box part side p
+    → IsEndOfCondition b box (group or (conditions (drop k parts))) side r
     → value_of s.truth ≡ truths.join or (value_of p.truth) (value_of r.truth)
     → s.byte ≡ (levels 255).join or p.byte r.byte → IsRatio 1000000000000 s.truth
-    → IsEndOfCondition b box (group or (conditions (drop (k - 1) parts))) upper s
-end_from b box or upper parts k part p r s from to here_is hp hr value byte small =
+    → IsEndOfCondition b box (group or (conditions (drop (k - 1) parts))) side s
+end_from b box or side parts k part p r s from to here_is hp hr value byte small =
     let cs = conditions (drop k parts) in
-    subst (λ ds. IsEndOfCondition b box (group or ds) upper s) (sym (from_place parts k part from to here_is)) (record {
+    subst (λ ds. IsEndOfCondition b box (group or ds) side s) (sym (from_place parts k part from to here_is)) (record {
       value = value ∙ ap₂ (truths.join or) hp.value hr.value
-          ∙ sym (reach-also one_minus truths (literal_span b box) upper or part cs);
+          ∙ sym (reach-also one_minus truths (literal_span b box) side or part cs);
       byte = byte ∙ ap₂ ((levels 255).join or) hp.byte hr.byte
-          ∙ sym (reach-also (λ n. 255 - n) (levels 255) (literal_byte_span b box) upper or part cs);
+          ∙ sym (reach-also (λ n. 255 - n) (levels 255) (literal_byte_span b box) side or part cs);
       small = small;
     })
 
-pub end_from_none : (b : Block) (box : List Interval) (or upper : Bool) (parts : List Condition) (r : End)
+pub end_from_none : (b : Block) (box : List Interval) (or : Bool) (side : Side) (parts : List Condition) (r : End)
     → value_of r.truth ≡ truths.none or → r.byte ≡ (levels 255).none or → IsRatio 1000000000000 r.truth
-    → IsEndOfCondition b box (group or (conditions (drop (length parts) parts))) upper r
-end_from_none b box or upper parts r value byte small =
-    subst (λ ps. IsEndOfCondition b box (group or (conditions ps)) upper r)
+    → IsEndOfCondition b box (group or (conditions (drop (length parts) parts))) side r
+end_from_none b box or side parts r value byte small =
+    subst (λ ps. IsEndOfCondition b box (group or (conditions ps)) side r)
     (sym (drop_all (length parts) parts (omega arith))) (record {
-      value = value ∙ sym (reach-end one_minus truths (literal_span b box) upper or);
-      byte = byte ∙ sym (reach-end (λ n. 255 - n) (levels 255) (literal_byte_span b box) upper or);
+      value = value ∙ sym (reach-end one_minus truths (literal_span b box) side or);
+      byte = byte ∙ sym (reach-end (λ n. 255 - n) (levels 255) (literal_byte_span b box) side or);
       small = small;
     })

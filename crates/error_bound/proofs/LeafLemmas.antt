@@ -19,9 +19,10 @@ use Rattle.error_bound.specs.Leaves.{rule_at, concludes_some, IsPairFor, strong,
 use Rattle.error_bound.specs.Bounds.{IsBound, bound, errors_from, strong_bound, silent_bound, greatest_offset}
 use Rattle.error_bound.specs.Faults.{of_strong, of_silent, FaultyLeavesFail, LeafFaultsAreOne, HasLeafFault}
 use Rattle.error_bound.specs.{Best.strong as best_strong, Best.nothing, declared.boxes.LeafFault.LeafFault}
-use Rattle.error_bound.specs.{declared.boxes.Interval.Interval, declared.rules.BoxTable.BoxTable}
+use Rattle.error_bound.specs.{declared.boxes.Interval.Interval, Boxes.IsBox}
+use Rattle.error_bound.specs.declared.ends.Side.TheVariants.{Low, High}
 use Rattle.error_bound.specs.{Boxes.rule_span, Boxes.rule_byte_span, BestLeaves.BestBoundsAreLeast, Errors.billion}
-use Rattle.error_bound.specs.{Reaches.IsEndOfRule, Reaches.IsTable, declared.boxes.Leaf.Leaf, CellErrors.term_errors}
+use Rattle.error_bound.specs.{Reaches.IsEndOfRule, declared.boxes.Leaf.Leaf, CellErrors.term_errors}
 use Rattle.error_bound.specs.{Ratios.value_of, Ratios.IsRatio, declared.ends.End.End, Spans.Span, Spans.only}
 use Rattle.fz_num.specs.{Fractions.Fraction, Fractions.over, Fractions.AtMost, Fractions.IsBelow, Decimals.distance}
 use Rattle.error_bound.proofs.RuleLemmas.{silent_same, none_same, strong_same, part_same, rule_low_proper}
@@ -204,7 +205,7 @@ AreStillBefore b box o n =
     (m : ℕ) (q : Rule) → m < n → slice_get b.rules m ≡ Some q → (t : ℕ) → IsTrue (concludes q o t) → IsStill b box q
 
 -- a rule whose upper end is 0
-pub IsStill-end : (b : Block) (box : List Interval) (r : Rule) (high : End) → IsEndOfRule b box r true high
+pub IsStill-end : (b : Block) (box : List Interval) (r : Rule) (high : End) → IsEndOfRule b box r High high
     → (value_of high.truth).num ≡ 0 → high.byte ≡ 0 → IsStill b box r
 IsStill-end b box r high end none byte_none = record {
   high = none_same (value_of high.truth) (rule_span b box r).high end.value none;
@@ -226,7 +227,7 @@ module _ (b : Block) (box : List Interval) (o n : ℕ) (r : Rule) (found : slice
       }
 
   -- where it fires the silent leaf has the fault of its upper end
-  pub HasLeafFault-firing : (high : End) (f : LeafFault) → IsEndOfRule b box r true high → concludes_some r o ≡ true
+  pub HasLeafFault-firing : (high : End) (f : LeafFault) → IsEndOfRule b box r High high → concludes_some r o ≡ true
       → IsSilentFault (n + 1) (only (value_of high.truth)) (only high.byte) f
       → HasLeafFault b box o silent_leaf f
   HasLeafFault-firing high f end one fault =
@@ -288,8 +289,8 @@ module _ (b : Block) (o : ℕ) (leaf : Leaf) (pair : IsPairFor b o leaf) (some :
       )
 
   module _ (box : List Interval) (low : End)
-      (ends : (r : Rule) → rule_at b leaf.rule ≡ Some r → IsEndOfRule b box r false low) where
-    named_end : IsEndOfRule b box named_rule.0 false low
+      (ends : (r : Rule) → rule_at b leaf.rule ≡ Some r → IsEndOfRule b box r Low low) where
+    named_end : IsEndOfRule b box named_rule.0 Low low
     named_end = ends named_rule.0 named_rule.1
 
     pub IsRatio-low : IsRatio 10000000000000000 low.truth
@@ -318,29 +319,29 @@ module _ (b : Block) (o : ℕ) (leaf : Leaf) (pair : IsPairFor b o leaf) (some :
 
 -- ---- Bounds
 
-module _ (b : Block) (t : BoxTable) (o : ℕ) (x : Output) (h : ℕ) (leaf : Leaf) (n : ℕ) (valid : IsValid b)
-    (table : IsTable b t) (found : output_at b o ≡ Some x) where
+module _ (b : Block) (box : List Interval) (o : ℕ) (x : Output) (h : ℕ) (leaf : Leaf) (n : ℕ) (valid : IsValid b)
+    (intervals : IsBox box) (found : output_at b o ≡ Some x) where
   abbrev sum_of_errors : ℕ
-  sum_of_errors = errors_from b (term_errors b t.bytes.0.items) o 1 x.singletons
+  sum_of_errors = errors_from b (term_errors b box) o 1 x.singletons
 
   -- by the errors of the box's terms
-  IsBound-term_errors : n ≡ bound b (term_errors b t.bytes.0.items) o x h leaf
-      → IfSome (output_at b o) (λ y. IsBound b t.bytes.0.items o y h leaf n)
+  IsBound-term_errors : n ≡ bound b (term_errors b box) o x h leaf
+      → IfSome (output_at b o) (λ y. IsBound b box o y h leaf n)
   IsBound-term_errors is =
-      let bounds : IsBound b t.bytes.0.items o x h leaf n = record {
-        errors = term_errors b t.bytes.0.items;
-        are_errors = term_errors-are b t.bytes.0.items valid table.box_is.intervals;
+      let bounds : IsBound b box o x h leaf n = record {
+        errors = term_errors b box;
+        are_errors = term_errors-are b box valid intervals;
         is = is;
       } in
       rw found bounds
 
   pub IsBound-silent : leaf.k ≡ 0 → n ≡ silent_bound x
-      → IfSome (output_at b o) (λ y. IsBound b t.bytes.0.items o y h leaf n)
+      → IfSome (output_at b o) (λ y. IsBound b box o y h leaf n)
   IsBound-silent none is = IsBound-term_errors (is ∙ sym (bound_silent x h leaf.k sum_of_errors none))
 
   pub IsBound-strong : (sum : ℕ) → (leaf.k ≡ 0 → ⊥)
-      → sum ≡ errors_from b (term_errors b t.bytes.0.items) o 1 x.singletons → n ≡ strong_bound x h sum leaf.k
-      → IfSome (output_at b o) (λ y. IsBound b t.bytes.0.items o y h leaf n)
+      → sum ≡ errors_from b (term_errors b box) o 1 x.singletons → n ≡ strong_bound x h sum leaf.k
+      → IfSome (output_at b o) (λ y. IsBound b box o y h leaf n)
   IsBound-strong sum some sum_is is = IsBound-term_errors (is ∙ ap (λ s. strong_bound x h s leaf.k) sum_is
       ∙ sym (bound_strong x h leaf.k sum_of_errors (some_part leaf.k some)))
 
@@ -360,7 +361,7 @@ module _ (b : Block) (box : List Interval) (o n : ℕ) (r : Rule) (found : slice
   candidate-rule q is = let at = rule_at-next in cc
 
   -- it counts on the part of the lower end of the rule's strength
-  module _ (low : End) (end : IsEndOfRule b box r false low) (k : ℕ)
+  module _ (low : End) (end : IsEndOfRule b box r Low low) (k : ℕ)
       (part : 1 ≤ low.byte → k ≡ 255 * (value_of low.truth).num / (value_of low.truth).den) where
     part-is : 1 ≤ (rule_byte_span b box r).low → k ≡ 255 * (rule_span b box r).low.num / (rule_span b box r).low.den
     part-is some = part (subst (λ m. 1 ≤ m) (sym end.byte) some)

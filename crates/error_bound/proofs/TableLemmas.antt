@@ -10,12 +10,13 @@ use Rattle.fuzzy_meaning.specs.{declared.block.Input.Input, declared.block.Rule.
 use Rattle.fuzzy_meaning.specs.Meaning.{weight_of}
 use Rattle.byte_scaling.specs.Weights.{weight_byte_of}
 use Rattle.fz_list.proofs.Algebra.{IsSomeAnd-some, IsSomeAnd-within, some_at, slice_get-set_same}
-use Rattle.error_bound.specs.Reaches.{AreTermCells, AreInputCells, AreBoxTerms, IsReachOfTerm, IsReachOfLiteral}
+use Rattle.error_bound.specs.Reaches.{AreTermCells, AreInputCells, AreRows, IsReachOfTerm, IsReachOfLiteral}
 use Rattle.error_bound.specs.Boxes.{literal_span, literal_byte_span, rule_span, rule_byte_span}
 use Rattle.error_bound.specs.Reaches.{IsEndOfCondition, IsEndOfRule, AreInputReaches}
 use Rattle.error_bound.specs.{Flattening.IsSame, Flattening.AreSame, Flattening.ReachesAlike, declared.ends.End.End}
 use Rattle.error_bound.specs.{declared.tables.InputCells.InputCells, declared.cells.TermCells.TermCells}
-use Rattle.error_bound.specs.{Spans.Span, Spans.span, Spans.byte_span, Spans.end_of, declared.tables.BoxTerms.BoxTerms}
+use Rattle.error_bound.specs.{Spans.Span, Spans.span, Spans.byte_span, Spans.end_of, declared.ends.Side.Side}
+use Rattle.error_bound.specs.declared.ends.Side.TheVariants.{Low, High}
 use Rattle.error_bound.specs.{declared.boxes.Interval.Interval, declared.reaches.Reach.Reach, declared.tables.Row.Row}
 use Rattle.error_bound.specs.Ratios.{value_of, IsRatio}
 use Rattle.error_bound.proofs.{FlatteningLemmas.span_to_itself, RuleLemmas.times_same}
@@ -45,60 +46,59 @@ as_literal b box i t x term v r ex et ev h =
       small = h.small;
     }
 
-pub literal_reach : (b : Block) (terms : BoxTerms) (i t : ℕ) (row : Row) (reach : Reach) → HasTerm b i t
-    → AreBoxTerms b terms → (r : Reach) × (get_or (get_or terms.rows (i - 1) row).reaches (t - 1) reach ≡ r)
-    × IsReachOfLiteral b terms.bytes.0.items i t r
-literal_reach b terms i t row reach has table =
+pub literal_reach : (b : Block) (box : List Interval) (rows : List Row) (i t : ℕ) (row : Row) (reach : Reach)
+    → HasTerm b i t → length box ≡ length b.inputs → AreRows b box rows
+    → (r : Reach) × (get_or (get_or rows (i - 1) row).reaches (t - 1) reach ≡ r) × IsReachOfLiteral b box i t r
+literal_reach b box rows i t row reach has count each =
     let x = some_at b.inputs (i - 1) (IsSomeAnd-within (λ x. t ≤ length x.terms) b.inputs (i - 1) has.term_to) in
     let few = IsSomeAnd-some (λ x. t ≤ length x.terms) (input_at b i) x.0 x.1 has.term_to in
     let from = has.term_from in
-    let count = table.count in
     let in_inputs : i - 1 < length b.inputs = IsSomeAnd-within (λ x. t ≤ length x.terms) b.inputs (i - 1) has.term_to in
     let term = some_at x.0.terms (t - 1) (omega arith) in
-    let v = some_at terms.bytes.0.items (i - 1) (omega arith) in
-    let found = table.each (i - 1) x.0 x.1 in
+    let v = some_at box (i - 1) (omega arith) in
+    let found = each (i - 1) x.0 x.1 in
     let here = found.2 v.0 v.1 (t - 1) term.0 term.1 in (
       here.0,
-      ap (λ (w : Row). get_or w.reaches (t - 1) reach) (get_or_from_slice_get terms.rows (i - 1) found.0 row found.1)
+      ap (λ (w : Row). get_or w.reaches (t - 1) reach) (get_or_from_slice_get rows (i - 1) found.0 row found.1)
           ∙ get_or_from_slice_get found.0.reaches (t - 1) here.0 reach here.1,
-      as_literal b terms.bytes.0.items i t x.0 term.0 v.0 here.0 x.1 term.1 v.1 here.2,
+      as_literal b box i t x.0 term.0 v.0 here.0 x.1 term.1 v.1 here.2,
     )
 
 -- of a rule by a condition that reaches as far as its own
-same_ends : (upper : Bool) (s r : Span Fraction) → AreSame IsSame s r → IsSame (end_of upper s) (end_of upper r)
-same_ends true s r h = h.high
-same_ends false s r h = h.low
+same_ends : (side : Side) (s r : Span Fraction) → AreSame IsSame s r → IsSame (end_of side s) (end_of side r)
+same_ends High s r h = h.high
+same_ends Low s r h = h.low
 
-end_of_rule_span : (b : Block) (box : List Interval) (r : Rule) (upper : Bool)
-    → end_of upper (rule_span b box r) ≡ times (end_of upper (span (literal_span b box) r.cond))
+end_of_rule_span : (b : Block) (box : List Interval) (r : Rule) (side : Side)
+    → end_of side (rule_span b box r) ≡ times (end_of side (span (literal_span b box) r.cond))
     (weight_of r.weight)
-end_of_rule_span b box r true = refl
-end_of_rule_span b box r false = refl
+end_of_rule_span b box r High = refl
+end_of_rule_span b box r Low = refl
 
-end_of_rule_bytes : (b : Block) (box : List Interval) (r : Rule) (upper : Bool)
-    → end_of upper (rule_byte_span b box r) ≡ end_of upper
+end_of_rule_bytes : (b : Block) (box : List Interval) (r : Rule) (side : Side)
+    → end_of side (rule_byte_span b box r) ≡ end_of side
     (byte_span (literal_byte_span b box) r.cond) * (weight_byte_of r.weight + 1) / 256
-end_of_rule_bytes b box r true = refl
-end_of_rule_bytes b box r false = refl
+end_of_rule_bytes b box r High = refl
+end_of_rule_bytes b box r Low = refl
 
-pub end_weighted : (b : Block) (box : List Interval) (r : Rule) (upper : Bool) (d : Condition) (e f : End) (w : ℕ)
+pub end_weighted : (b : Block) (box : List Interval) (r : Rule) (side : Side) (d : Condition) (e f : End) (w : ℕ)
     → ReachesAlike b r.cond d
-    → IsEndOfCondition b box d upper e → w ≡ weight_of r.weight → value_of f.truth ≡ times (value_of e.truth) w
+    → IsEndOfCondition b box d side e → w ≡ weight_of r.weight → value_of f.truth ≡ times (value_of e.truth) w
     → f.byte ≡ e.byte * (weight_byte_of r.weight + 1) / 256 → IsRatio 10000000000000000 f.truth
-    → IsEndOfRule b box r upper f
-end_weighted b box r upper d e f w alike h weight value byte small =
+    → IsEndOfRule b box r side f
+end_weighted b box r side d e f w alike h weight value byte small =
     let s = span (literal_span b box) r.cond in
     let s' = span (literal_span b box) d in
-    let same : IsSame (value_of e.truth) (end_of upper s) =
-    subst (λ x. IsSame x (end_of upper s)) (sym h.value) (same_ends upper s' s (alike.spans box)) in
-    let scaled : IsSame (times (value_of e.truth) w) (times (end_of upper s) (weight_of r.weight)) =
-    subst (λ v. IsSame (times (value_of e.truth) v) (times (end_of upper s) (weight_of r.weight))) (sym weight)
-    (times_same (value_of e.truth) (end_of upper s) (weight_of r.weight) same) in
+    let same : IsSame (value_of e.truth) (end_of side s) =
+    subst (λ x. IsSame x (end_of side s)) (sym h.value) (same_ends side s' s (alike.spans box)) in
+    let scaled : IsSame (times (value_of e.truth) w) (times (end_of side s) (weight_of r.weight)) =
+    subst (λ v. IsSame (times (value_of e.truth) v) (times (end_of side s) (weight_of r.weight))) (sym weight)
+    (times_same (value_of e.truth) (end_of side s) (weight_of r.weight) same) in
     record {
-      value = subst (λ x. IsSame x (end_of upper (rule_span b box r))) (sym value)
-          (subst (λ x. IsSame (times (value_of e.truth) w) x) (sym (end_of_rule_span b box r upper)) scaled);
+      value = subst (λ x. IsSame x (end_of side (rule_span b box r))) (sym value)
+          (subst (λ x. IsSame (times (value_of e.truth) w) x) (sym (end_of_rule_span b box r side)) scaled);
       byte = byte ∙ ap (λ n. n * (weight_byte_of r.weight + 1) / 256)
-          (h.byte ∙ ap (end_of upper) (alike.byte_spans box)) ∙ sym (end_of_rule_bytes b box r upper);
+          (h.byte ∙ ap (end_of side) (alike.byte_spans box)) ∙ sym (end_of_rule_bytes b box r side);
       small = small;
     }
 
@@ -149,43 +149,37 @@ alike_all (x ∷ xs) (y ∷ ys) count alike =
 
 -- ---- rows
 
-module _ (b : Block) (old new : BoxTerms) (i : ℕ) (x : Input) (v : Interval) (row : Row) (before : AreBoxTerms b old)
+module _ (b : Block) (box new_box : List Interval) (rows new_rows : List Row) (i : ℕ) (x : Input) (v : Interval)
+    (row : Row) (count : length box ≡ length b.inputs) (before : AreRows b box rows)
     (input : slice_get b.inputs i ≡ Some x) (made : AreInputReaches x v row.reaches)
-    (bytes : new.bytes.0.items ≡ slice_set old.bytes.0.items i v) (rows : new.rows ≡ slice_set old.rows i row) where
+    (bytes_are : new_box ≡ slice_set box i v) (rows_are : new_rows ≡ slice_set rows i row) where
   abbrev HasRow : ℕ → Input → Type 0
-  HasRow k y = (r : Row) × (slice_get new.rows k ≡ Some r)
-      × ((u : Interval) → slice_get new.bytes.0.items k ≡ Some u → AreInputReaches y u r.reaches)
-
-  in_inputs : i < length b.inputs
-  in_inputs = slice_get_within b.inputs i x input
+  HasRow k y = (r : Row) × (slice_get new_rows k ≡ Some r)
+      × ((u : Interval) → slice_get new_box k ≡ Some u → AreInputReaches y u r.reaches)
 
   here : HasRow i x
   here =
-      let q = before.each i x input in
-      let count = before.count in
-      let inside = in_inputs in
-      let there : slice_get new.bytes.0.items i ≡ Some v = ap (λ vs. slice_get vs i) bytes
-      ∙ slice_get-set_same old.bytes.0.items i v (omega arith) in (
+      let q = before i x input in
+      let inside = slice_get_within b.inputs i x input in
+      let there : slice_get new_box i ≡ Some v = ap (λ vs. slice_get vs i) bytes_are
+      ∙ slice_get-set_same box i v (omega arith) in (
         row,
-        ap (λ rs. slice_get rs i) rows ∙ slice_get-set_same old.rows i row (slice_get_within old.rows i q.0 q.1),
+        ap (λ rs. slice_get rs i) rows_are ∙ slice_get-set_same rows i row (slice_get_within rows i q.0 q.1),
         λ u e. let same : v ≡ u = cc in subst (λ w. AreInputReaches x w row.reaches) same made,
       )
 
   elsewhere : (k : ℕ) (y : Input) → slice_get b.inputs k ≡ Some y → (k ≡ i → ⊥) → HasRow k y
   elsewhere k y e apart =
-      let q = before.each k y e in (
+      let q = before k y e in (
         q.0,
-        ap (λ rs. slice_get rs k) rows ∙ slice_get-set_apart old.rows i k row apart ∙ q.1,
-        λ u eu. q.2 u (sym (slice_get-set_apart old.bytes.0.items i k v apart)
-            ∙ ap (λ vs. slice_get vs k) (sym bytes) ∙ eu),
+        ap (λ rs. slice_get rs k) rows_are ∙ slice_get-set_apart rows i k row apart ∙ q.1,
+        λ u eu. q.2 u (sym (slice_get-set_apart box i k v apart)
+            ∙ ap (λ vs. slice_get vs k) (sym bytes_are) ∙ eu),
       )
 
-  pub AreBoxTerms-moved : AreBoxTerms b new
-  AreBoxTerms-moved = record {
-    count = (let same = ap length bytes in let count = before.count in omega (arith, length-set {A = Interval}));
-    each = λ k y e. ⊎_elim
-        (λ (same : k ≡ i). let input_same : x ≡ y = cc in
-        subst (λ z. HasRow k z) input_same (subst (λ j. HasRow j x) (sym same) here))
-        (λ (apart : k ≡ i → ⊥). elsewhere k y e apart)
-        (cases_eq k i);
-  }
+  pub AreRows-moved : AreRows b new_box new_rows
+  AreRows-moved k y e = ⊎_elim
+      (λ (same : k ≡ i). let input_same : x ≡ y = cc in
+      subst (λ z. HasRow k z) input_same (subst (λ j. HasRow j x) (sym same) here))
+      (λ (apart : k ≡ i → ⊥). elsewhere k y e apart)
+      (cases_eq k i)

@@ -26,6 +26,7 @@ use Rattle.error_bound.specs.Masses.{AreGreatest, AreMasses, AreDeviations, sum_
 use Rattle.error_bound.specs.Masses.{byte_ranges_at, deviations_of, scale_at, IsBoundAt}
 use Rattle.error_bound.specs.Bounds.{offset, silent_bound, errors_from}
 use Rattle.error_bound.specs.{TightLaws.TightBoundsHoldInside, TightLaws.TightBoundsFallWithParts, Reaches.IsEndOfRule}
+use Rattle.error_bound.specs.declared.ends.Side.TheVariants.{Low, High}
 use Rattle.error_bound.specs.{Leaves.Holds, Leaves.strong, Leaves.silent, Leaves.concludes_some, declared.ends.End.End}
 use Rattle.error_bound.specs.{Boxes.rule_span, Boxes.rule_byte_span, Boxes.IsBox, declared.boxes.Interval.Interval}
 use Rattle.error_bound.specs.Errors.{billion, AreTermErrors, rule_rise, rule_fall}
@@ -550,7 +551,7 @@ pub back_same : (f g : Fraction) → IsSame f g → IsSame g f
 back_same f g s = record { left = s.right; right = s.left; below = s.above; above = s.below }
 
 -- whether a rule is still, by its upper end
-pub still-same : (b : Block) (box : List Interval) (r : Rule) (high : End) → IsEndOfRule b box r true high
+pub still-same : (b : Block) (box : List Interval) (r : Rule) (high : End) → IsEndOfRule b box r High high
     → (((value_of high.truth).num == 0) && (high.byte == 0)) ≡ is_still b box r
 still-same b box r high end =
     ap₂ (λ c d. c && d)
@@ -560,7 +561,7 @@ still-same b box r high end =
     (back_same (value_of high.truth) (rule_span b box r).high end.value)))
     (ap (λ n. n == 0) end.byte)
 
-pub low_part-end : (b : Block) (box : List Interval) (r : Rule) (low : End) → IsEndOfRule b box r false low
+pub low_part-end : (b : Block) (box : List Interval) (r : Rule) (low : End) → IsEndOfRule b box r Low low
     → 255000000000 * (value_of low.truth).num / (value_of low.truth).den ≡ low_part b box r
 low_part-end b box r low end = low_part-same (value_of low.truth) (rule_span b box r).low end.value
 
@@ -574,7 +575,7 @@ up-mono c f g pf pg l =
     let a3 : (c * f.num) * g.den ≤ (e * f.den) * g.den = omega arith in
     up_div-le (c * f.num) f.den e pf.pos (le_of_mul-le-mul_right a3 pg.pos)
 
-pub high_part-end : (b : Block) (box : List Interval) (r : Rule) (high : End) → IsEndOfRule b box r true high
+pub high_part-end : (b : Block) (box : List Interval) (r : Rule) (high : End) → IsEndOfRule b box r High high
     → up_div (255000000000 * (value_of high.truth).num) (value_of high.truth).den ≡ high_part b box r
 high_part-end b box r high end =
     let f = value_of high.truth in

@@ -1,13 +1,20 @@
 -- Conditions in which NOT stands at literals alone, no AND right in an AND and no OR right in an OR. They say the same
 -- over each box.
 -- Beside the promise.
-use Rattle.std.specs.Prelude.{◌≡◌, ℕ, Bool, false, List, if◌then◌else◌}
+use Rattle.std.specs.Prelude.{◌≡◌, ℕ, Bool, true, false, List, if◌then◌else◌}
 use Rattle.fz_num.specs.Fractions.{Fraction, IsProper, AtMost}
 use Rattle.fuzzy_meaning.specs.{declared.block.Block.Block, Blocks.IsValidCondition}
 use Rattle.fuzzy_meaning.specs.Conditions.{Condition, is, negation, all, any, Conditions, end, also, group, under}
 use Rattle.fuzzy_meaning.specs.Conditions.{Joins, evaluate_pushed, evaluate_pushed_parts}
+use Rattle.error_bound.specs.declared.{flattening.Group.Group, flattening.Group.TheVariants.Any}
+use Rattle.error_bound.specs.declared.flattening.Group.TheVariants.{All}
 use Rattle.error_bound.specs.{declared.boxes.Interval.Interval, Boxes.literal_span, Boxes.literal_byte_span}
 use Rattle.error_bound.specs.Spans.{Span, span, byte_span, deviation}
+
+-- whether a group is an OR
+abbrev pub is_any : Group → Bool
+is_any Any = true
+is_any All = false
 
 -- the second behind the first
 abbrev pub followed : Conditions → Conditions → Conditions

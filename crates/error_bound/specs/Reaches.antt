@@ -1,15 +1,17 @@
 -- What the code's reaches stand for.
 -- Beside the promise.
-use Rattle.std.specs.Prelude.{◌≡◌, ℕ, ◌≤◌, Bool, List, length, IfSome, Some, slice_get, slice_index}
+use Rattle.std.specs.Prelude.{◌≡◌, ℕ, ◌≤◌, List, IfSome, Some, slice_get, slice_index}
 use Rattle.fz_num.specs.{Decimals.distance, Fractions.Fraction}
 use Rattle.fuzzy_meaning.specs.{declared.block.Block.Block, declared.block.Input.Input, declared.block.Rule.Rule}
 use Rattle.fuzzy_meaning.specs.{declared.block.Trapezoid.Trapezoid, Conditions.Condition, Places.points_of}
+use Rattle.fuzzy_meaning.specs.Blocks.{IsValid}
+use Rattle.byte_scaling.specs.Widths.{parts}
 use Rattle.point_slope.specs.Tables.{row_of, grade_of}
 use Rattle.cell_error.specs.{declared.ranges.Deviation.Deviation, Means.IsSmallDeviation}
 use Rattle.error_bound.specs.declared.{boxes.Interval.Interval, cells.TermCells.TermCells, degrees.Degrees.Degrees}
 use Rattle.error_bound.specs.declared.{ends.End.End, reaches.Reach.Reach, tables.InputCells.InputCells}
-use Rattle.error_bound.specs.declared.{tables.BlockTable.BlockTable, tables.Row.Row, tables.BoxTerms.BoxTerms}
-use Rattle.error_bound.specs.declared.rules.BoxTable.{BoxTable}
+use Rattle.error_bound.specs.declared.{tables.BlockTable.BlockTable, tables.BoxTable.BoxTable, tables.Kept.Kept}
+use Rattle.error_bound.specs.declared.{tables.Row.Row, ends.Side.Side}
 use Rattle.error_bound.specs.{Ratios.value_of, Ratios.IsRatio, Spans.Span, Spans.span, Spans.byte_span, Spans.end_of}
 use Rattle.error_bound.specs.Boxes.{IsBoxOf, degrees_over, grades_over, literal_span, literal_byte_span, rule_span}
 use Rattle.error_bound.specs.Boxes.{rule_byte_span}
@@ -64,10 +66,15 @@ HasAlike b r k conds = (c : Condition) × (slice_get conds k ≡ Some c) × Reac
 abbrev pub AreRuleConditions : Block → List Condition → Type 0
 AreRuleConditions b conds = (k : ℕ) (r : Rule) → slice_get b.rules k ≡ Some r → HasAlike b r k conds
 
--- what boxes need of a block
-pub record IsBlockTable (b : Block) (table : BlockTable) : Type 0 where
-  pub inputs : AreAllCells b table.inputs.items
-  pub conditions : AreRuleConditions b table.conditions.items
+-- what is kept of a block
+pub record IsKept (b : Block) (kept : Kept) : Type 0 where
+  pub inputs : AreAllCells b kept.inputs.items
+  pub conditions : AreRuleConditions b kept.conditions.items
+
+-- what boxes need of their block, which is valid
+pub record IsBlockTable (table : BlockTable) : Type 0 where
+  pub valid : IsValid table.block.now
+  pub kept : IfSome table.kept (IsKept table.block.now)
 
 -- fractions of small denominators
 pub record AreTruths (d : Degrees) : Type 0 where
@@ -92,11 +99,11 @@ AreInputReaches x v rs =
     → (r : Reach) × (slice_get rs t ≡ Some r) × IsReachOfTerm x term v r
 
 -- of all inputs' terms over a box
-pub record AreBoxTerms (b : Block) (terms : BoxTerms) : Type 0 where
-  pub count : length terms.bytes.0.items ≡ length b.inputs
-  pub each : (i : ℕ) (x : Input) → slice_get b.inputs i ≡ Some x
-      → (r : Row) × (slice_get terms.rows i ≡ Some r)
-      × ((v : Interval) → slice_get terms.bytes.0.items i ≡ Some v → AreInputReaches x v r.reaches)
+abbrev pub AreRows : Block → List Interval → List Row → Type 0
+AreRows b box rows =
+    (i : ℕ) (x : Input) → slice_get b.inputs i ≡ Some x
+    → (r : Row) × (slice_get rows i ≡ Some r)
+    × ((v : Interval) → slice_get box i ≡ Some v → AreInputReaches x v r.reaches)
 
 -- the reach of a literal over a box
 pub record IsReachOfLiteral (b : Block) (box : List Interval) (i t : ℕ) (r : Reach) : Type 0 where
@@ -105,10 +112,10 @@ pub record IsReachOfLiteral (b : Block) (box : List Interval) (i t : ℕ) (r : R
   pub deviation : fall_to_rise r.deviation ≡ term_errors b box i t
   pub small : IsSmall r
 
--- an end of the reach of a condition, the upper one or the lower
-pub record IsEndOfCondition (b : Block) (box : List Interval) (c : Condition) (upper : Bool) (e : End) : Type 0 where
-  pub value : value_of e.truth ≡ end_of upper (span (literal_span b box) c)
-  pub byte : e.byte ≡ end_of upper (byte_span (literal_byte_span b box) c)
+-- an end of the reach of a condition
+pub record IsEndOfCondition (b : Block) (box : List Interval) (c : Condition) (side : Side) (e : End) : Type 0 where
+  pub value : value_of e.truth ≡ end_of side (span (literal_span b box) c)
+  pub byte : e.byte ≡ end_of side (byte_span (literal_byte_span b box) c)
   pub small : IsRatio 1000000000000 e.truth
 
 -- a condition is true nowhere, over bytes neither
@@ -117,9 +124,9 @@ pub record IsNowhere (b : Block) (box : List Interval) (c : Condition) : Type 0 
   pub byte_high : (byte_span (literal_byte_span b box) c).high ≡ 0
 
 -- of the reach of a rule's strength
-pub record IsEndOfRule (b : Block) (box : List Interval) (r : Rule) (upper : Bool) (e : End) : Type 0 where
-  pub value : IsSame (value_of e.truth) (end_of upper (rule_span b box r))
-  pub byte : e.byte ≡ end_of upper (rule_byte_span b box r)
+pub record IsEndOfRule (b : Block) (box : List Interval) (r : Rule) (side : Side) (e : End) : Type 0 where
+  pub value : IsSame (value_of e.truth) (end_of side (rule_span b box r))
+  pub byte : e.byte ≡ end_of side (rule_byte_span b box r)
   pub small : IsRatio 10000000000000000 e.truth
 
 -- how far a condition's truth may be above that over bytes, and below
@@ -138,9 +145,25 @@ pub record IsErrorOfRule (b : Block) (box : List Interval) (r : Rule) (e : ℕ) 
   pub value : e ≡ rule_error (term_errors b box) r
   pub small : e ≤ 3000000000
 
+-- ---- the table of a box
+
+abbrev pub block_of : BoxTable → Block
+block_of t = t.table.now.block.now
+
+abbrev pub box_of : BoxTable → List Interval
+box_of t = t.bytes.0.items
+
+-- in how many parts of a byte its block's answers come
+abbrev pub parts_of : BoxTable → ℕ
+parts_of t = parts t.table.now.width
+
 -- what leaves need of a box
-pub record IsTable (b : Block) (t : BoxTable) : Type 0 where
-  pub box_is : IsBoxOf b t.bytes.0.items
-  pub same_box : t.terms.bytes.0.items ≡ t.bytes.0.items
-  pub terms : AreBoxTerms b t.terms
-  pub kept : IfSome t.kept (λ table. IsBlockTable b table.now)
+pub record IsTable (t : BoxTable) : Type 0 where
+  pub table : IsBlockTable t.table.now
+  pub box_is : IsBoxOf (block_of t) (box_of t)
+  pub rows : AreRows (block_of t) (box_of t) t.rows
+
+-- of a box of this table's block
+pub record IsTableOf (table : BlockTable) (t : BoxTable) : Type 0 where
+  pub is_table : IsTable t
+  pub over : t.table.now ≡ table

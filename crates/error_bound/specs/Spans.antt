@@ -1,9 +1,10 @@
 -- From the least to the greatest truth of conditions, where spans of the literals are given.
 -- Beside the promise.
-use Rattle.std.specs.Prelude.{ℕ, ◌-◌, max, Bool, true, false}
+use Rattle.std.specs.Prelude.{ℕ, ◌-◌, max}
 use Rattle.fz_num.specs.Fractions.{Fraction, one_minus}
 use Rattle.fuzzy_meaning.specs.Conditions.{Condition, Joins, evaluate, levels}
 use Rattle.fuzzy_meaning.specs.Meaning.{truths}
+use Rattle.error_bound.specs.declared.{ends.Side.Side, ends.Side.TheVariants.Low, ends.Side.TheVariants.High}
 
 -- from the least of some values to the greatest
 pub record Span (A : Type 0) : Type 0 where
@@ -13,10 +14,14 @@ pub record Span (A : Type 0) : Type 0 where
 abbrev pub only : {A : Type 0} → A → Span A
 only a = record { low = a; high = a }
 
--- the greatest, or the least
-abbrev pub end_of : {A : Type 0} → Bool → Span A → A
-end_of true s = s.high
-end_of false s = s.low
+-- the least, or the greatest
+abbrev pub end_of : {A : Type 0} → Side → Span A → A
+end_of Low s = s.low
+end_of High s = s.high
+
+abbrev pub other : Side → Side
+other Low = High
+other High = Low
 
 -- by an operation that turns the order of values
 abbrev pub reversed : {A : Type 0} → (A → A) → Span A → Span A

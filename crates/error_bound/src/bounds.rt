@@ -1,31 +1,31 @@
 //! The Bound of a leaf.
-ghost use Rattle.std.specs.Prelude.{◌≡◌, ◌≤◌, ◌<◌, ◌+◌, ◌*◌, ℕ, min, max, All, slice_index, if◌then◌else◌};
+ghost use Rattle.std.specs.Prelude.{◌≡◌, ◌≤◌, ◌<◌, ◌+◌, ◌*◌, min, max, All, slice_index, if◌then◌else◌, ℕ};
 ghost use Rattle.fz_num.specs.{Fractions.up_div, Decimals.distance};
-ghost use Rattle.fuzzy_meaning.specs.Blocks.{IsValid, IsValidOutput, IsWithin};
+ghost use Rattle.byte_scaling.specs.Widths.{parts};
+ghost use Rattle.fuzzy_meaning.specs.Blocks.{IsValidOutput, IsWithin};
 ghost use Rattle.fuzzy_meaning.specs.Meaning.{concludes as concludes_it};
 ghost use Rattle.error_bound.specs.Bounds.{offset as offset_of, greatest_offset as greatest_offset_of};
 ghost use Rattle.error_bound.specs.Bounds.{strong_bound as strong_bound_of, silent_bound as silent_bound_of};
 ghost use Rattle.error_bound.specs.Bounds.{errors_from};
 ghost use Rattle.error_bound.specs.{CellErrors.term_errors, Errors.output_error as output_error_of, Reaches.IsTable};
+ghost use Rattle.error_bound.specs.Reaches.{block_of, box_of};
 
 use crate::leaves::concludes_some;
-use crate::rules::BoxTable;
-use byte_scaling::near;
-use fuzzy_meaning::{Block, Output, Rule};
+use crate::tables::BoxTable;
+use byte_scaling::{Width, near};
+use fuzzy_meaning::{Output, Rule};
 use fz_num::Dec;
 
-/// The Bound of a strong leaf, in millionths of the output's range, for answers with `parts` parts to
-/// a byte, from the sum of its terms' errors and the leaf's `k`.
-pub(crate) fn strong_bound(output: &Output, parts: u16, sum: u64, k: u8) -> u32
+/// The Bound of a strong leaf, in millionths of the output's range, for answers of this width, from the sum of its
+/// terms' errors and the leaf's `k`.
+pub(crate) fn strong_bound(output: &Output, width: Width, sum: u64, k: u8) -> u32
     requires output { IsValidOutput output.now }
-    requires parts_from { 1 ≤ parts }
-    requires parts_to { parts ≤ 256 }
     requires sum { sum ≤ 45000000000 }
     requires k { 1 ≤ k }
-    ensures { result ≡ strong_bound_of output.now parts sum k }
+    ensures { result ≡ strong_bound_of output.now (parts width) sum k }
 {
     let bytes = whole_bytes(output);
-    let steps = 255 * u64::from(parts);
+    let steps = 255 * u64::from(width.parts());
     let offset = greatest_offset(output);
     let ends = offset * steps + bytes;
     let counted = 1_000_000_000 * u64::from(k);
@@ -103,15 +103,15 @@ fn greatest_offset(output: &Output) -> u64
 
 impl BoxTable<'_> {
     /// The sum of the errors of an output's terms, in parts of 10^9.
-    pub(crate) fn sum_of_errors(&self, block: &Block, output: &Output, out: u8) -> u64
-        requires table { IsTable block.now self.now }
-        requires block { IsValid block.now }
+    pub(crate) fn sum_of_errors(&self, output: &Output, out: u8) -> u64
+        requires table { IsTable self.now }
         requires output { IsValidOutput output.now }
         ensures value { result
-            ≡ errors_from block.now (term_errors block.now self.now.bytes.0.items) out 1 output.now.singletons }
+            ≡ errors_from (block_of self.now) (term_errors (block_of self.now) (box_of self.now)) out 1
+            output.now.singletons }
         ensures small { result ≤ 45000000000 }
     {
-        let errors = self.errors_by_term(block, out);
+        let errors = self.errors_by_term(out);
         let mut sum = 0;
         for k in (0..output.singletons.len()).rev() {
             sum = errors[k] + sum;
@@ -120,18 +120,17 @@ impl BoxTable<'_> {
     }
 
     /// The errors of an output's terms, in order: each is the greatest of the rules that conclude the term.
-    fn errors_by_term(&self, block: &Block, out: u8) -> [u64; 15]
-        requires table { IsTable block.now self.now }
-        requires block { IsValid block.now }
+    fn errors_by_term(&self, out: u8) -> [u64; 15]
+        requires table { IsTable self.now }
         ensures value { (t : ℕ) → t < 15 → slice_index result t
-            ≡ output_error_of block.now (term_errors block.now self.now.bytes.0.items) out (t + 1) }
+            ≡ output_error_of (block_of self.now) (term_errors (block_of self.now) (box_of self.now)) out (t + 1) }
         ensures small { (t : ℕ) → t < 15 → slice_index result t ≤ 3000000000 }
     {
         let mut errors = [0; 15];
-        let rules = block.rules.as_slice();
+        let rules = self.table.block.rules.as_slice();
         for n in (0..rules.len()).rev() {
             if concludes_some(&rules[n], out) {
-                let error = self.error_of_rule(block, n);
+                let error = self.error_of_rule(n);
                 raise_terms(&mut errors, &rules[n], out, error);
             }
         }

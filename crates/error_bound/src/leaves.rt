@@ -1,19 +1,20 @@
 //! Leaves: whether one holds on a box, and with which Bound.
-ghost use Rattle.std.specs.Prelude.{◌≡◌, ◌↔◌, ◌≤◌, ◌<◌, ◌*◌, ◌/◌, ℕ, IsTrue, IfOk, IfErr, OnOk, All, IfSome, IfNone};
+ghost use Rattle.std.specs.Prelude.{◌≡◌, ◌↔◌, ◌≤◌, ◌<◌, ◌*◌, ℕ, IsTrue, IfOk, IfErr, OnOk, All, IfSome, IfNone};
 ghost use Rattle.std.specs.Prelude.{Some, length};
 ghost use Rattle.fz_num.specs.Fractions.{over, AtMost};
-ghost use Rattle.fuzzy_meaning.specs.declared.block.Rule.{Rule as TheRule};
 ghost use Rattle.fuzzy_meaning.specs.Blocks.{IsValid, IsValidOutput, output_at};
 ghost use Rattle.fuzzy_meaning.specs.Meaning.{concludes as concludes_it};
-ghost use Rattle.error_bound.specs.{Boxes.IsBoxOf, Bounds.IsBound, Spans.only, Reaches.IsTable};
+ghost use Rattle.error_bound.specs.{Boxes.IsBoxOf, Best.silent_leaf, Bounds.IsBound, Spans.only, Reaches.IsTable};
 ghost use Rattle.error_bound.specs.Faults.{HasLeafFault, IsStrongFault, IsSilentFault};
-ghost use Rattle.error_bound.specs.Leaves.{rule_at, Holds, IsStill, concludes_some as concludes_any, IsPairFor};
+ghost use Rattle.error_bound.specs.Leaves.{Holds, IsStill, concludes_some as concludes_any, IsPairFor};
 ghost use Rattle.error_bound.specs.Ratios.{value_of, IsRatio};
+ghost use Rattle.error_bound.specs.Reaches.{block_of, box_of, parts_of};
 
 use crate::bounds::{silent_bound, strong_bound};
 use crate::boxes::{ByteBox, Leaf, LeafFault};
-use crate::ends::End;
-use crate::rules::BoxTable;
+use crate::ends::{End, Side};
+use crate::tables::{BlockTable, BoxTable};
+use byte_scaling::Width;
 use fuzzy_meaning::{Block, Output, Rule};
 
 /// An output of a block, counted from 1.
@@ -40,7 +41,7 @@ pub fn leaf_bound(block: &Block, bytes: &ByteBox, leaf: &Leaf, out: u8) -> Resul
         (λ x. IsBound block.now bytes.now.0.items out x 1 leaf.now n)) }
     ensures fault { IfErr result (HasLeafFault block.now bytes.now.0.items out leaf.now) }
 {
-    BoxTable::new(block, bytes.copied()).bound(block, leaf, out, 1)
+    BoxTable::over(&BlockTable::for_one_box(block, Width::Byte), bytes.copied()).bound(leaf, out)
 }
 
 /// The same for answers of 16 bits.
@@ -55,53 +56,48 @@ pub fn leaf_bound16(block: &Block, bytes: &ByteBox, leaf: &Leaf, out: u8) -> Res
         (λ x. IsBound block.now bytes.now.0.items out x 256 leaf.now n)) }
     ensures fault { IfErr result (HasLeafFault block.now bytes.now.0.items out leaf.now) }
 {
-    BoxTable::new(block, bytes.copied()).bound(block, leaf, out, 256)
+    BoxTable::over(&BlockTable::for_one_box(block, Width::Word), bytes.copied()).bound(leaf, out)
 }
 
 impl BoxTable<'_> {
-    /// The Bound of a leaf's pair for an output on the table's box, or the pair's first fault, for
-    /// answers with `parts` parts to a byte: 1 if they are bytes, 256 if they have 16 bits.
-    pub fn bound(&self, block: &Block, leaf: &Leaf, out: u8, parts: u16) -> Result<u32, LeafFault>
-        requires block { IsValid block.now }
-        requires table { IsTable block.now self.now }
+    /// The Bound of a leaf's pair for an output on the table's box, or the pair's first fault.
+    pub fn bound(&self, leaf: &Leaf, out: u8) -> Result<u32, LeafFault>
+        requires table { IsTable self.now }
         requires out_from { 1 ≤ out }
-        requires out_to { out ≤ length block.now.outputs }
-        requires pair { IsPairFor block.now out leaf.now }
-        requires parts_from { 1 ≤ parts }
-        requires parts_to { parts ≤ 256 }
-        ensures holds { OnOk result (Holds block.now self.now.bytes.0.items out leaf.now) }
-        ensures bound { IfOk result (λ n. IfSome (output_at block.now out)
-            (λ x. IsBound block.now self.now.bytes.0.items out x parts leaf.now n)) }
-        ensures fault { IfErr result (HasLeafFault block.now self.now.bytes.0.items out leaf.now) }
+        requires out_to { out ≤ length (block_of self.now).outputs }
+        requires pair { IsPairFor (block_of self.now) out leaf.now }
+        ensures holds { OnOk result (Holds (block_of self.now) (box_of self.now) out leaf.now) }
+        ensures bound { IfOk result (λ n. IfSome (output_at (block_of self.now) out)
+            (λ x. IsBound (block_of self.now) (box_of self.now) out x (parts_of self.now) leaf.now n)) }
+        ensures fault { IfErr result (HasLeafFault (block_of self.now) (box_of self.now) out leaf.now) }
     {
-        let output = output_of(block, out);
+        let output = output_of(self.table.block, out);
         if leaf.k == 0 {
-            return match self.silent_fault(block, out) {
+            return match self.silent_fault(out) {
                 Some(fault) => Err(fault),
                 None => Ok(silent_bound(output)),
             };
         }
-        let low = self.end_of_rule(block, leaf.rule as usize - 1, false);
+        let low = self.end_of_rule(leaf.rule as usize - 1, Side::Low);
         if let Some(fault) = strong_fault(low, *leaf) {
             return Err(fault);
         }
-        let sum = self.sum_of_errors(block, output, out);
-        Ok(strong_bound(output, parts, sum, leaf.k))
+        let sum = self.sum_of_errors(output, out);
+        Ok(strong_bound(output, self.table.width, sum, leaf.k))
     }
 
     /// The fault of the first rule that concludes a term of an output and whose strength is not 0 all over the box.
-    pub(crate) fn silent_fault(&self, block: &Block, out: u8) -> Option<LeafFault>
-        requires block { IsValid block.now }
-        requires table { IsTable block.now self.now }
+    pub(crate) fn silent_fault(&self, out: u8) -> Option<LeafFault>
+        requires table { IsTable self.now }
         ensures still { IfNone result (All
             (λ r. (t : ℕ) → IsTrue (concludes_it r out t)
-            → IsStill block.now self.now.bytes.0.items r) block.now.rules) }
-        ensures fault { IfSome result (HasLeafFault block.now self.now.bytes.0.items out (record { rule = 0; k = 0 })) }
+            → IsStill (block_of self.now) (box_of self.now) r) (block_of self.now).rules) }
+        ensures fault { IfSome result (HasLeafFault (block_of self.now) (box_of self.now) out silent_leaf) }
     {
-        let rules = block.rules.as_slice();
+        let rules = self.table.block.rules.as_slice();
         for n in 0..rules.len() {
-            if self.may_fire(block, n, out) {
-                let high = self.end_of_rule(block, n, true);
+            if self.may_fire(n, out) {
+                let high = self.end_of_rule(n, Side::High);
                 if let Some(fault) = firing_fault(high, n as u16 + 1) {
                     return Some(fault);
                 }

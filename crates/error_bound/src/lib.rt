@@ -30,6 +30,5 @@ pub use boxes::{ByteBox, Interval, Leaf, LeafFault};
 pub use cells::term_error;
 pub use choosing::best;
 pub use leaves::{is_pair_for, leaf_bound, leaf_bound16, output_of};
-pub use rules::BoxTable;
-pub use tables::BlockTable;
+pub use tables::{BlockTable, BoxTable};
 pub use tight::{Masses, ranges_of};

@@ -2,19 +2,20 @@
 ghost use Rattle.std.specs.Prelude.{◌≡◌, ◌≤◌, ◌<◌, ◌+◌, ◌*◌, ◌/◌, ◌≤ℤ◌, IsTrue, Some, length, pos, slice_get};
 ghost use Rattle.std.specs.Prelude.{unsigned_abs};
 ghost use Rattle.fz_num.specs.Fractions.{times};
-ghost use Rattle.fuzzy_meaning.specs.Blocks.{IsValid, IsValidCondition, AreValidConditions};
+ghost use Rattle.fuzzy_meaning.specs.Blocks.{IsValidCondition, AreValidConditions};
 ghost use Rattle.fuzzy_meaning.specs.{Conditions.all, Conditions.conditions, declared.block.Rule.Rule as TheRule};
-ghost use Rattle.error_bound.specs.{Ratios.value_of, Ratios.IsRatio, Reaches.AreBoxTerms, Reaches.IsTable};
+ghost use Rattle.error_bound.specs.{Ratios.value_of, Ratios.IsRatio, Reaches.IsTable};
 ghost use Rattle.error_bound.specs.Masses.{IsConditionWithin, IsRuleWithin};
+ghost use Rattle.error_bound.specs.Reaches.{block_of, box_of};
 
-use crate::ends::{End, end_of_literal};
+use crate::ends::{End, Side, end_of_literal};
 use crate::reaches::literal_in;
-use crate::rules::{BoxTable, condition_in, scaled};
-use crate::tables::BoxTerms;
+use crate::rules::scaled;
+use crate::tables::BoxTable;
 use crate::tight::RuleMass;
 use byte_scaling::weight_byte;
 use fuzzy_meaning::laws::parts_are_valid;
-use fuzzy_meaning::{Block, Condition, Node};
+use fuzzy_meaning::{Condition, Node};
 use fz_num::Dec;
 
 /// The mass that a truth times a weight is not to exceed; over bytes the truth is scaled by the weight's byte.
@@ -27,51 +28,49 @@ pub(crate) struct Limit {
 
 impl BoxTable<'_> {
     /// Whether one literal of the rule at an index shows that the ends of its strength are not above those of a mass.
-    pub(crate) fn is_within(&self, block: &Block, place: usize, mass: RuleMass) -> bool
-        requires block { IsValid block.now }
-        requires table { IsTable block.now self.now }
-        requires place { place < length block.now.rules }
-        ensures { IsTrue result → (r : TheRule) → slice_get block.now.rules place ≡ Some r
-            → IsRuleWithin block.now self.now.bytes.0.items r mass }
+    pub(crate) fn is_within(&self, place: usize, mass: RuleMass) -> bool
+        requires table { IsTable self.now }
+        requires place { place < length (block_of self.now).rules }
+        ensures { IsTrue result → (r : TheRule) → slice_get (block_of self.now).rules place ≡ Some r
+            → IsRuleWithin (block_of self.now) (box_of self.now) r mass }
     {
-        let rule = &block.rules.as_slice()[place];
-        let condition = condition_in(self.kept, place, rule, block);
+        let rule = &self.table.block.rules.as_slice()[place];
+        let condition = self.condition_of(place, rule);
         let limit = Limit {
             weight: rule.weight.unwrap_or(Dec(10_000)),
             byte: weight_byte(rule.weight),
             mass,
         };
-        is_within(condition, limit, block, &self.terms)
+        is_within(condition, limit, self)
     }
 }
 
 /// Whether a condition is an AND with a literal within a limit.
-fn is_within(condition: &Condition, limit: Limit, block: &Block, terms: &BoxTerms) -> bool
-    requires condition { IsValidCondition block.now condition.now }
+fn is_within(condition: &Condition, limit: Limit, table: &BoxTable) -> bool
+    requires condition { IsValidCondition (block_of table.now) condition.now }
     requires from { pos 0 ≤ℤ limit.weight.0 }
     requires to { limit.weight.0 ≤ℤ pos 10000 }
-    requires block { IsValid block.now }
-    requires terms { AreBoxTerms block.now terms.now }
-    ensures { IsTrue result → IsConditionWithin block.now terms.now.bytes.0.items condition.now limit }
+    requires table { IsTable table.now }
+    ensures { IsTrue result → IsConditionWithin (block_of table.now) (box_of table.now) condition.now limit }
 {
     match &condition.node {
-        Node::And(parts) => some_is_within(parts.as_slice(), limit, block, terms),
+        Node::And(parts) => some_is_within(parts.as_slice(), limit, table),
         _ => false,
     }
 }
 
 /// Whether some part of an AND is such a literal.
-fn some_is_within(parts: &[Condition], limit: Limit, block: &Block, terms: &BoxTerms) -> bool
-    requires parts { AreValidConditions block.now (conditions parts.now) }
+fn some_is_within(parts: &[Condition], limit: Limit, table: &BoxTable) -> bool
+    requires parts { AreValidConditions (block_of table.now) (conditions parts.now) }
     requires from { pos 0 ≤ℤ limit.weight.0 }
     requires to { limit.weight.0 ≤ℤ pos 10000 }
-    requires block { IsValid block.now }
-    requires terms { AreBoxTerms block.now terms.now }
-    ensures { IsTrue result → IsConditionWithin block.now terms.now.bytes.0.items (all (conditions parts.now)) limit }
+    requires table { IsTable table.now }
+    ensures { IsTrue result
+        → IsConditionWithin (block_of table.now) (box_of table.now) (all (conditions parts.now)) limit }
 {
     parts_are_valid();
     for k in 0..parts.len() {
-        if literal_is_within(&parts[k], limit, block, terms) {
+        if literal_is_within(&parts[k], limit, table) {
             return true;
         }
     }
@@ -79,18 +78,17 @@ fn some_is_within(parts: &[Condition], limit: Limit, block: &Block, terms: &BoxT
 }
 
 /// Whether a condition is such a literal.
-fn literal_is_within(condition: &Condition, limit: Limit, block: &Block, terms: &BoxTerms) -> bool
-    requires condition { IsValidCondition block.now condition.now }
+fn literal_is_within(condition: &Condition, limit: Limit, table: &BoxTable) -> bool
+    requires condition { IsValidCondition (block_of table.now) condition.now }
     requires from { pos 0 ≤ℤ limit.weight.0 }
     requires to { limit.weight.0 ≤ℤ pos 10000 }
-    requires block { IsValid block.now }
-    requires terms { AreBoxTerms block.now terms.now }
-    ensures { IsTrue result → IsConditionWithin block.now terms.now.bytes.0.items condition.now limit }
+    requires table { IsTable table.now }
+    ensures { IsTrue result → IsConditionWithin (block_of table.now) (box_of table.now) condition.now limit }
 {
     match literal_in(condition) {
         Some(literal) => {
-            limit.is_above(end_of_literal(literal, true, block, terms))
-                && limit.is_above_low(end_of_literal(literal, false, block, terms))
+            limit.is_above(end_of_literal(literal, Side::High, table))
+                && limit.is_above_low(end_of_literal(literal, Side::Low, table))
         }
         None => false,
     }

@@ -1,13 +1,13 @@
 //! The ranges of the truths of literals over a box.
 ghost use Rattle.std.specs.Prelude.{◌≡◌, IfSome};
-ghost use Rattle.fuzzy_meaning.specs.{Blocks.IsValid, Blocks.HasTerm, Conditions.is, Conditions.under};
-ghost use Rattle.error_bound.specs.Reaches.{AreBoxTerms, IsReachOfLiteral};
+ghost use Rattle.fuzzy_meaning.specs.{Blocks.HasTerm, Conditions.is, Conditions.under};
+ghost use Rattle.error_bound.specs.Reaches.{IsTable, IsReachOfLiteral, block_of, box_of};
 
 use crate::degrees::Degrees;
 use crate::ratio::Ratio;
-use crate::tables::BoxTerms;
+use crate::tables::BoxTable;
 use cell_error::Deviation;
-use fuzzy_meaning::{Block, Condition, Node};
+use fuzzy_meaning::{Condition, Node};
 
 /// The least and the greatest truth, exact and over bytes, and how far the exact ones may be above those
 /// over bytes, and how far below, in parts of 10^9.
@@ -68,16 +68,10 @@ pub(crate) fn literal_in(condition: &Condition) -> Option<Literal>
 
 /// The reach of a term, by reference.
 #[inline]
-pub(crate) fn reach_of_literal<'a>(
-    block: &Block,
-    input: u8,
-    term: u8,
-    terms: &'a BoxTerms,
-) -> &'a Reach
-    requires term { HasTerm block.now input term }
-    requires block { IsValid block.now }
-    requires terms { AreBoxTerms block.now terms.now }
-    ensures { IsReachOfLiteral block.now terms.now.bytes.0.items input term result.now }
+pub(crate) fn reach_of_literal<'a>(input: u8, term: u8, table: &'a BoxTable) -> &'a Reach
+    requires term { HasTerm (block_of table.now) input term }
+    requires table { IsTable table.now }
+    ensures { IsReachOfLiteral (block_of table.now) (box_of table.now) input term result.now }
 {
-    &terms.rows[input as usize - 1].reaches[term as usize - 1]
+    &table.rows[input as usize - 1].reaches[term as usize - 1]
 }

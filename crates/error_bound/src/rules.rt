@@ -1,183 +1,126 @@
 //! What leaves need to know about the rules over a box.
-ghost use Rattle.std.specs.Prelude.{◌≡◌, ◌≤◌, ◌<◌, ◌+◌, ◌*◌, ◌/◌, ◌≤ℤ◌, length, pos, unsigned_abs, if◌then◌else◌};
-ghost use Rattle.std.specs.Prelude.{◌==◌};
+ghost use Rattle.std.specs.Prelude.{◌≡◌, ◌≤◌, ◌<◌, ◌+◌, ◌*◌, ◌/◌, ◌≤ℤ◌, length, pos, unsigned_abs, if◌then◌else◌, ◌==◌};
 ghost use Rattle.std.specs.Prelude.{IfSome, Some, false, true, slice_get};
 ghost use Rattle.fz_num.specs.Fractions.{times, up_div};
 ghost use Rattle.byte_scaling.specs.Weights.{weight_byte_of};
-ghost use Rattle.fuzzy_meaning.specs.{declared.block.Rule.Rule as TheRule, Blocks.IsValid, Blocks.IsValidRule};
+ghost use Rattle.fuzzy_meaning.specs.{declared.block.Rule.Rule as TheRule, Blocks.IsValidRule};
 ghost use Rattle.fuzzy_meaning.specs.{Blocks.IsWeight, Meaning.weight_of};
-ghost use Rattle.error_bound.specs.{Boxes.IsBoxOf, Errors.apart, Flattening.ReachesAlike};
+ghost use Rattle.error_bound.specs.{Errors.apart, Flattening.ReachesAlike};
 ghost use Rattle.error_bound.specs.Ratios.{value_of, IsRatio};
 ghost use Rattle.error_bound.specs.Leaves.{IsStill, concludes_some as concludes_any};
-ghost use Rattle.error_bound.specs.Reaches.{HasAlike, IsBlockTable, AreBoxTerms, IsEndOfRule, IsErrorOfRule, IsTable};
-ghost use Rattle.error_bound.specs.Reaches.{IsDeviationOfRule};
+ghost use Rattle.error_bound.specs.Reaches.{IsEndOfRule, IsErrorOfRule, IsTable, IsDeviationOfRule, block_of, box_of};
 
-use crate::boxes::ByteBox;
-use crate::ends::{End, Ends, end_of, ends_of};
+use crate::ends::{End, Ends, Side, end_of, ends_of};
 use crate::leaves::concludes_some;
 use crate::literal_errors::deviation_of;
 use crate::nowhere::is_nowhere;
-use crate::tables::{BlockTable, BoxTerms};
+use crate::tables::BoxTable;
 use byte_scaling::weight_byte;
 use cell_error::Deviation;
-use fuzzy_meaning::{Block, Condition, Rule};
+use fuzzy_meaning::{Condition, Rule};
 use fz_num::Dec;
 
-/// What leaves need to know about a box, made once for all of them.
-#[derive(Drop)]
-pub struct BoxTable<'a> {
-    /// The box that the table was made from.
-    pub bytes: ByteBox,
-    pub(crate) terms: BoxTerms,
-    pub(crate) kept: Option<&'a BlockTable>,
-}
-
-impl<'a> BoxTable<'a> {
-    /// The table of a box. It takes some ten thousand steps for each input with all bytes.
-    pub fn new(block: &Block, bytes: ByteBox) -> BoxTable<'a>
-        requires block { IsValid block.now }
-        requires bytes { IsBoxOf block.now bytes.0.items }
-        ensures same { result.bytes ≡ bytes }
-        ensures table { IsTable block.now result }
-    {
-        BoxTable::of(block, None, bytes)
-    }
-
-    /// The same from the block's table, in a few steps for each byte of each term.
-    pub fn over(block: &Block, table: &'a BlockTable, bytes: ByteBox) -> BoxTable<'a>
-        requires block { IsValid block.now }
-        requires table { IsBlockTable block.now table.now }
-        requires bytes { IsBoxOf block.now bytes.0.items }
-        ensures same { result.bytes ≡ bytes }
-        ensures table { IsTable block.now result }
-    {
-        BoxTable::of(block, Some(table), bytes)
-    }
-
-    fn of(block: &Block, kept: Option<&'a BlockTable>, bytes: ByteBox) -> BoxTable<'a>
-        requires block { IsValid block.now }
-        requires bytes { IsBoxOf block.now bytes.0.items }
-        requires kept { IfSome kept (λ table. IsBlockTable block.now table.now) }
-        ensures same { result.bytes ≡ bytes }
-        ensures table { IsTable block.now result }
-    {
-        let terms = BoxTerms::new(block, bytes.copied(), kept);
-        BoxTable { bytes, terms, kept }
-    }
-
-    /// Makes it the table of another box. Only what belongs to intervals that differ is computed again.
-    pub fn move_to(&mut self, block: &Block, bytes: &ByteBox)
-        requires block { IsValid block.now }
-        requires table { IsTable block.now self.old }
-        requires bytes { IsBoxOf block.now bytes.now.0.items }
-        ensures bytes { self.new.bytes.0.items ≡ bytes.now.0.items }
-        ensures table { IsTable block.now self.new }
-    {
-        self.terms.move_to(block, self.kept, bytes);
-        self.bytes = bytes.copied();
-    }
-
+impl BoxTable<'_> {
     /// The error of the strength of the rule at an index.
-    pub(crate) fn error_of_rule(&self, block: &Block, place: usize) -> u64
-        requires block { IsValid block.now }
-        requires table { IsTable block.now self.now }
-        requires place { place < length block.now.rules }
-        ensures { (r : TheRule) → slice_get block.now.rules place ≡ Some r
-            → IsErrorOfRule block.now self.now.bytes.0.items r result }
+    pub(crate) fn error_of_rule(&self, place: usize) -> u64
+        requires table { IsTable self.now }
+        requires place { place < length (block_of self.now).rules }
+        ensures { (r : TheRule) → slice_get (block_of self.now).rules place ≡ Some r
+            → IsErrorOfRule (block_of self.now) (box_of self.now) r result }
     {
-        let rule = &block.rules.as_slice()[place];
-        let condition = condition_in(self.kept, place, rule, block);
-        error_of_strength(rule, condition, block, &self.terms)
+        let rule = &self.table.block.rules.as_slice()[place];
+        let condition = self.condition_of(place, rule);
+        error_of_strength(rule, condition, self)
     }
 
     /// How far the strength of the rule at an index may be above that over bytes, and how far below.
-    pub(crate) fn deviation_of_rule(&self, block: &Block, place: usize) -> Deviation
-        requires block { IsValid block.now }
-        requires table { IsTable block.now self.now }
-        requires place { place < length block.now.rules }
-        ensures { (r : TheRule) → slice_get block.now.rules place ≡ Some r
-            → IsDeviationOfRule block.now self.now.bytes.0.items r result }
+    pub(crate) fn deviation_of_rule(&self, place: usize) -> Deviation
+        requires table { IsTable self.now }
+        requires place { place < length (block_of self.now).rules }
+        ensures { (r : TheRule) → slice_get (block_of self.now).rules place ≡ Some r
+            → IsDeviationOfRule (block_of self.now) (box_of self.now) r result }
     {
-        let rule = &block.rules.as_slice()[place];
-        let condition = condition_in(self.kept, place, rule, block);
-        deviation_of_strength(rule, condition, block, &self.terms)
+        let rule = &self.table.block.rules.as_slice()[place];
+        let condition = self.condition_of(place, rule);
+        deviation_of_strength(rule, condition, self)
     }
 
     /// The upper or the lower end of the strength of the rule at an index.
-    pub(crate) fn end_of_rule(&self, block: &Block, place: usize, upper: bool) -> End
-        requires block { IsValid block.now }
-        requires table { IsTable block.now self.now }
-        requires place { place < length block.now.rules }
-        ensures { (r : TheRule) → slice_get block.now.rules place ≡ Some r
-            → IsEndOfRule block.now self.now.bytes.0.items r upper result }
+    pub(crate) fn end_of_rule(&self, place: usize, side: Side) -> End
+        requires table { IsTable self.now }
+        requires place { place < length (block_of self.now).rules }
+        ensures { (r : TheRule) → slice_get (block_of self.now).rules place ≡ Some r
+            → IsEndOfRule (block_of self.now) (box_of self.now) r side result }
     {
-        let rule = &block.rules.as_slice()[place];
-        let condition = condition_in(self.kept, place, rule, block);
-        end_of_strength(rule, condition, upper, block, &self.terms)
+        let rule = &self.table.block.rules.as_slice()[place];
+        let condition = self.condition_of(place, rule);
+        end_of_strength(rule, condition, side, self)
     }
 
     /// Both ends of the strength of the rule at an index.
-    pub(crate) fn ends_of_rule(&self, block: &Block, place: usize) -> Ends
-        requires block { IsValid block.now }
-        requires table { IsTable block.now self.now }
-        requires place { place < length block.now.rules }
-        ensures low { (r : TheRule) → slice_get block.now.rules place ≡ Some r
-            → IsEndOfRule block.now self.now.bytes.0.items r false result.low }
-        ensures high { (r : TheRule) → slice_get block.now.rules place ≡ Some r
-            → IsEndOfRule block.now self.now.bytes.0.items r true result.high }
+    pub(crate) fn ends_of_rule(&self, place: usize) -> Ends
+        requires table { IsTable self.now }
+        requires place { place < length (block_of self.now).rules }
+        ensures low { (r : TheRule) → slice_get (block_of self.now).rules place ≡ Some r
+            → IsEndOfRule (block_of self.now) (box_of self.now) r Side.Low result.low }
+        ensures high { (r : TheRule) → slice_get (block_of self.now).rules place ≡ Some r
+            → IsEndOfRule (block_of self.now) (box_of self.now) r Side.High result.high }
     {
-        let rule = &block.rules.as_slice()[place];
-        let condition = condition_in(self.kept, place, rule, block);
-        ends_of_strength(rule, condition, block, &self.terms)
+        let rule = &self.table.block.rules.as_slice()[place];
+        let condition = self.condition_of(place, rule);
+        ends_of_strength(rule, condition, self)
     }
 
     /// Whether the rule at an index concludes a term of an output, and no term in its condition shows at once that the
     /// rule never fires on the box. If not, the rule adds nothing to the output there.
-    pub(crate) fn may_fire(&self, block: &Block, place: usize, out: u8) -> bool
-        requires block { IsValid block.now }
-        requires table { IsTable block.now self.now }
-        requires place { place < length block.now.rules }
-        ensures concludes_it { result ≡ true → (r : TheRule) → slice_get block.now.rules place ≡ Some r
+    pub(crate) fn may_fire(&self, place: usize, out: u8) -> bool
+        requires table { IsTable self.now }
+        requires place { place < length (block_of self.now).rules }
+        ensures concludes_it { result ≡ true → (r : TheRule) → slice_get (block_of self.now).rules place ≡ Some r
             → concludes_any r out ≡ true }
-        ensures still { result ≡ false → (r : TheRule) → slice_get block.now.rules place ≡ Some r
-            → concludes_any r out ≡ true → IsStill block.now self.now.bytes.0.items r }
+        ensures still { result ≡ false → (r : TheRule) → slice_get (block_of self.now).rules place ≡ Some r
+            → concludes_any r out ≡ true → IsStill (block_of self.now) (box_of self.now) r }
     {
-        let rule = &block.rules.as_slice()[place];
+        let rule = &self.table.block.rules.as_slice()[place];
         if !concludes_some(rule, out) {
             return false;
         }
-        let condition = condition_in(self.kept, place, rule, block);
-        !is_nowhere(condition, block, &self.terms)
+        let condition = self.condition_of(place, rule);
+        !is_nowhere(condition, self)
+    }
+
+    /// The condition of the rule at an index, flat if it is kept.
+    pub(crate) fn condition_of<'b>(&'b self, place: usize, rule: &'b Rule) -> &'b Condition
+        requires table { IsTable self.now }
+        requires rule { slice_get (block_of self.now).rules place ≡ Some rule.now }
+        ensures { ReachesAlike (block_of self.now) rule.now.cond result.now }
+    {
+        match &self.table.kept {
+            Some(kept) => &kept.conditions[place],
+            None => &rule.cond,
+        }
     }
 }
 
 /// The upper or the lower end of the strength of the rule at an index.
-fn end_of_strength(
-    rule: &Rule,
-    condition: &Condition,
-    upper: bool,
-    block: &Block,
-    terms: &BoxTerms,
-) -> End
-    requires condition { ReachesAlike block.now rule.now.cond condition.now }
-    requires rule { IsValidRule block.now rule.now }
-    requires block { IsValid block.now }
-    requires terms { AreBoxTerms block.now terms.now }
-    ensures { IsEndOfRule block.now terms.now.bytes.0.items rule.now upper result }
+fn end_of_strength(rule: &Rule, condition: &Condition, side: Side, table: &BoxTable) -> End
+    requires condition { ReachesAlike (block_of table.now) rule.now.cond condition.now }
+    requires rule { IsValidRule (block_of table.now) rule.now }
+    requires table { IsTable table.now }
+    ensures { IsEndOfRule (block_of table.now) (box_of table.now) rule.now side result }
 {
-    weighted(rule, end_of(condition, upper, block, terms))
+    weighted(rule, end_of(condition, side, table))
 }
 
 /// Both ends of the strength of a rule.
-fn ends_of_strength(rule: &Rule, condition: &Condition, block: &Block, terms: &BoxTerms) -> Ends
-    requires condition { ReachesAlike block.now rule.now.cond condition.now }
-    requires rule { IsValidRule block.now rule.now }
-    requires block { IsValid block.now }
-    requires terms { AreBoxTerms block.now terms.now }
-    ensures low { IsEndOfRule block.now terms.now.bytes.0.items rule.now false result.low }
-    ensures high { IsEndOfRule block.now terms.now.bytes.0.items rule.now true result.high }
+fn ends_of_strength(rule: &Rule, condition: &Condition, table: &BoxTable) -> Ends
+    requires condition { ReachesAlike (block_of table.now) rule.now.cond condition.now }
+    requires rule { IsValidRule (block_of table.now) rule.now }
+    requires table { IsTable table.now }
+    ensures low { IsEndOfRule (block_of table.now) (box_of table.now) rule.now Side.Low result.low }
+    ensures high { IsEndOfRule (block_of table.now) (box_of table.now) rule.now Side.High result.high }
 {
-    let ends = ends_of(condition, block, terms);
+    let ends = ends_of(condition, table);
     Ends {
         low: weighted(rule, ends.low),
         high: weighted(rule, ends.high),
@@ -200,55 +143,32 @@ fn weighted(rule: &Rule, end: End) -> End
 }
 
 /// The error of the strength of the rule at an index.
-fn error_of_strength(rule: &Rule, condition: &Condition, block: &Block, terms: &BoxTerms) -> u64
-    requires condition { ReachesAlike block.now rule.now.cond condition.now }
-    requires rule { IsValidRule block.now rule.now }
-    requires block { IsValid block.now }
-    requires terms { AreBoxTerms block.now terms.now }
-    ensures { IsErrorOfRule block.now terms.now.bytes.0.items rule.now result }
+fn error_of_strength(rule: &Rule, condition: &Condition, table: &BoxTable) -> u64
+    requires condition { ReachesAlike (block_of table.now) rule.now.cond condition.now }
+    requires rule { IsValidRule (block_of table.now) rule.now }
+    requires table { IsTable table.now }
+    ensures { IsErrorOfRule (block_of table.now) (box_of table.now) rule.now result }
 {
     let weight = rule.weight.unwrap_or(Dec(10_000));
     let byte = weight_byte(rule.weight);
-    let deviation = deviation_of(condition, block, terms);
+    let deviation = deviation_of(condition, table);
     deviation.rise.max(deviation.fall) + weight_error(weight, byte) + floor_error(byte)
 }
 
 /// How far the strength of the rule at an index may be above that over bytes, and how far below.
-fn deviation_of_strength(
-    rule: &Rule,
-    condition: &Condition,
-    block: &Block,
-    terms: &BoxTerms,
-) -> Deviation
-    requires condition { ReachesAlike block.now rule.now.cond condition.now }
-    requires rule { IsValidRule block.now rule.now }
-    requires block { IsValid block.now }
-    requires terms { AreBoxTerms block.now terms.now }
-    ensures { IsDeviationOfRule block.now terms.now.bytes.0.items rule.now result }
+fn deviation_of_strength(rule: &Rule, condition: &Condition, table: &BoxTable) -> Deviation
+    requires condition { ReachesAlike (block_of table.now) rule.now.cond condition.now }
+    requires rule { IsValidRule (block_of table.now) rule.now }
+    requires table { IsTable table.now }
+    ensures { IsDeviationOfRule (block_of table.now) (box_of table.now) rule.now result }
 {
     let weight = rule.weight.unwrap_or(Dec(10_000));
     let byte = weight_byte(rule.weight);
-    let deviation = deviation_of(condition, block, terms);
+    let deviation = deviation_of(condition, table);
     let apart = weight_error(weight, byte);
     Deviation {
         rise: deviation.rise + apart + floor_error(byte),
         fall: deviation.fall + apart,
-    }
-}
-
-/// The condition of the rule at an index; the flat one if there is a block's table.
-pub(crate) fn condition_in<'a>(
-    kept: Option<&'a BlockTable>,
-    place: usize,
-    rule: &'a Rule,
-    block: &Block,
-) -> &'a Condition
-    requires kept { IfSome kept (λ table. HasAlike block.now rule.now place table.now.conditions.items) }
-    ensures { ReachesAlike block.now rule.now.cond result.now }
-{
-    match kept {
-        Some(table) => &table.conditions[place],
-        None => &rule.cond,
     }
 }
 

@@ -1,9 +1,10 @@
 //! What boxes need to know about a block, and the reaches of all terms over a box.
-ghost use Rattle.std.specs.Prelude.{◌≡◌, ◌≤◌, ◌-◌, ℕ, length, IfOk, IfSome, IsTrue, Some, slice_get};
+ghost use Rattle.std.specs.Prelude.{◌≡◌, ◌≤◌, ◌-◌, IfOk, IfSome, IsSomeAnd, IsTrue, Some, slice_get};
 ghost use Rattle.fuzzy_meaning.specs.Blocks.{IsValid, IsValidInput, IsValidTerm};
 ghost use Rattle.error_bound.specs.{declared.tables.InputCells.InputCells as TheCells, Boxes.IsBoxOf};
 ghost use Rattle.error_bound.specs.Reaches.{AreTermCells, AreInputCells, AreAllCells, AreRuleConditions};
-ghost use Rattle.error_bound.specs.Reaches.{IsBlockTable, all_bytes, IsReachOfTerm, AreInputReaches, AreBoxTerms};
+ghost use Rattle.error_bound.specs.Reaches.{IsBlockTable, IsKept, all_bytes, IsReachOfTerm, AreInputReaches};
+ghost use Rattle.error_bound.specs.Reaches.{IsTable, block_of};
 
 use crate::boxes::{ByteBox, Interval};
 use crate::cells::TermCells;
@@ -11,6 +12,7 @@ use crate::degrees::degrees_of;
 use crate::flattening::flattened;
 use crate::laws::flattening_keeps_reaches;
 use crate::reaches::Reach;
+use byte_scaling::Width;
 use cell_error::Deviation;
 use fuzzy_meaning::{Block, Condition, Input, Trapezoid};
 use std::alloc::{AllocError, Global};
@@ -37,23 +39,51 @@ impl InputCells {
 
 /// What boxes need to know about a block, made once for all of them.
 #[derive(Drop)]
-pub struct BlockTable {
+pub struct BlockTable<'a> {
+    /// The block that the table was made from.
+    pub block: &'a Block,
+    /// The width of the answers.
+    pub width: Width,
+    pub(crate) kept: Option<Kept>,
+}
+
+/// What is computed in advance where there are many boxes.
+#[derive(Drop)]
+pub(crate) struct Kept {
     /// The cells of the inputs' terms.
     pub(crate) inputs: Vec<InputCells>,
     /// The rules' conditions, flat.
     pub(crate) conditions: Vec<Condition>,
 }
 
-impl BlockTable {
-    /// It takes some 35 KB for each input and a copy of each condition, and one or two divisions for
-    /// each byte of each term.
-    pub fn new(alloc: Global, block: &Block) -> Result<BlockTable, AllocError>
+impl<'a> BlockTable<'a> {
+    /// The table for many boxes. It takes some 35 KB for each input and a copy of each condition, and one or two
+    /// divisions for each byte of each term.
+    pub fn new(alloc: Global, block: &'a Block, width: Width) -> Result<BlockTable<'a>, AllocError>
         requires { IsValid block.now }
-        ensures { IfOk result (IsBlockTable block.now) }
+        ensures table { IfOk result IsBlockTable }
+        ensures kept { IfOk result (λ table. IsSomeAnd table.kept (IsKept block.now)) }
+        ensures block { IfOk result (λ table. table.block.now ≡ block.now) }
+        ensures width { IfOk result (λ table. table.width ≡ width) }
     {
         let inputs = all_cells(alloc, block)?;
         let conditions = flat_conditions(alloc, block)?;
-        Ok(BlockTable { inputs, conditions })
+        let kept = Some(Kept { inputs, conditions });
+        Ok(BlockTable { block, width, kept })
+    }
+
+    /// The table for one box. It allocates no memory.
+    pub fn for_one_box(block: &'a Block, width: Width) -> BlockTable<'a>
+        requires { IsValid block.now }
+        ensures table { IsBlockTable result }
+        ensures block { result.block.now ≡ block.now }
+        ensures width { result.width ≡ width }
+    {
+        BlockTable {
+            block,
+            width,
+            kept: None,
+        }
     }
 }
 
@@ -89,10 +119,14 @@ pub(crate) struct Row {
     pub(crate) reaches: [Reach; 15],
 }
 
-/// A box with the reach of each term over it: a row for each input.
+/// What leaves need to know about a box, made once for all of them: the reach of each term over it.
 #[derive(Drop)]
-pub(crate) struct BoxTerms {
-    pub(crate) bytes: ByteBox,
+pub struct BoxTable<'a> {
+    /// What the block's boxes have in common.
+    pub table: &'a BlockTable<'a>,
+    /// The box that the table was made from.
+    pub bytes: ByteBox,
+    /// A row for each input.
     pub(crate) rows: [Row; 8],
 }
 
@@ -100,38 +134,38 @@ const NO_TERMS: Row = Row {
     reaches: [Reach::NOTHING; 15],
 };
 
-impl BoxTerms {
-    /// The reaches of all terms over a box, from the block's table if there is one.
+impl<'a> BoxTable<'a> {
+    /// The table of a box. It takes a few steps for each byte of each term, or, with a block's table for one box,
+    /// some ten thousand steps for each input with all bytes.
     #[inline(never)]
-    pub(crate) fn new(block: &Block, bytes: ByteBox, kept: Option<&BlockTable>) -> BoxTerms
-        requires block { IsValid block.now }
-        requires bytes { IsBoxOf block.now bytes.0.items }
-        requires kept { IfSome kept (λ table. IsBlockTable block.now table.now) }
+    pub fn over(table: &'a BlockTable<'a>, bytes: ByteBox) -> BoxTable<'a>
+        requires table { IsBlockTable table.now }
+        requires bytes { IsBoxOf table.now.block.now bytes.0.items }
+        ensures over { result.table.now ≡ table.now }
         ensures same { result.bytes ≡ bytes }
-        ensures terms { AreBoxTerms block.now result }
+        ensures table { IsTable result }
     {
         let mut rows = [NO_TERMS; 8];
-        let inputs = block.inputs.as_slice();
+        let inputs = table.block.inputs.as_slice();
         for i in 0..inputs.len() {
-            rows[i] = row_in(kept, i, &inputs[i], bytes.0[i]);
+            rows[i] = row_in(&table.kept, i, &inputs[i], bytes.0[i]);
         }
-        BoxTerms { bytes, rows }
+        BoxTable { table, bytes, rows }
     }
 
-    /// Makes them those of another box. Only the rows of intervals that differ are computed again.
-    pub(crate) fn move_to(&mut self, block: &Block, kept: Option<&BlockTable>, bytes: &ByteBox)
-        requires block { IsValid block.now }
-        requires bytes { IsBoxOf block.now bytes.now.0.items }
-        requires kept { IfSome kept (λ table. IsBlockTable block.now table.now) }
-        requires terms { AreBoxTerms block.now self.old }
-        ensures same { self.new.bytes.0.items ≡ bytes.now.0.items }
-        ensures terms { AreBoxTerms block.now self.new }
+    /// Makes it the table of another box. Only the rows of intervals that differ are computed again.
+    pub fn move_to(&mut self, bytes: &ByteBox)
+        requires table { IsTable self.old }
+        requires bytes { IsBoxOf (block_of self.old) bytes.now.0.items }
+        ensures over { self.new.table ≡ self.old.table }
+        ensures bytes { self.new.bytes.0.items ≡ bytes.now.0.items }
+        ensures table { IsTable self.new }
     {
-        let inputs = block.inputs.as_slice();
+        let inputs = self.table.block.inputs.as_slice();
         for i in 0..inputs.len() {
             let to = bytes.0[i];
             if !is_same(self.bytes.0[i], to) {
-                self.rows[i] = row_in(kept, i, &inputs[i], to);
+                self.rows[i] = row_in(&self.table.kept, i, &inputs[i], to);
                 self.bytes.set_interval(i, to);
             }
         }
@@ -144,16 +178,16 @@ fn is_same(left: Interval, right: Interval) -> bool
     left.from == right.from && left.to == right.to
 }
 
-/// The row of the input at an index, from the cells of the block's table if there is one.
-fn row_in(kept: Option<&BlockTable>, place: usize, input: &Input, bytes: Interval) -> Row
+/// The row of the input at an index, from the cells that are kept if there are any.
+fn row_in(kept: &Option<Kept>, place: usize, input: &Input, bytes: Interval) -> Row
     requires input { IsValidInput input.now }
     requires order { bytes.from ≤ bytes.to }
-    requires kept { IfSome kept (λ table. (c : TheCells) × (slice_get table.now.inputs.items place ≡ Some c)
+    requires kept { IfSome kept.now (λ kept. (c : TheCells) × (slice_get kept.inputs.items place ≡ Some c)
         × AreInputCells input.now all_bytes c) }
     ensures { AreInputReaches input.now bytes result.reaches }
 {
     match kept {
-        Some(table) => row_of(input, &table.inputs[place], bytes),
+        Some(kept) => row_of(input, &kept.inputs[place], bytes),
         None => row_anew(input, bytes),
     }
 }

@@ -1,24 +1,28 @@
 //! The tight Bound of a box, which depends on no choice of a rule: it is computed from the ranges of the
 //! masses of an output's terms.
-ghost use Rattle.std.specs.Prelude.{◌≡◌, ◌≤◌, ◌<◌, ◌+◌, ◌*◌, ◌/◌, ℕ, All, ◌==◌, if◌then◌else◌, true};
+ghost use Rattle.std.specs.Prelude.{◌≡◌, ◌≤◌, ◌<◌, ◌+◌, ◌*◌, ◌/◌, All, ◌==◌, if◌then◌else◌, ℕ, true};
 ghost use Rattle.std.specs.Prelude.{IfSome, IfNone, Some, length, slice_get, slice_index, take};
-ghost use Rattle.fz_num.specs.{Fractions.up_div};
+ghost use Rattle.fz_num.specs.Fractions.{up_div};
+ghost use Rattle.byte_scaling.specs.Widths.{parts};
 ghost use Rattle.cell_error.specs.Means.{IsSmallDeviation};
 ghost use Rattle.fuzzy_meaning.specs.declared.block.Rule.{Rule as TheRule};
-ghost use Rattle.fuzzy_meaning.specs.Blocks.{IsValid, IsValidOutput, output_at};
+ghost use Rattle.fuzzy_meaning.specs.Blocks.{IsValidOutput, output_at};
 ghost use Rattle.fuzzy_meaning.specs.Meaning.{concludes as concludes_it};
-ghost use Rattle.error_bound.specs.{Leaves.Holds, Ratios.value_of, Ratios.IsRatio, CellErrors.term_errors};
+ghost use Rattle.error_bound.specs.{Best.silent_leaf, Leaves.Holds, CellErrors.term_errors};
+ghost use Rattle.error_bound.specs.Ratios.{value_of, IsRatio};
 ghost use Rattle.error_bound.specs.{Errors.rule_rise, Errors.rule_fall, Reaches.IsEndOfRule, Reaches.IsTable};
 ghost use Rattle.error_bound.specs.Masses.{IsRuleMass, AreMasses, AreDeviations, AreSmall, sum_at, offset_at};
 ghost use Rattle.error_bound.specs.Masses.{IsBoundAt};
 ghost use Rattle.error_bound.specs.Tight.{IsTightBound, IsSure, if_moving, ranges_at, deviations_at};
+ghost use Rattle.error_bound.specs.Reaches.{block_of, box_of, parts_of};
 
 use crate::bounds::{offset, raise_terms, silent_bound};
-use crate::ends::End;
+use crate::ends::{End, Side};
 use crate::leaves::{concludes_some, output_of};
-use crate::rules::BoxTable;
+use crate::tables::BoxTable;
+use byte_scaling::Width;
 use cell_error::{Deviation, MassRange, Scale, mean_error};
-use fuzzy_meaning::{Block, Output, Rule};
+use fuzzy_meaning::{Output, Rule};
 
 /// The range of a rule's strength over a box: the least and the greatest in parts of 255 * 10^9, and
 /// those over bytes.
@@ -51,64 +55,57 @@ pub(crate) struct Deviations {
 }
 
 impl BoxTable<'_> {
-    /// The tight Bound of the table's box for an output, in millionths of the output's range, for
-    /// answers with `parts` parts to a byte, or `None` if there is none.
-    pub fn tight_bound(&self, block: &Block, out: u8, parts: u16) -> Option<u32>
-        requires block { IsValid block.now }
-        requires table { IsTable block.now self.now }
+    /// The tight Bound of the table's box for an output, in millionths of the output's range, or
+    /// `None` if there is none.
+    pub fn tight_bound(&self, out: u8) -> Option<u32>
+        requires table { IsTable self.now }
         requires out_from { 1 ≤ out }
-        requires out_to { out ≤ length block.now.outputs }
-        requires parts_from { 1 ≤ parts }
-        requires parts_to { parts ≤ 256 }
-        ensures bound { IfSome result (λ n. IfSome (output_at block.now out)
-            (λ x. IsTightBound block.now self.now.bytes.0.items out x parts n)) }
-        ensures loud { IfNone result (Holds block.now self.now.bytes.0.items out (record { rule = 0; k = 0 }) → ⊥) }
-        ensures unsure { IfNone result (IfSome (output_at block.now out)
-            (λ x. IsSure block.now self.now.bytes.0.items out x → ⊥)) }
+        requires out_to { out ≤ length (block_of self.now).outputs }
+        ensures bound { IfSome result (λ n. IfSome (output_at (block_of self.now) out)
+            (λ x. IsTightBound (block_of self.now) (box_of self.now) out x (parts_of self.now) n)) }
+        ensures loud { IfNone result (Holds (block_of self.now) (box_of self.now) out silent_leaf → ⊥) }
+        ensures unsure { IfNone result (IfSome (output_at (block_of self.now) out)
+            (λ x. IsSure (block_of self.now) (box_of self.now) out x → ⊥)) }
     {
-        self.tight_bound_by(block, out, parts, &self.masses(block, out))
+        self.tight_bound_by(out, &self.masses(out))
     }
 
     /// The same, from masses that are known already.
-    pub fn tight_bound_by(&self, block: &Block, out: u8, parts: u16, masses: &Masses) -> Option<u32>
-        requires block { IsValid block.now }
-        requires table { IsTable block.now self.now }
-        requires masses { AreMasses block.now self.now.bytes.0.items out masses.now }
+    pub fn tight_bound_by(&self, out: u8, masses: &Masses) -> Option<u32>
+        requires table { IsTable self.now }
+        requires masses { AreMasses (block_of self.now) (box_of self.now) out masses.now }
         requires out_from { 1 ≤ out }
-        requires out_to { out ≤ length block.now.outputs }
-        requires parts_from { 1 ≤ parts }
-        requires parts_to { parts ≤ 256 }
-        ensures bound { IfSome result (λ n. IfSome (output_at block.now out)
-            (λ x. IsTightBound block.now self.now.bytes.0.items out x parts n)) }
-        ensures loud { IfNone result (Holds block.now self.now.bytes.0.items out (record { rule = 0; k = 0 }) → ⊥) }
-        ensures unsure { IfNone result (IfSome (output_at block.now out)
-            (λ x. IsSure block.now self.now.bytes.0.items out x → ⊥)) }
+        requires out_to { out ≤ length (block_of self.now).outputs }
+        ensures bound { IfSome result (λ n. IfSome (output_at (block_of self.now) out)
+            (λ x. IsTightBound (block_of self.now) (box_of self.now) out x (parts_of self.now) n)) }
+        ensures loud { IfNone result (Holds (block_of self.now) (box_of self.now) out silent_leaf → ⊥) }
+        ensures unsure { IfNone result (IfSome (output_at (block_of self.now) out)
+            (λ x. IsSure (block_of self.now) (box_of self.now) out x → ⊥)) }
     {
-        let output = output_of(block, out);
-        match self.silent_fault(block, out) {
+        let output = output_of(self.table.block, out);
+        match self.silent_fault(out) {
             None => Some(silent_bound(output)),
-            Some(_) => masses.bound(&self.deviations(block, out), output, parts),
+            Some(_) => masses.bound(&self.deviations(out), output, self.table.width),
         }
     }
 
     /// The ranges of the masses of an output's terms over the table's box.
-    pub fn masses(&self, block: &Block, out: u8) -> Masses
-        requires table { IsTable block.now self.now }
-        requires block { IsValid block.now }
-        ensures masses { AreMasses block.now self.now.bytes.0.items out result }
+    pub fn masses(&self, out: u8) -> Masses
+        requires table { IsTable self.now }
+        ensures masses { AreMasses (block_of self.now) (box_of self.now) out result }
         ensures ordered { (t : ℕ) → t < 15 → slice_index result.lows t ≤ slice_index result.highs t }
     {
         let mut lows = [0; 15];
         let mut highs = [0; 15];
         let mut byte_lows = [0; 15];
         let mut byte_highs = [0; 15];
-        let rules = block.rules.as_slice();
+        let rules = self.table.block.rules.as_slice();
         for n in (0..rules.len()).rev() {
             let rule = &rules[n];
             if concludes_some(rule, out) {
                 let so_far = least_masses(&lows, &highs, &byte_lows, &byte_highs, rule, out);
-                if !self.is_within(block, n, so_far) {
-                    let mass = self.mass_of_rule(block, n);
+                if !self.is_within(n, so_far) {
+                    let mass = self.mass_of_rule(n);
                     raise_terms(&mut lows, rule, out, mass.low);
                     raise_terms(&mut highs, rule, out, mass.high);
                     raise_terms(&mut byte_lows, rule, out, mass.byte_low);
@@ -125,19 +122,18 @@ impl BoxTable<'_> {
     }
 
     /// How far the masses of an output's terms may be above those over bytes on the table's box, and how far below.
-    fn deviations(&self, block: &Block, out: u8) -> Deviations
-        requires table { IsTable block.now self.now }
-        requires block { IsValid block.now }
-        ensures { AreDeviations block.now self.now.bytes.0.items out result }
+    fn deviations(&self, out: u8) -> Deviations
+        requires table { IsTable self.now }
+        ensures { AreDeviations (block_of self.now) (box_of self.now) out result }
     {
         let mut rises = [0; 15];
         let mut falls = [0; 15];
-        let rules = block.rules.as_slice();
+        let rules = self.table.block.rules.as_slice();
         for n in (0..rules.len()).rev() {
             let rule = &rules[n];
-            if self.may_fire(block, n, out) {
-                let high = self.end_of_rule(block, n, true);
-                let deviation = self.moving_deviation(block, n, high);
+            if self.may_fire(n, out) {
+                let high = self.end_of_rule(n, Side::High);
+                let deviation = self.moving_deviation(n, high);
                 raise_terms(&mut rises, rule, out, deviation.rise);
                 raise_terms(&mut falls, rule, out, deviation.fall);
             }
@@ -146,14 +142,13 @@ impl BoxTable<'_> {
     }
 
     /// The range of the strength of the rule at an index.
-    fn mass_of_rule(&self, block: &Block, place: usize) -> RuleMass
-        requires block { IsValid block.now }
-        requires table { IsTable block.now self.now }
-        requires place { place < length block.now.rules }
-        ensures { (r : TheRule) → slice_get block.now.rules place ≡ Some r
-            → IsRuleMass block.now self.now.bytes.0.items r result }
+    fn mass_of_rule(&self, place: usize) -> RuleMass
+        requires table { IsTable self.now }
+        requires place { place < length (block_of self.now).rules }
+        ensures { (r : TheRule) → slice_get (block_of self.now).rules place ≡ Some r
+            → IsRuleMass (block_of self.now) (box_of self.now) r result }
     {
-        let ends = self.ends_of_rule(block, place);
+        let ends = self.ends_of_rule(place);
         RuleMass {
             low: low_part(ends.low),
             high: high_part(ends.high),
@@ -164,24 +159,23 @@ impl BoxTable<'_> {
 
     /// How far the strength of the rule at an index may be above that over bytes, and how far below; both are 0 if
     /// the rule has no strength anywhere on the box.
-    fn moving_deviation(&self, block: &Block, place: usize, high: End) -> Deviation
-        requires block { IsValid block.now }
-        requires table { IsTable block.now self.now }
-        requires place { place < length block.now.rules }
-        requires high { (r : TheRule) → slice_get block.now.rules place ≡ Some r
-            → IsEndOfRule block.now self.now.bytes.0.items r true high }
-        ensures rise { (r : TheRule) → slice_get block.now.rules place ≡ Some r → result.rise
-            ≡ if_moving block.now self.now.bytes.0.items r
-            (rule_rise (term_errors block.now self.now.bytes.0.items) r) }
-        ensures fall { (r : TheRule) → slice_get block.now.rules place ≡ Some r → result.fall
-            ≡ if_moving block.now self.now.bytes.0.items r
-            (rule_fall (term_errors block.now self.now.bytes.0.items) r) }
+    fn moving_deviation(&self, place: usize, high: End) -> Deviation
+        requires table { IsTable self.now }
+        requires place { place < length (block_of self.now).rules }
+        requires high { (r : TheRule) → slice_get (block_of self.now).rules place ≡ Some r
+            → IsEndOfRule (block_of self.now) (box_of self.now) r Side.High high }
+        ensures rise { (r : TheRule) → slice_get (block_of self.now).rules place ≡ Some r → result.rise
+            ≡ if_moving (block_of self.now) (box_of self.now) r
+            (rule_rise (term_errors (block_of self.now) (box_of self.now)) r) }
+        ensures fall { (r : TheRule) → slice_get (block_of self.now).rules place ≡ Some r → result.fall
+            ≡ if_moving (block_of self.now) (box_of self.now) r
+            (rule_fall (term_errors (block_of self.now) (box_of self.now)) r) }
         ensures small { IsSmallDeviation result }
     {
         if high.truth.num == 0 && high.byte == 0 {
             Deviation { rise: 0, fall: 0 }
         } else {
-            self.deviation_of_rule(block, place)
+            self.deviation_of_rule(place)
         }
     }
 }
@@ -248,16 +242,14 @@ fn high_part(high: End) -> u64
 
 impl Masses {
     /// The Bound of a box with these masses, if the sum of the least ones is above 0, and that over bytes too.
-    fn bound(&self, deviations: &Deviations, output: &Output, parts: u16) -> Option<u32>
+    fn bound(&self, deviations: &Deviations, output: &Output, width: Width) -> Option<u32>
         requires output { IsValidOutput output.now }
-        requires parts_from { 1 ≤ parts }
-        requires parts_to { parts ≤ 256 }
         requires lows { AreSmall 255000000000 self.now.lows }
         requires ordered { (t : ℕ) → t < 15 → slice_index self.now.byte_lows t ≤ slice_index self.now.byte_highs t }
         requires byte_highs { AreSmall 255 self.now.byte_highs }
         requires rises { AreSmall 3000000000 deviations.now.rises }
         requires falls { AreSmall 3000000000 deviations.now.falls }
-        ensures bound { IfSome result (IsBoundAt self.now deviations.now output.now parts) }
+        ensures bound { IfSome result (IsBoundAt self.now deviations.now output.now (parts width)) }
         ensures sum { IfSome result (λ n. 1 ≤ sum_at self.now.lows output.now.singletons) }
         ensures bytes { IfSome result (λ n. 1 ≤ sum_at self.now.byte_lows output.now.singletons) }
         ensures none { IfNone result (1 ≤ sum_at self.now.lows output.now.singletons
@@ -272,7 +264,7 @@ impl Masses {
             width: output.hi.above(output.lo),
             sum,
             offset: live_offset(&self.byte_highs, output),
-            parts: u64::from(parts),
+            parts: u64::from(width.parts()),
         };
         let ranges = ranges_of(output, &self.byte_lows, &self.byte_highs);
         let deviations = deviations_of(output, &deviations.rises, &deviations.falls);

@@ -1,6 +1,6 @@
 use Rattle.std.proofs.Common.{inl, inr, subst, rules}
 use Rattle.fuzzy_meaning.specs.Blocks.{IsValidCondition}
-use Rattle.error_bound.specs.Reaches.{IsEndOfCondition}
+use Rattle.error_bound.specs.{Reaches.IsEndOfCondition, Flattening.is_any}
 use Rattle.error_bound.proofs.ends.+ends.Goals.{end_among-in-Some, end_among-in-None}
 use Rattle.error_bound.proofs.FlatteningLemmas.{end_from, end_from_none}
 use Rattle.error_bound.proofs.ListLemmas.{part_asks, parts_ask}
@@ -8,15 +8,15 @@ use Rattle.error_bound.proofs.ends.+ends.Goals as goal
 
 pub end_among-end_of_literal-end-requires-clause-literal : goal.end_among-end_of_literal-end-requires-clause-literal
 end_among-end_of_literal-end-requires-clause-literal t c =
-    let asks = part_asks c.parts_are_valid.ensures c.args.block.now c.args.parts.now c.loop-k.k c.index-parts-k.result
+    let asks = part_asks c.parts_are_valid.ensures c.args.table.now.table.now.block.now c.args.parts.now c.loop-k.k c.index-parts-k.result
     (search rules) (search rules) c.index-parts-k.is c.requires.parts in
-    subst (IsValidCondition c.args.block.now) c.in-Some.ensures asks.1
+    subst (IsValidCondition c.args.table.now.table.now.block.now) c.in-Some.ensures asks.1
 
 pub end_among-end_of-end-requires : goal.end_among-end_of-end-requires
 end_among-end_of-end-requires t c =
-    let asks = part_asks c.parts_are_valid.ensures c.args.block.now c.args.parts.now c.loop-k.k c.index-parts-k.result
+    let asks = part_asks c.parts_are_valid.ensures c.args.table.now.table.now.block.now c.args.parts.now c.loop-k.k c.index-parts-k.result
     (search rules) (search rules) c.index-parts-k.is c.requires.parts in
-    (search (rules, asks.0), (asks.1, (c.requires.block, c.requires.terms)))
+    (search (rules, asks.0), (asks.1, c.requires.table))
 
 pub end_among-joined-joined-requires-clause-left : goal.end_among-joined-joined-requires-clause-left
 end_among-joined-joined-requires-clause-left t c = elim c.match-literal_in.branch [
@@ -26,30 +26,30 @@ end_among-joined-joined-requires-clause-left t c = elim c.match-literal_in.branc
 
 pub end_among-loop-k-preserved : goal.end_among-loop-k-preserved
 end_among-loop-k-preserved t c =
-    let b = c.args.block.now in
-    let box = c.args.terms.now.bytes.0.items in
+    let b = c.args.table.now.table.now.block.now in
+    let box = c.args.table.now.bytes.0.items in
     let part = c.index-parts-k.result in
     let q = c.match-literal_in.end in
-    let made : IsEndOfCondition b box part c.args.upper q = elim c.match-literal_in.branch [
+    let made : IsEndOfCondition b box part c.args.side q = elim c.match-literal_in.branch [
       | end_among-in-Some w ↦ rw (w.end-is, w.in-Some.ensures) w.end_of_literal-end.ensures
       | end_among-in-None w ↦ rw w.end-is w.end_of-end.ensures
     ] in
     let m = c.joined-joined.ensures in
-    end_from b box c.args.any c.args.upper c.args.parts.now c.loop-k.k part q c.loop-k.joined c.joined-joined.result
+    end_from b box (is_any c.args.group) c.args.side c.args.parts.now c.loop-k.k part q c.loop-k.joined c.joined-joined.result
     (search rules) (search rules) c.index-parts-k.is made c.loop-k.invariant m.value m.byte m.small
 
 pub end_among-loop-k-init : goal.end_among-loop-k-init
 end_among-loop-k-init t c =
     let m = c.of_none-joined.ensures in
-    end_from_none c.args.block.now c.args.terms.now.bytes.0.items c.args.any c.args.upper c.args.parts.now
+    end_from_none c.args.table.now.table.now.block.now c.args.table.now.bytes.0.items (is_any c.args.group) c.args.side c.args.parts.now
     c.of_none-joined.result m.value m.byte m.small
 
 pub end_of-end_among-requires : goal.end_of-end_among-requires
 end_of-end_among-requires t c =
-    let asks = parts_ask c.args.block.now c.condition.view_is (inl c.in-And.is) c.as_slice.ensures.value
-    c.requires.condition in (search (rules, asks.0), (asks.1, (c.requires.block, c.requires.terms)))
+    let asks = parts_ask c.args.table.now.table.now.block.now c.condition.view_is (inl c.in-And.is) c.as_slice.ensures.value
+    c.requires.condition in (search (rules, asks.0), (asks.1, c.requires.table))
 
 pub end_of-end_among-requires-in-Or : goal.end_of-end_among-requires-in-Or
 end_of-end_among-requires-in-Or t c =
-    let asks = parts_ask c.args.block.now c.condition.view_is (inr c.in-Or.is) c.as_slice-in-Or.ensures.value
-    c.requires.condition in (search (rules, asks.0), (asks.1, (c.requires.block, c.requires.terms)))
+    let asks = parts_ask c.args.table.now.table.now.block.now c.condition.view_is (inr c.in-Or.is) c.as_slice-in-Or.ensures.value
+    c.requires.condition in (search (rules, asks.0), (asks.1, c.requires.table))

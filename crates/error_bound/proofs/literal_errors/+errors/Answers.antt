@@ -10,31 +10,31 @@ pub deviation_among-reach_of_literal-reach-requires-clause-term :
     goal.deviation_among-reach_of_literal-reach-requires-clause-term
 deviation_among-reach_of_literal-reach-requires-clause-term t c =
     let l = c.in-Some.literal in
-    let asks = part_asks c.parts_are_valid.ensures c.args.block.now c.args.parts.now c.loop-k.k c.index-parts-k.result
+    let asks = part_asks c.parts_are_valid.ensures c.args.table.now.table.now.block.now c.args.parts.now c.loop-k.k c.index-parts-k.result
     (search rules) (search rules) c.index-parts-k.is c.requires.parts in
-    valid_under c.args.block.now l.negated (is l.input l.term)
-    (subst (IsValidCondition c.args.block.now) c.in-Some.ensures asks.1)
+    valid_under c.args.table.now.table.now.block.now l.negated (is l.input l.term)
+    (subst (IsValidCondition c.args.table.now.table.now.block.now) c.in-Some.ensures asks.1)
 
 pub deviation_among-deviation_of-here-requires : goal.deviation_among-deviation_of-here-requires
 deviation_among-deviation_of-here-requires t c =
-    let asks = part_asks c.parts_are_valid.ensures c.args.block.now c.args.parts.now c.loop-k.k c.index-parts-k.result
+    let asks = part_asks c.parts_are_valid.ensures c.args.table.now.table.now.block.now c.args.parts.now c.loop-k.k c.index-parts-k.result
     (search rules) (search rules) c.index-parts-k.is c.requires.parts in
-    (search (rules, asks.0), (asks.1, (c.requires.block, c.requires.terms)))
+    (search (rules, asks.0), (asks.1, c.requires.table))
 
 pub deviation_of-deviation_among-requires : goal.deviation_of-deviation_among-requires
 deviation_of-deviation_among-requires t c =
-    let asks = parts_ask c.args.block.now c.condition.view_is (inl c.in-And.is) c.as_slice.ensures.value
-    c.requires.condition in (search (rules, asks.0), (asks.1, (c.requires.block, c.requires.terms)))
+    let asks = parts_ask c.args.table.now.table.now.block.now c.condition.view_is (inl c.in-And.is) c.as_slice.ensures.value
+    c.requires.condition in (search (rules, asks.0), (asks.1, c.requires.table))
 
 pub deviation_of-deviation_among-requires-in-Or : goal.deviation_of-deviation_among-requires-in-Or
 deviation_of-deviation_among-requires-in-Or t c =
-    let asks = parts_ask c.args.block.now c.condition.view_is (inr c.in-Or.is) c.as_slice-in-Or.ensures.value
-    c.requires.condition in (search (rules, asks.0), (asks.1, (c.requires.block, c.requires.terms)))
+    let asks = parts_ask c.args.table.now.table.now.block.now c.condition.view_is (inr c.in-Or.is) c.as_slice-in-Or.ensures.value
+    c.requires.condition in (search (rules, asks.0), (asks.1, c.requires.table))
 
 pub deviation_of-returns-in-Or : goal.deviation_of-returns-in-Or
 deviation_of-returns-in-Or t c =
-    let b = c.args.block.now in
-    let box = c.args.terms.now.bytes.0.items in
+    let b = c.args.table.now.table.now.block.now in
+    let box = c.args.table.now.bytes.0.items in
     let d = c.deviation_among-in-Or.result in
     subst (λ x. IsDeviationOfCondition b box x d) (ap tree (sym c.in-Or.is) ∙ c.condition.view_is)
     (subst (λ ps. IsDeviationOfCondition b box (any (conditions ps)) d) c.as_slice-in-Or.ensures.value

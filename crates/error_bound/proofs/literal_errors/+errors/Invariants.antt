@@ -5,4 +5,4 @@ use Rattle.error_bound.proofs.literal_errors.+errors.Given as goal
 
 abbrev pub invariant-deviation_among-loop-k : goal.invariant-deviation_among-loop-k
 invariant-deviation_among-loop-k l =
-    IsDeviationOfCondition l.block l.terms.bytes.0.items (all (conditions (drop l.k l.parts))) l.deviation
+    IsDeviationOfCondition l.table.table.now.block.now l.table.bytes.0.items (all (conditions (drop l.k l.parts))) l.deviation

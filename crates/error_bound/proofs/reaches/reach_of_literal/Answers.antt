@@ -5,7 +5,9 @@ use Rattle.error_bound.proofs.reaches.reach_of_literal.Goals as goal
 
 pub returns : goal.returns
 returns c =
-    let b = c.args.block.now in
-    let terms = c.args.terms.now in
-    let found = literal_reach b terms c.args.input c.args.term _ _ c.requires.term c.requires.terms in
-    subst (IsReachOfLiteral b terms.bytes.0.items c.args.input c.args.term) (sym found.1) found.2
+    let b = c.args.table.now.table.now.block.now in
+    let t = c.requires.table in
+    let box = c.args.table.now.bytes.0.items in
+    let found = literal_reach b box c.args.table.now.rows c.args.input c.args.term _ _ c.requires.term t.box_is.count
+    t.rows in
+    subst (IsReachOfLiteral b box c.args.input c.args.term) (sym found.1) found.2

@@ -8,5 +8,5 @@ end_of-requires-clause-condition c = c.requires.condition.valid c.requires.rule.
 pub returns : goal.returns
 returns c =
     let w = c.weighted.ensures in
-    end_weighted c.args.block.now c.args.terms.now.bytes.0.items c.args.rule.now c.args.upper
+    end_weighted c.args.table.now.table.now.block.now c.args.table.now.bytes.0.items c.args.rule.now c.args.side
     c.args.condition.now c.end_of.result _ _ c.requires.condition c.end_of.ensures refl w.value w.byte w.small

@@ -7,7 +7,7 @@ deviation_of-deviation-requires-clause-condition c = c.requires.condition.valid 
 
 pub returns : goal.returns
 returns c =
-    let e = term_errors c.args.block.now c.args.terms.now.bytes.0.items in
+    let e = term_errors c.args.table.now.table.now.block.now c.args.table.now.bytes.0.items in
     let s : fall_to_rise c.deviation_of-deviation.result ≡ deviation e c.args.rule.now.cond =
     c.deviation_of-deviation.ensures.value
     ∙ c.requires.condition.errors e in

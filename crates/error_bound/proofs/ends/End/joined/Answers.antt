@@ -1,7 +1,7 @@
 use Rattle.error_bound.proofs.ends.End.joined.Goals as goal
 
-pub returns-then-any-clause-byte : goal.returns-then-any-clause-byte
-returns-then-any-clause-byte c = rw c.if-any.true c.max-then-any.ensures
+pub returns-in-Any-clause-byte : goal.returns-in-Any-clause-byte
+returns-in-Any-clause-byte c = rw c.in-Any.is c.max-in-Any.ensures
 
-pub returns-else-any-clause-byte : goal.returns-else-any-clause-byte
-returns-else-any-clause-byte c = rw c.if-any.false c.min-else-any.ensures
+pub returns-in-All-clause-byte : goal.returns-in-All-clause-byte
+returns-in-All-clause-byte c = rw c.in-All.is c.min-in-All.ensures

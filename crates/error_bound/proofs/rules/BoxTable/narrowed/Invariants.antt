@@ -1,9 +1,0 @@
-use Rattle.std.proofs.Common.{◌≡◌, length, take}
-use Rattle.error_bound.specs.Matters.{narrowed}
-use Rattle.error_bound.proofs.rules.BoxTable.narrowed.Given as goal
-
-abbrev pub invariant-loop-k : goal.invariant-loop-k
-invariant-loop-k l = record {
-  count : length l.narrow.items ≡ l.k;
-  items : l.narrow.items ≡ take l.k (narrowed l.block l.self.bytes.0.items);
-}

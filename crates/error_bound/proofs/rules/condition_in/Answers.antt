@@ -1,5 +1,0 @@
-use Rattle.error_bound.proofs.TableLemmas.{reaches_alike_itself}
-use Rattle.error_bound.proofs.rules.condition_in.Goals as goal
-
-pub returns-in-None : goal.returns-in-None
-returns-in-None c = reaches_alike_itself c.args.block.now c.args.rule.now.cond

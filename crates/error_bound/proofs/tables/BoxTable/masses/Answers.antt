@@ -1,0 +1,135 @@
+use Rattle.std.proofs.Common.{◌≡◌, ℕ, suc, true, false, ◌+◌, ◌-◌, ◌<◌, ◌∷◌, length, drop, Some, refl, sym, ap₂, ◌∙◌}
+use Rattle.std.proofs.{Common.ap, Common.subst, Common.arith, Math.Seq.drop-cons, lemmas.Option.slice_get_read}
+use Rattle.std.specs.Prelude.{slice_get}
+use Rattle.fuzzy_meaning.specs.declared.block.Rule.{Rule}
+use Rattle.error_bound.specs.{Tight.low_part, Tight.high_part, Leaves.concludes_some, Boxes.rule_byte_span}
+use Rattle.error_bound.proofs.TightLawLemmas.{AreGreatest-raised, AreGreatest-skipped, AreGreatest-within}
+use Rattle.error_bound.proofs.{TightLemmas.ends_ordered}
+use Rattle.error_bound.proofs.tables.BoxTable.masses.Goals as goal
+
+pub loop-n-preserved-then-not-is_within : goal.loop-n-preserved-then-not-is_within
+loop-n-preserved-then-not-is_within c =
+    let b = c.args.self.now.table.now.block.now in
+    let box = c.args.self.now.bytes.0.items in
+    let rules = c.as_slice-rules.result.now in
+    let o = c.args.out in
+    let j = c.loop-n.n - 1 in
+    let within : j < length rules = omega (arith, c.loop-n-test.true, c.loop-n.auto.n) in
+    let back : suc j ≡ c.loop-n.n = omega (arith, c.loop-n-test.true) in
+    let r = c.index-rules-n.result in
+    let here : drop j rules ≡ r ∷ drop c.loop-n.n rules = drop-cons rules j r within
+    ∙ ap₂ (λ q n. q ∷ drop n rules) (sym c.index-rules-n.is) back in
+    let found : slice_get b.rules j ≡ Some r = subst (λ l. slice_get l j ≡ Some r) c.as_slice-rules.ensures
+    (slice_get_read rules (length rules) j r refl within c.index-rules-n.is) in
+    let m = c.mass_of_rule-mass.ensures r found in
+    let mass = c.mass_of_rule-mass.result in
+    let rest = drop c.loop-n.n rules in
+    let before = c.loop-n.invariant in
+    record {
+      lows_count = c.raise_terms.array_long;
+      highs_count = c.raise_terms-then-not-is_within.array_long;
+      byte_lows_count = c.raise_terms-then-not-is_within-2.array_long;
+      byte_highs_count = c.raise_terms-then-not-is_within-3.array_long;
+      lows = AreGreatest-raised (low_part b box) 255000000000 o r rest (drop j rules) mass.low c.loop-n.lows
+          c.raise_terms.new.errors here m.low m.low_small before.lows c.raise_terms.ensures;
+      highs = AreGreatest-raised (high_part b box) 255000000000 o r rest (drop j rules) mass.high c.loop-n.highs
+          c.raise_terms-then-not-is_within.new.errors here m.high m.high_small before.highs
+          c.raise_terms-then-not-is_within.ensures;
+      byte_lows = AreGreatest-raised (λ q. (rule_byte_span b box q).low) 255 o r rest (drop j rules) mass.byte_low
+          c.loop-n.byte_lows c.raise_terms-then-not-is_within-2.new.errors here m.byte_low m.byte_low_small
+          before.byte_lows c.raise_terms-then-not-is_within-2.ensures;
+      byte_highs = AreGreatest-raised (λ q. (rule_byte_span b box q).high) 255 o r rest (drop j rules) mass.byte_high
+          c.loop-n.byte_highs c.raise_terms-then-not-is_within-3.new.errors here m.byte_high m.byte_high_small
+          before.byte_highs c.raise_terms-then-not-is_within-3.ensures;
+    }
+
+pub loop-n-preserved-else-not-is_within : goal.loop-n-preserved-else-not-is_within
+loop-n-preserved-else-not-is_within c =
+    let b = c.args.self.now.table.now.block.now in
+    let box = c.args.self.now.bytes.0.items in
+    let rules = c.as_slice-rules.result.now in
+    let o = c.args.out in
+    let j = c.loop-n.n - 1 in
+    let within : j < length rules = omega (arith, c.loop-n-test.true, c.loop-n.auto.n) in
+    let back : suc j ≡ c.loop-n.n = omega (arith, c.loop-n-test.true) in
+    let r = c.index-rules-n.result in
+    let here : drop j rules ≡ r ∷ drop c.loop-n.n rules = drop-cons rules j r within
+    ∙ ap₂ (λ q n. q ∷ drop n rules) (sym c.index-rules-n.is) back in
+    let found : slice_get b.rules j ≡ Some r = subst (λ l. slice_get l j ≡ Some r) c.as_slice-rules.ensures
+    (slice_get_read rules (length rules) j r refl within c.index-rules-n.is) in
+    let m = c.is_within.ensures c.if-not-is_within.false r found in
+    let so_far = c.least_masses-so_far.ensures in
+    let rest = drop c.loop-n.n rules in
+    let before = c.loop-n.invariant in
+    record {
+      lows_count = before.lows_count;
+      highs_count = before.highs_count;
+      byte_lows_count = before.byte_lows_count;
+      byte_highs_count = before.byte_highs_count;
+      lows = AreGreatest-within (low_part b box) 255000000000 o r rest (drop j rules) c.loop-n.lows here
+          (λ t few one. omega (arith, m.low, so_far.low t few one)) before.lows;
+      highs = AreGreatest-within (high_part b box) 255000000000 o r rest (drop j rules) c.loop-n.highs here
+          (λ t few one. omega (arith, m.high, so_far.high t few one)) before.highs;
+      byte_lows = AreGreatest-within (λ q. (rule_byte_span b box q).low) 255 o r rest (drop j rules)
+          c.loop-n.byte_lows here (λ t few one. omega (arith, m.byte_low, so_far.byte_low t few one)) before.byte_lows;
+      byte_highs = AreGreatest-within (λ q. (rule_byte_span b box q).high) 255 o r rest (drop j rules)
+          c.loop-n.byte_highs here (λ t few one. omega (arith, m.byte_high, so_far.byte_high t few one)) before.byte_highs;
+    }
+
+unconcluded : (r : Rule) (o n : ℕ) → concludes_some r o ≡ false → concludes_some r o ≡ true → n ≡ 0
+unconcluded r o n none one = absurd (let z : ⊥ = cc in z)
+
+pub loop-n-preserved : goal.loop-n-preserved
+loop-n-preserved c =
+    let b = c.args.self.now.table.now.block.now in
+    let box = c.args.self.now.bytes.0.items in
+    let rules = c.as_slice-rules.result.now in
+    let o = c.args.out in
+    let j = c.loop-n.n - 1 in
+    let within : j < length rules = omega (arith, c.loop-n-test.true, c.loop-n.auto.n) in
+    let back : suc j ≡ c.loop-n.n = omega (arith, c.loop-n-test.true) in
+    let r = c.index-rules-n.result in
+    let here : drop j rules ≡ r ∷ drop c.loop-n.n rules = drop-cons rules j r within
+    ∙ ap₂ (λ q n. q ∷ drop n rules) (sym c.index-rules-n.is) back in
+    let none = sym c.concludes_some.ensures ∙ c.if-concludes_some.false in
+    let rest = drop c.loop-n.n rules in
+    let before = c.loop-n.invariant in
+    record {
+      lows_count = before.lows_count;
+      highs_count = before.highs_count;
+      byte_lows_count = before.byte_lows_count;
+      byte_highs_count = before.byte_highs_count;
+      lows = AreGreatest-skipped (low_part b box) 255000000000 o r rest (drop j rules) c.loop-n.lows here
+          (unconcluded r o _ none) before.lows;
+      highs = AreGreatest-skipped (high_part b box) 255000000000 o r rest (drop j rules) c.loop-n.highs here
+          (unconcluded r o _ none) before.highs;
+      byte_lows = AreGreatest-skipped (λ q. (rule_byte_span b box q).low) 255 o r rest (drop j rules)
+          c.loop-n.byte_lows here (unconcluded r o _ none) before.byte_lows;
+      byte_highs = AreGreatest-skipped (λ q. (rule_byte_span b box q).high) 255 o r rest (drop j rules)
+          c.loop-n.byte_highs here (unconcluded r o _ none) before.byte_highs;
+    }
+
+pub returns : goal.returns
+returns c =
+    let b = c.args.self.now.table.now.block.now in
+    let box = c.args.self.now.bytes.0.items in
+    let i = c.loop-n.invariant in
+    let none : c.loop-n.n ≡ 0 = omega (arith, c.loop-n-test.false) in
+    let whole : drop c.loop-n.n c.as_slice-rules.result.now ≡ b.rules =
+    ap (λ n. drop n c.as_slice-rules.result.now) none ∙ c.as_slice-rules.ensures in
+    let table = c.requires.table.box_is in
+    record {
+      masses = record {
+        lows = rw whole at i.lows;
+        highs = rw whole at i.highs;
+        byte_lows = rw whole at i.byte_lows;
+        byte_highs = rw whole at i.byte_highs;
+      };
+      ordered = λ t few. omega (
+        arith,
+        i.lows.each t few,
+        i.highs.each t few,
+        ends_ordered b box c.requires.table.table.valid
+            table.count table.intervals c.args.out (t + 1) (drop c.loop-n.n c.as_slice-rules.result.now),
+      );
+    }
