@@ -3,17 +3,17 @@
 use Rattle.std.specs.Prelude.{ℕ, ◌+◌, ◌-◌, ◌<◌, ◌≤◌, List, [], ◌∷◌, length, IfSome, slice_index}
 use Rattle.std.specs.List.{sum_by}
 use Rattle.fuzzy_meaning.specs.declared.{block.Block.Block, block.Output.Output}
-use Rattle.fuzzy_meaning.specs.Blocks.{IsValid, output_at}
-use Rattle.error_bound.specs.declared.boxes.Interval.{Interval}
-use Rattle.cell_bounds.specs.{declared.walks.Walk.Walk, CellBounds.CellsAreWithin}
+use Rattle.fuzzy_meaning.specs.Blocks.{output_at}
+use Rattle.error_bound.specs.{declared.boxes.Interval.Interval, Reaches.IsBlockTable}
+use Rattle.byte_scaling.specs.Widths.{parts}
+use Rattle.cell_bounds.specs.{declared.walks.Walk.Walk, declared.walks.CellAbove.CellAbove}
+use Rattle.cell_bounds.specs.CellBounds.{CellsAreWithin, IsFirstCellAbove}
 
--- a walk over outputs of a valid block
+-- a walk over outputs of a block
 pub record IsWalk (w : Walk) : Type 0 where
-  pub block : IsValid w.block.now
-  pub parts_from : 1 ≤ w.parts
-  pub parts_to : w.parts ≤ 256
+  pub table : IsBlockTable w.table.now
   pub limits : (k : ℕ) → slice_index w.limits.now k ≤ 1000000
-  pub end : w.end ≤ length w.block.now.outputs
+  pub end : w.end ≤ length w.table.now.block.now.outputs
   pub all : w.end ≤ length w.limits.now
 
 -- a number is raised to the greatest of itself and the Bounds of a box's cells
@@ -39,3 +39,14 @@ whole_ranges = 1000000 ∷ 1000000 ∷ 1000000 ∷ 1000000 ∷ []
 -- how often a box may be cut
 abbrev pub cuts_of : List Interval → ℕ
 cuts_of box = sum_by (λ v. v.to - v.from) box
+
+-- ---- what a walk looks for in a box
+
+abbrev pub AreRaisedBy : Walk → List Interval → List ℕ → List ℕ → Type 0
+AreRaisedBy w box olds news =
+    AreRaised w.table.now.block.now (parts w.table.now.width) w.first w.end box olds news
+
+abbrev pub IsFirstFound : Walk → List Interval → CellAbove → Type 0
+IsFirstFound w box a =
+    IsFirstCellAbove w.table.now.block.now (parts w.table.now.width) w.limits.now (w.first + 1) w.end box a.bytes.items
+    a.out a.bound

@@ -1,18 +1,20 @@
 //! The masses that an output's terms may have on a cell, and the answer there.
+ghost use Rattle.byte_scaling.specs.Widths.{parts};
 ghost use Rattle.std.specs.Prelude.{◌≡◌, ◌≤◌, ◌<◌, ◌+◌, ◌*◌, ◌↔◌, ℕ, All, IsTrue, length, take, slice_index};
 ghost use Rattle.std.specs.Prelude.{IfSome, IfNone, None};
 ghost use Rattle.fz_num.specs.Decimals.{distance};
 ghost use Rattle.cell_error.specs.Errors.{IsRange, IsCellError, Covers, sure_mass as sure_mass_of};
-ghost use Rattle.fuzzy_meaning.specs.Blocks.{IsValid, IsValidOutput, output_at};
+ghost use Rattle.fuzzy_meaning.specs.Blocks.{IsValidOutput, output_at};
 ghost use Rattle.error_bound.specs.{Masses.AreMasses, Reaches.IsTable};
 ghost use Rattle.error_bound.specs.MassRanges.{answer_at, rest_of};
 ghost use Rattle.cell_bounds.specs.Cells.{IsCell, IsUnsure, mass_sum, dot_sum, answer_by};
 ghost use Rattle.cell_bounds.specs.CellMasses.{AreFit, AreCellMasses, terms_of};
+ghost use Rattle.error_bound.specs.Reaches.{block_of, box_of, parts_of};
 
-use byte_scaling::near;
+use byte_scaling::{Width, near};
 use cell_error::{Answer, MassRange, least_error, serves};
 use error_bound::{BoxTable, Masses, output_of, ranges_of};
-use fuzzy_meaning::{Block, Output};
+use fuzzy_meaning::Output;
 
 /// The ranges of the masses of an output's terms on a cell, how far above the low end of the output's range the
 /// answer is if there is no mass, and the answer over bytes.
@@ -47,53 +49,45 @@ impl CellMasses {
 
 /// The masses of an output on a table's cell. With NC there are none if no mass is sure to be above 0, or all masses
 /// over bytes are 0.
-pub(crate) fn cell_masses(
-    block: &Block,
-    table: &BoxTable,
-    out: u8,
-    parts: u16,
-    masses: &Masses,
-) -> Option<CellMasses>
-    requires block { IsValid block.now }
-    requires table { IsTable block.now table.now }
-    requires cell { IsCell table.now.bytes.0.items }
+pub(crate) fn cell_masses(table: &BoxTable, out: u8, masses: &Masses) -> Option<CellMasses>
+    requires table { IsTable table.now }
+    requires cell { IsCell (box_of table.now) }
     requires out_from { 1 ≤ out }
-    requires out_to { out ≤ length block.now.outputs }
-    requires parts_from { 1 ≤ parts }
-    requires parts_to { parts ≤ 256 }
-    requires masses { AreMasses block.now table.now.bytes.0.items out masses.now }
+    requires out_to { out ≤ length (block_of table.now).outputs }
+    requires masses { AreMasses (block_of table.now) (box_of table.now) out masses.now }
     requires ordered { (t : ℕ) → t < 15 → slice_index masses.now.lows t ≤ slice_index masses.now.highs t }
-    ensures masses { IfSome result (λ c. IfSome (output_at block.now out)
-        (λ x. AreCellMasses block.now table.now.bytes.0.items out x parts c)) }
+    ensures masses { IfSome result (λ c. IfSome (output_at (block_of table.now) out)
+        (λ x. AreCellMasses (block_of table.now) (box_of table.now) out x (parts_of table.now) c)) }
     ensures fit { IfSome result AreFit }
     ensures none { IfNone result
-        (IfSome (output_at block.now out) (IsUnsure block.now table.now.bytes.0.items out)) }
+        (IfSome (output_at (block_of table.now) out) (IsUnsure (block_of table.now) (box_of table.now) out)) }
 {
-    let output = output_of(block, out);
+    let output = output_of(table.table.block, out);
     let ranges = ranges_of(output, &masses.lows, &masses.highs);
-    match answer(output, &masses.byte_highs, parts) {
-        Some(value) => with_rest(output, ranges, parts, value),
+    let width = table.table.width;
+    match answer(output, &masses.byte_highs, width) {
+        Some(value) => with_rest(output, ranges, width, value),
         None => None,
     }
 }
 
 /// The answer from the masses over bytes. With NC there is none if they are all 0.
-fn answer(output: &Output, masses: &[u64; 15], parts: u16) -> Option<u64>
+fn answer(output: &Output, masses: &[u64; 15], width: Width) -> Option<u64>
     requires output { IsValidOutput output.now }
     requires masses { (k : ℕ) → k < 15 → slice_index masses.now k ≤ 255 }
-    requires parts_from { 1 ≤ parts }
-    requires parts_to { parts ≤ 256 }
-    ensures some { IfSome result (λ q. (before : ℕ) → answer_by (slice_index masses.now) parts output.now before ≡ q) }
-    ensures small { IfSome result (λ q. q ≤ 255 * parts) }
+    ensures some { IfSome result (λ q. (before : ℕ)
+        → answer_by (slice_index masses.now) (parts width) output.now before ≡ q) }
+    ensures small { IfSome result (λ q. q ≤ 255 * parts width) }
     ensures nc { IfNone result (output.now.default ≡ None) }
     ensures none { IfNone result (mass_sum (slice_index masses.now) 0 output.now.singletons ≡ 0) }
 {
+    let parts = u64::from(width.parts());
     let (mass, dot) = byte_sums(output, masses);
     if mass > 0 {
-        Some(u64::from(parts) * dot / mass)
+        Some(parts * dot / mass)
     } else {
         match output.default {
-            Some(number) => Some(u64::from(parts) * u64::from(near(output, number))),
+            Some(number) => Some(parts * u64::from(near(output, number))),
             None => None,
         }
     }
@@ -119,13 +113,16 @@ fn byte_sums(output: &Output, masses: &[u64; 15]) -> (u64, u64)
 }
 
 /// The masses with DEFAULT as the answer if there is no mass; with NC `None`, unless some mass is sure to be above 0.
-fn with_rest(output: &Output, ranges: [MassRange; 15], parts: u16, value: u64) -> Option<CellMasses>
+fn with_rest(
+    output: &Output,
+    ranges: [MassRange; 15],
+    width: Width,
+    value: u64,
+) -> Option<CellMasses>
     requires output { IsValidOutput output.now }
     requires terms { All (IsRange (distance output.now.lo output.now.hi)) (take (length output.now.singletons) ranges) }
-    requires parts_from { 1 ≤ parts }
-    requires parts_to { parts ≤ 256 }
-    requires value { value ≤ 255 * parts }
-    ensures answer { IfSome result (λ c. c.answer ≡ answer_at parts output.now value) }
+    requires value { value ≤ 255 * parts width }
+    ensures answer { IfSome result (λ c. c.answer ≡ answer_at (parts width) output.now value) }
     ensures terms { IfSome result (λ c. terms_of c ≡ take (length output.now.singletons) ranges) }
     ensures rest { IfSome result (λ c. c.rest ≡ rest_of output.now) }
     ensures fit { IfSome result AreFit }
@@ -137,7 +134,7 @@ fn with_rest(output: &Output, ranges: [MassRange; 15], parts: u16, value: u64) -
     let count = output.singletons.len();
     let answer = Answer {
         value,
-        parts: 255 * u64::from(parts),
+        parts: 255 * u64::from(width.parts()),
         width: output.hi.above(output.lo),
     };
     match output.default {

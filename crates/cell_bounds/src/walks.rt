@@ -1,18 +1,19 @@
 //! Walks over the cells of a box.
-ghost use Rattle.std.specs.Prelude.{◌≡◌, ◌≢◌, ◌≤◌, ◌<◌, ◌+◌, ℕ, IfSome, IfNone, IfOk, IfErr, IsTrue, ◌↔◌, Some};
+ghost use Rattle.std.specs.Prelude.{◌≡◌, ◌≤◌, ◌<◌, ◌+◌, ℕ, IfSome, IfNone, IfOk, IfErr, IsTrue, ◌↔◌, Some};
 ghost use Rattle.std.specs.Prelude.{length, map, set, slice_get, slice_index};
-ghost use Rattle.fuzzy_meaning.specs.Blocks.{IsValid, output_at};
+ghost use Rattle.fuzzy_meaning.specs.Blocks.{output_at};
 ghost use Rattle.error_bound.specs.declared.boxes.Interval.{Interval as TheInterval};
-ghost use Rattle.error_bound.specs.{Boxes.IsBox, Boxes.IsBoxOf, Reaches.IsBlockTable, Reaches.IsTable};
-ghost use Rattle.cell_bounds.specs.{Cells.IsCell, Walks.IsWalk, Walks.IsRaised, Walks.AreRaised, Walks.AreAtMost};
-ghost use Rattle.cell_bounds.specs.Walks.{whole_ranges};
+ghost use Rattle.error_bound.specs.{Boxes.IsBox, Boxes.IsBoxOf, Reaches.IsBlockTable};
+ghost use Rattle.cell_bounds.specs.{Cells.IsCell, Walks.IsWalk, Walks.IsRaised, Walks.AreAtMost};
+ghost use Rattle.cell_bounds.specs.Walks.{whole_ranges, IsFirstFound, AreRaisedBy};
 ghost use Rattle.cell_bounds.specs.CellBounds.{IsCellCount, IsCellsBound, IsFirstCellAbove, cell_count, IsUnsureOn};
 ghost use Rattle.cell_bounds.specs.CellBounds.{IsFirstUnsure};
+ghost use Rattle.error_bound.specs.Reaches.{block_of, box_of, parts_of, IsTableOf};
+ghost use Rattle.byte_scaling.specs.Widths.{parts};
 
 use crate::cells::count_above;
 use arrayvec::ArrayVec;
 use error_bound::{BlockTable, BoxTable, ByteBox, Interval};
-use fuzzy_meaning::Block;
 
 /// The greatest number of cells in the box of a leaf of cells.
 pub const MOST_CELLS: u32 = 64;
@@ -26,93 +27,76 @@ pub struct CellAbove {
 }
 
 /// What is looked for on each cell: Bounds above their limits, of the outputs at the indices from `first` to below
-/// `end`, for answers with `parts` parts to a byte. Each limit is at the index of its output.
+/// `end`. Each limit is at the index of its output.
 #[derive(Clone, Copy)]
 pub(crate) struct Walk<'a> {
-    block: &'a Block,
-    parts: u16,
+    table: &'a BlockTable<'a>,
     limits: &'a [u32],
     first: u8,
     end: u8,
 }
 
-/// The greatest Bound of a box's cells for each output at its index, for answers with `parts` parts to a byte; or
-/// the first cell with one above its limit, with the first input's byte rising slowest, and its first such output.
+/// The greatest Bound of a box's cells for each output at its index; or the first cell with one above
+/// its limit, with the first input's byte rising slowest, and its first such output.
 pub fn cells_bounds(
-    block: &Block,
     table: &BlockTable,
     bytes: &ByteBox,
-    parts: u16,
     limits: &[u32],
 ) -> Result<[u32; 4], CellAbove>
-    requires block { IsValid block.now }
-    requires table { IsBlockTable block.now table.now }
-    requires bytes { IsBoxOf block.now bytes.now.0.items }
-    requires parts_from { 1 ≤ parts }
-    requires parts_to { parts ≤ 256 }
+    requires table { IsBlockTable table.now }
+    requires bytes { IsBoxOf table.now.block.now bytes.now.0.items }
     requires limits { (k : ℕ) → slice_index limits.now k ≤ 1000000 }
-    requires all { length block.now.outputs ≤ length limits.now }
-    ensures bounds { IfOk result (λ bounds. (k : ℕ) → k < length block.now.outputs
-        → IfSome (output_at block.now (k + 1))
-        (λ x. IsCellsBound block.now bytes.now.0.items (k + 1) x parts (slice_index bounds k))) }
+    requires all { length table.now.block.now.outputs ≤ length limits.now }
+    ensures bounds { IfOk result (λ bounds. (k : ℕ) → k < length table.now.block.now.outputs
+        → IfSome (output_at table.now.block.now (k + 1))
+        (λ x. IsCellsBound table.now.block.now bytes.now.0.items (k + 1) x (parts table.now.width)
+        (slice_index bounds k))) }
     ensures within { IfOk result (AreAtMost limits.now) }
-    ensures above { IfErr result (λ a. IsFirstCellAbove block.now parts limits.now 1 (length block.now.outputs)
-        bytes.now.0.items a.bytes.items a.out a.bound) }
+    ensures above { IfErr result (λ a. IsFirstCellAbove table.now.block.now (parts table.now.width) limits.now 1
+        (length table.now.block.now.outputs) bytes.now.0.items a.bytes.items a.out a.bound) }
 {
     let walk = Walk {
-        block,
-        parts,
+        table,
         limits,
         first: 0,
-        end: block.outputs.len() as u8,
+        end: table.block.outputs.len() as u8,
     };
-    let mut cell = BoxTable::over(block, table, bytes.copied());
+    let mut cell = BoxTable::over(table, bytes.copied());
     walk.over(bytes.copied(), &mut cell, [0; 4])
 }
 
 /// The same without limits, or the first output that has no Bound on some cell.
-pub fn sure_cells_bounds(
-    block: &Block,
-    table: &BlockTable,
-    bytes: &ByteBox,
-    parts: u16,
-) -> Result<[u32; 4], u8>
-    requires block { IsValid block.now }
-    requires table { IsBlockTable block.now table.now }
-    requires bytes { IsBoxOf block.now bytes.now.0.items }
-    requires parts_from { 1 ≤ parts }
-    requires parts_to { parts ≤ 256 }
-    ensures bounds { IfOk result (λ bounds. (k : ℕ) → k < length block.now.outputs
-        → IfSome (output_at block.now (k + 1))
-        (λ x. IsCellsBound block.now bytes.now.0.items (k + 1) x parts (slice_index bounds k))) }
+pub fn sure_cells_bounds(table: &BlockTable, bytes: &ByteBox) -> Result<[u32; 4], u8>
+    requires table { IsBlockTable table.now }
+    requires bytes { IsBoxOf table.now.block.now bytes.now.0.items }
+    ensures bounds { IfOk result (λ bounds. (k : ℕ) → k < length table.now.block.now.outputs
+        → IfSome (output_at table.now.block.now (k + 1))
+        (λ x. IsCellsBound table.now.block.now bytes.now.0.items (k + 1) x (parts table.now.width)
+        (slice_index bounds k))) }
     ensures within { IfOk result (AreAtMost whole_ranges) }
-    ensures unsure { IfErr result (IsFirstUnsure block.now parts bytes.now.0.items) }
+    ensures unsure { IfErr result (IsFirstUnsure table.now.block.now (parts table.now.width) bytes.now.0.items) }
 {
     let whole = [1_000_000; 4];
-    match cells_bounds(block, table, bytes, parts, &whole) {
+    match cells_bounds(table, bytes, &whole) {
         Ok(bounds) => Ok(bounds),
-        Err(above) => Err(first_unsure(block, table, bytes, parts, above.out)),
+        Err(above) => Err(first_unsure(table, bytes, above.out)),
     }
 }
 
 /// The first output that has no Bound on some cell of a box, given one that has none.
-fn first_unsure(block: &Block, table: &BlockTable, bytes: &ByteBox, parts: u16, known: u8) -> u8
-    requires block { IsValid block.now }
-    requires table { IsBlockTable block.now table.now }
-    requires bytes { IsBoxOf block.now bytes.now.0.items }
-    requires parts_from { 1 ≤ parts }
-    requires parts_to { parts ≤ 256 }
+fn first_unsure(table: &BlockTable, bytes: &ByteBox, known: u8) -> u8
+    requires table { IsBlockTable table.now }
+    requires bytes { IsBoxOf table.now.block.now bytes.now.0.items }
     requires known_from { 1 ≤ known }
-    requires known_to { known ≤ length block.now.outputs }
-    requires known { IsUnsureOn block.now parts bytes.now.0.items known }
-    ensures { IsFirstUnsure block.now parts bytes.now.0.items result }
+    requires known_to { known ≤ length table.now.block.now.outputs }
+    requires known { IsUnsureOn table.now.block.now (parts table.now.width) bytes.now.0.items known }
+    ensures { IsFirstUnsure table.now.block.now (parts table.now.width) bytes.now.0.items result }
 {
     let whole = [1_000_000; 4];
-    let mut cell = BoxTable::over(block, table, bytes.copied());
+    let mut cell = BoxTable::over(table, bytes.copied());
     for place in 0..known - 1 {
         let walk = Walk {
-            block,
-            parts,
+            table: &*table,
             limits: &whole,
             first: place,
             end: place + 1,
@@ -135,15 +119,13 @@ impl Walk<'_> {
         so_far: [u32; 4],
     ) -> Result<[u32; 4], CellAbove>
         requires walk { IsWalk self.now }
-        requires table { IsTable self.now.block.now cell.old }
-        requires bytes { IsBoxOf self.now.block.now bytes.0.items }
+        requires table { IsTableOf self.now.table.now cell.old }
+        requires bytes { IsBoxOf self.now.table.now.block.now bytes.0.items }
         requires so_far { AreAtMost self.now.limits.now so_far }
-        ensures table { IsTable self.now.block.now cell.new }
-        ensures raised { IfOk result (AreRaised self.now.block.now self.now.parts self.now.first self.now.end
-            bytes.0.items so_far) }
+        ensures table { IsTableOf self.now.table.now cell.new }
+        ensures raised { IfOk result (AreRaisedBy self.now bytes.0.items so_far) }
         ensures within { IfOk result (AreAtMost self.now.limits.now) }
-        ensures above { IfErr result (λ a. IsFirstCellAbove self.now.block.now self.now.parts self.now.limits.now
-            (self.now.first + 1) self.now.end bytes.0.items a.bytes.items a.out a.bound) }
+        ensures above { IfErr result (IsFirstFound self.now bytes.0.items) }
     {
         let Some(place) = first_wide(&bytes) else {
             return self.at_cell(&bytes, cell, so_far);
@@ -161,18 +143,16 @@ impl Walk<'_> {
         so_far: [u32; 4],
     ) -> Result<[u32; 4], CellAbove>
         requires walk { IsWalk self.now }
-        requires table { IsTable self.now.block.now cell.old }
-        requires bytes { IsBoxOf self.now.block.now bytes.now.0.items }
+        requires table { IsTableOf self.now.table.now cell.old }
+        requires bytes { IsBoxOf self.now.table.now.block.now bytes.now.0.items }
         requires cell { IsCell bytes.now.0.items }
         requires so_far { AreAtMost self.now.limits.now so_far }
-        ensures table { IsTable self.now.block.now cell.new }
-        ensures raised { IfOk result (AreRaised self.now.block.now self.now.parts self.now.first self.now.end
-            bytes.now.0.items so_far) }
+        ensures table { IsTableOf self.now.table.now cell.new }
+        ensures raised { IfOk result (AreRaisedBy self.now bytes.now.0.items so_far) }
         ensures within { IfOk result (AreAtMost self.now.limits.now) }
-        ensures above { IfErr result (λ a. IsFirstCellAbove self.now.block.now self.now.parts self.now.limits.now
-            (self.now.first + 1) self.now.end bytes.now.0.items a.bytes.items a.out a.bound) }
+        ensures above { IfErr result (IsFirstFound self.now bytes.now.0.items) }
     {
-        cell.move_to(self.block, bytes);
+        cell.move_to(bytes);
         let mut raised = so_far;
         for place in self.first..self.end {
             let old = raised[place as usize];
@@ -194,18 +174,18 @@ impl Walk<'_> {
     /// that is above the output's limit.
     fn raised(&self, table: &BoxTable, place: u8, so_far: u32) -> Result<u32, u32>
         requires walk { IsWalk self.now }
-        requires table { IsTable self.now.block.now table.now }
-        requires cell { IsCell table.now.bytes.0.items }
+        requires table { IsTableOf self.now.table.now table.now }
+        requires cell { IsCell (box_of table.now) }
         requires place { place < self.now.end }
         requires so_far { so_far ≤ slice_index self.now.limits.now place }
-        ensures raised { IfOk result (λ n. IfSome (output_at self.now.block.now (place + 1))
-            (λ x. IsRaised self.now.block.now table.now.bytes.0.items (place + 1) x self.now.parts so_far n)) }
+        ensures raised { IfOk result (λ n. IfSome (output_at (block_of table.now) (place + 1))
+            (λ x. IsRaised (block_of table.now) (box_of table.now) (place + 1) x (parts_of table.now) so_far n)) }
         ensures within { IfOk result (λ n. n ≤ slice_index self.now.limits.now place) }
-        ensures count { IfErr result (λ n. IfSome (output_at self.now.block.now (place + 1))
-            (λ x. IsCellCount self.now.block.now table.now.bytes.0.items (place + 1) x self.now.parts n)) }
+        ensures count { IfErr result (λ n. IfSome (output_at (block_of table.now) (place + 1))
+            (λ x. IsCellCount (block_of table.now) (box_of table.now) (place + 1) x (parts_of table.now) n)) }
         ensures above { IfErr result (λ n. slice_index self.now.limits.now place < n) }
     {
-        match count_above(self.block, table, place + 1, self.parts, so_far) {
+        match count_above(table, place + 1, so_far) {
             None => Ok(so_far),
             Some(count) => {
                 if count > self.limits[place as usize] {

@@ -5,6 +5,7 @@ use Rattle.fuzzy_meaning.specs.{declared.block.Output.Output, declared.block.Blo
 use Rattle.cell_error.specs.{declared.ranges.MassRange.MassRange, Errors.IsRange}
 use Rattle.error_bound.specs.{declared.boxes.Interval.Interval, declared.tight.Masses.Masses}
 use Rattle.error_bound.specs.{Tight.ranges_at, MassRanges.ranges, Tight.low_of, Tight.high_of, Masses.AreMasses}
+use Rattle.error_bound.specs.Reaches.{parts_of}
 use Rattle.cell_bounds.proofs.CellLemmas.{answer_point, none_point, ranges_same, ranges_ok, masses_are, unfinished}
 use Rattle.cell_bounds.proofs.CellLemmas.{unanswered}
 use Rattle.cell_bounds.proofs.masses.cell_masses.Goals as goal
@@ -29,7 +30,7 @@ with_rest-requires-clause-terms c =
 
 pub returns-in-Some : goal.returns-in-Some
 returns-in-Some c =
-    let b = c.args.block.now in
+    let b = c.args.table.now.table.now.block.now in
     let box = c.args.table.now.bytes.0.items in
     let x = c.output_of-output.result.now in
     let found = c.output_of-output.ensures.found in
@@ -39,10 +40,10 @@ returns-in-Some c =
     let same = ranges_are b box c.args.out x c.args.masses.now ts ms (omega (arith, few)) c.ranges_of-ranges.ensures in
     let e = c.with_rest.ensures in
     record {
-      masses = masses_are b box c.args.out x c.args.parts c.in-Some.value ts c.with_rest.result found
+      masses = masses_are b box c.args.out x (parts_of c.args.table.now) c.in-Some.value ts c.with_rest.result found
           (λ bytes before inside.
           answer_point b box bytes c.requires.table.box_is.count c.requires.cell inside c.args.out x
-          (slice_index c.args.masses.now.byte_highs) ms.byte_highs.each c.args.parts before found few
+          (slice_index c.args.masses.now.byte_highs) ms.byte_highs.each (parts_of c.args.table.now) before found few
           ∙ c.in-Some.ensures.some before)
           same e.answer e.terms e.rest e.sure;
       fit = e.fit;
@@ -55,9 +56,9 @@ returns-in-None c =
     record {
       masses = tt;
       fit = tt;
-      none = unanswered c.args.block.now c.args.table.now.bytes.0.items c.args.out x c.output_of-output.ensures.found
+      none = unanswered c.args.table.now.table.now.block.now c.args.table.now.bytes.0.items c.args.out x c.output_of-output.ensures.found
           c.in-None.ensures.nc (λ bytes inside.
-          none_point c.args.block.now c.args.table.now.bytes.0.items bytes c.requires.table.box_is.count c.requires.cell
+          none_point c.args.table.now.table.now.block.now c.args.table.now.bytes.0.items bytes c.requires.table.box_is.count c.requires.cell
           inside c.args.out x (slice_index c.args.masses.now.byte_highs) c.requires.masses.byte_highs.each
           c.output_of-output.ensures.valid.few_terms c.in-None.ensures.none);
     }

@@ -1,13 +1,14 @@
 use Rattle.std.proofs.Common.{◌≡◌, ℕ, List, [], ◌∷◌, length, subst, arith}
+use Rattle.byte_scaling.specs.Widths.{parts}
 use Rattle.cell_bounds.specs.Walks.{AreRaised}
 use Rattle.cell_bounds.proofs.WalkLemmas.{more_ok, bounds_are, no_numbers}
 use Rattle.cell_bounds.proofs.walks.cells_bounds.Goals as goal
 
 pub returns-clause-bounds : goal.returns-clause-bounds
 returns-clause-bounds c =
-    let b = c.args.block.now in
+    let b = c.args.table.now.block.now in
     let box = c.args.bytes.now.0.items in
-    let h = c.args.parts in
+    let h = parts c.args.table.now.width in
     more_ok {P = AreRaised b h 0 c.len.result c.copied-2.result.0.items (0 ∷ 0 ∷ 0 ∷ 0 ∷ [])} c.over.result
     (λ (news : List ℕ) r k few.
     let same : c.len.result ≡ length b.outputs = c.len.ensures in
