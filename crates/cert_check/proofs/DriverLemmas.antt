@@ -11,6 +11,8 @@ use Rattle.box_tree.specs.{Reading.HasRead, Reading.claims_of, Reading.cert_of}
 use Rattle.box_tree.specs.declared.{cert.CertFormat.CertFormat, cert.CertKind.CertKind}
 use Rattle.box_tree.specs.{Trees.IsTree, Trees.open_from, Trees.leaf_count, declared.cert.Node.Node}
 use Rattle.box_tree.specs.declared.cert.Cert.{Cert}
+use Rattle.byte_scaling.specs.Widths.{parts as parts_of}
+use Rattle.cert_check.specs.Walks.{HasWalkFault, AreWalkErrors}
 use Rattle.cert_check.specs.TextFaults.{IsAcceptedText, HasTextFault, of_cert}
 use Rattle.cert_check.specs.{Walks.cert_over, Walks.AreFirst, Walks.HasTaken, Walks.IsSameTask, Faults.HasCheckFault}
 use Rattle.cert_check.specs.{declared.checker.CheckFault.CheckFault, declared.walk.Walk.Walk, Acceptance.IsAccepted}
@@ -20,16 +22,16 @@ use Rattle.cert_check.specs.declared.text.TextFault.TheVariants as refusal
 
 -- the walk is over a certificate with these claims
 pub record IsWalkOver (b : Block) (claims : List ℕ) (h : ℕ) (w : Walk) : Type 0 where
-  pub block : w.block.now ≡ b
+  pub block : w.table.block.now ≡ b
   pub claims_are : w.claims.now ≡ claims
-  pub parts : w.parts ≡ h
+  pub parts : parts_of w.table.width ≡ h
 
 pub still_over : (b : Block) (claims : List ℕ) (h : ℕ) (w v : Walk) → IsWalkOver b claims h w → IsSameTask v w
     → IsWalkOver b claims h v
 still_over b claims h w v over same = record {
-  block = ap (λ x. x.now) same.block ∙ over.block;
+  block = ap (λ t. t.block.now) same.table ∙ over.block;
   claims_are = ap (λ x. x.now) same.claims ∙ over.claims_are;
-  parts = same.parts ∙ over.parts;
+  parts = ap (λ t. parts_of t.width) same.table ∙ over.parts;
 }
 
 module _ (b : Block) (claims : List ℕ) (h : ℕ) (w : Walk) (over : IsWalkOver b claims h w) (nodes : List Node) where
@@ -39,18 +41,18 @@ module _ (b : Block) (claims : List ℕ) (h : ℕ) (w : Walk) (over : IsWalkOver
   cert_is : cert_over w nodes ≡ the_cert
   cert_is = ap (λ (cs : List ℕ). record { claims = cs; nodes = nodes }) over.claims_are
 
-  pub accepted_over : (errors : List ℕ) → IsAccepted w.block.now w.parts (cert_over w nodes) errors
+  pub accepted_over : (errors : List ℕ) → AreWalkErrors w nodes errors
       → IsAccepted b h the_cert errors
   accepted_over errors a =
       subst (λ x. IsAccepted x h the_cert errors) over.block
-      (subst (λ p. IsAccepted w.block.now p the_cert errors) over.parts
-      (subst (λ c. IsAccepted w.block.now w.parts c errors) cert_is a))
+      (subst (λ p. IsAccepted w.table.block.now p the_cert errors) over.parts
+      (subst (λ c. IsAccepted w.table.block.now (parts_of w.table.width) c errors) cert_is a))
 
-  pub fault_over : (f : CheckFault) → HasCheckFault w.block.now w.parts (cert_over w nodes) f
+  pub fault_over : (f : CheckFault) → HasWalkFault w nodes f
       → HasCheckFault b h the_cert f
   fault_over f a = subst (λ x. HasCheckFault x h the_cert f) over.block
-      (subst (λ p. HasCheckFault w.block.now p the_cert f) over.parts
-      (subst (λ c. HasCheckFault w.block.now w.parts c f) cert_is a))
+      (subst (λ p. HasCheckFault w.table.block.now p the_cert f) over.parts
+      (subst (λ c. HasCheckFault w.table.block.now (parts_of w.table.width) c f) cert_is a))
 
 -- ---- the nodes of a tree, one by one
 
@@ -150,20 +152,20 @@ module _ (b : Block) (h : ℕ) (cert : Cert) (w : Walk) (over : IsWalkOver b cer
     -- what it answers is of the certificate
     pub IsAccepted-all : (r : Result (Vec ℕ) CheckFault)
         → ((ns : List Node) → HasTaken ns w → IsTree ns
-        → IfOk r (λ es. IsAccepted w.block.now w.parts (cert_over w ns) es.items))
+        → IfOk r (λ es. AreWalkErrors w ns es.items))
         → IfOk r (λ es. IsAccepted b h cert es.items)
     IsAccepted-all r accepted =
-        IfOk-then (λ (es : Vec ℕ). IsAccepted w.block.now w.parts (cert_over w cert.nodes) es.items)
+        IfOk-then (λ (es : Vec ℕ). AreWalkErrors w cert.nodes es.items)
         (λ es. IsAccepted b h cert es.items) r
         (λ es a. accepted_over b cert.claims h w over cert.nodes es.items a)
         (accepted cert.nodes HasTaken-all is_cert.1.tree)
 
     pub HasCheckFault-all : (r : Result (Vec ℕ) CheckFault)
         → ((ns : List Node) → HasTaken ns w → IsTree ns
-        → IfErr r (HasCheckFault w.block.now w.parts (cert_over w ns)))
+        → IfErr r (HasWalkFault w ns))
         → IfErr r (λ f. f ≢ fault.Memory → HasCheckFault b h cert f)
     HasCheckFault-all r faulty =
-        IfErr-then (λ (f : CheckFault). HasCheckFault w.block.now w.parts (cert_over w cert.nodes) f)
+        IfErr-then (λ (f : CheckFault). HasWalkFault w cert.nodes f)
         (λ f. f ≢ fault.Memory → HasCheckFault b h cert f) r
         (λ f a real. fault_over b cert.claims h w over cert.nodes f a)
         (faulty cert.nodes HasTaken-all is_cert.1.tree)
@@ -226,7 +228,7 @@ module _ {b : Block} {h : ℕ} {begun lines : Lines} {w : Walk} (is : IsWalkOver
     -- its certificate is accepted as that of the nodes is
     pub IsAcceptedText-read : (errors : List ℕ)
         → ((nodes : List Node) → HasTaken nodes w → IsTree nodes
-        → IsAccepted w.block.now w.parts (cert_over w nodes) errors) → IsAcceptedText b h format text errors
+        → AreWalkErrors w nodes errors) → IsAcceptedText b h format text errors
     IsAcceptedText-read errors accepted =
         let t = is.taken format text first in
         record {
@@ -238,7 +240,7 @@ module _ {b : Block} {h : ℕ} {begun lines : Lines} {w : Walk} (is : IsWalkOver
     -- or has its fault
     pub HasTextFault-read : (f : CheckFault)
         → ((nodes : List Node) → HasTaken nodes w → IsTree nodes
-        → HasCheckFault w.block.now w.parts (cert_over w nodes) f) → HasTextFault b h format text
+        → HasWalkFault w nodes f) → HasTextFault b h format text
         (refusal.Check f)
     HasTextFault-read f fault =
         let t = is.taken format text first in

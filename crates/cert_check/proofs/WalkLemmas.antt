@@ -13,6 +13,8 @@ use Rattle.box_tree.specs.Certificates.{IsLeaf, IsNode, IsCut as IsNodeCut}
 use Rattle.box_tree.specs.declared.cert.Node.TheVariants.{Split, Leaf}
 use Rattle.box_tree.specs.{declared.cert.LeafLine.LeafLine, declared.cert.CertKind.CertKind, declared.cert.Node.Node}
 use Rattle.box_tree.specs.{Trees.open_from, Trees.leaf_count, Laws.OpenBoxesGoOn}
+use Rattle.byte_scaling.specs.Widths.{parts as parts_of}
+use Rattle.cert_check.specs.Walks.{HasWalkFault, AreWalkErrors}
 use Rattle.cert_check.specs.Faults.{AllHold, HasPartFault, AreClaimed, HasCheckFault, Reaches, line_at, root, in_left}
 use Rattle.cert_check.specs.Walks.{stack_of, Raises, cuts_of, AreCutOut, AreTrees, AreReached, IsGreatestSoFar}
 use Rattle.cert_check.specs.Trees.{Part, IsTree, leaf, split, part_of, left_of, right_of, IsCut, whole}
@@ -357,12 +359,12 @@ line_more nodes node line at = let l = length-append nodes (node ∷ []) in omeg
 
 module _ (w : Walk) (bytes : ByteBox) (left : Vec ByteBox) (popped : w.boxes.items ≡ left.items ++ bytes ∷ []) where
   at_box : (nodes : List Node) → IsBehind nodes w
-      → HasWalked w.block.now w.parts nodes (bytes.0.items ∷ stack_of left.items) w.errors.items
+      → HasWalked w.table.block.now (parts_of w.table.width) nodes (bytes.0.items ∷ stack_of left.items) w.errors.items
   at_box nodes behind =
-      subst (λ s. HasWalked w.block.now w.parts nodes s w.errors.items)
+      subst (λ s. HasWalked w.table.block.now (parts_of w.table.width) nodes s w.errors.items)
       (stack-pop w.boxes.items left.items bytes popped) behind.walked
 
-  pub next_box : (nodes : List Node) → IsBehind nodes w → IsBoxOf w.block.now bytes.0.items
+  pub next_box : (nodes : List Node) → IsBehind nodes w → IsBoxOf w.table.block.now bytes.0.items
   next_box nodes behind = (at_box nodes behind).are_boxes 0 bytes.0.items (omega arith)
 
   module _ (i c : ℕ) (node : Node) (is : node ≡ Split i c) where
@@ -382,11 +384,11 @@ module _ (w : Walk) (bytes : ByteBox) (left : Vec ByteBox) (popped : w.boxes.ite
     split_behind boxes (Err f) goes_on cut stack room = tt
     split_behind boxes (Ok u) goes_on cut stack room = λ nodes behind first. record {
       claims_count = behind.claims_count;
-      walked = subst (λ s. HasWalked w.block.now w.parts (nodes ++ node ∷ []) s w.errors.items) (sym stack)
-          (subst (λ n. HasWalked w.block.now w.parts (nodes ++ n ∷ [])
+      walked = subst (λ s. HasWalked w.table.block.now (parts_of w.table.width) (nodes ++ node ∷ []) s w.errors.items) (sym stack)
+          (subst (λ n. HasWalked w.table.block.now (parts_of w.table.width) (nodes ++ n ∷ [])
           (left_of (i - 1) c bytes.0.items ∷ right_of (i - 1) c bytes.0.items ∷ stack_of left.items) w.errors.items)
           (sym is)
-          (walked_split w.block.now w.parts nodes bytes.0.items (stack_of left.items) w.errors.items i c goes_on
+          (walked_split w.table.block.now (parts_of w.table.width) nodes bytes.0.items (stack_of left.items) w.errors.items i c goes_on
           (input_is_some nodes first) cut (at_box nodes behind)));
       line = line_more nodes node w.line behind.line;
       room = room;
@@ -396,17 +398,17 @@ module _ (w : Walk) (bytes : ByteBox) (left : Vec ByteBox) (popped : w.boxes.ite
         → IfErr r (λ f. (f ≡ fault.BadCut w.line) × (IsCut (i - 1) c bytes.0.items → ⊥))
         → IfErr r (λ f. (nodes rest : List Node) → IsBehind nodes w
         → AreFirst (length w.claims.now) (nodes ++ node ∷ [])
-        → HasCheckFault w.block.now w.parts (cert_over w (nodes ++ node ∷ rest)) f)
+        → HasWalkFault w (nodes ++ node ∷ rest) f)
     split_fault (Ok u) h = tt
     split_fault (Err f) h = λ nodes rest behind first.
-        subst (λ g. HasCheckFault w.block.now w.parts (cert_over w (nodes ++ node ∷ rest)) g) (sym h.0)
-        (subst (λ n. HasCheckFault w.block.now w.parts (cert_over w (nodes ++ n ∷ rest)) (fault.BadCut w.line)) (sym is)
-        (cut_fault w.block.now w.parts w.claims.now nodes bytes.0.items (stack_of left.items) w.errors.items w.line rest
+        subst (λ g. HasWalkFault w (nodes ++ node ∷ rest) g) (sym h.0)
+        (subst (λ n. HasWalkFault w (nodes ++ n ∷ rest) (fault.BadCut w.line)) (sym is)
+        (cut_fault w.table.block.now (parts_of w.table.width) w.claims.now nodes bytes.0.items (stack_of left.items) w.errors.items w.line rest
         behind.claims_count behind.line (at_box nodes behind) i c h.1))
 
   module _ (stated : LeafLine) (node : Node) (is : node ≡ Leaf stated) where
     pub line_is_good : (nodes : List Node) → IsBehind nodes w → AreFirst (length w.claims.now) (nodes ++ node ∷ [])
-        → (kind : CertKind) × IsLeaf kind (length w.block.now.outputs) stated
+        → (kind : CertKind) × IsLeaf kind (length w.table.block.now.outputs) stated
     line_is_good nodes behind first =
         let good = last_good (length w.claims.now) nodes node first in (
           good.0,
@@ -416,63 +418,63 @@ module _ (w : Walk) (bytes : ByteBox) (left : Vec ByteBox) (popped : w.boxes.ite
 
     pub leaf_behind : {A : Type 0} (old errors : List ℕ) (r : Result A CheckFault) → OpenBoxesGoOn
         → old ≡ w.errors.items
-        → OnOk r (Raises w.block.now w.parts (part_of bytes.0.items stated) old errors)
+        → OnOk r (Raises w.table.block.now (parts_of w.table.width) (part_of bytes.0.items stated) old errors)
         → vec_capacity left ≡ vec_capacity w.boxes
         → OnOk r ((nodes : List Node) → IsBehind nodes w → AreFirst (length w.claims.now) (nodes ++ node ∷ [])
         → IsBehind (nodes ++ node ∷ [])
         (record w { boxes = left; errors = with_items w.errors errors; line = w.line + 1 }))
     leaf_behind old errors (Err f) goes_on held raises room = tt
     leaf_behind old errors (Ok u) goes_on held raises room = λ nodes behind first.
-        let raised : Raises w.block.now w.parts (part_of bytes.0.items stated) w.errors.items errors =
-        subst (λ es. Raises w.block.now w.parts (part_of bytes.0.items stated) es errors) held raises in
+        let raised : Raises w.table.block.now (parts_of w.table.width) (part_of bytes.0.items stated) w.errors.items errors =
+        subst (λ es. Raises w.table.block.now (parts_of w.table.width) (part_of bytes.0.items stated) es errors) held raises in
         record {
           claims_count = behind.claims_count;
-          walked = subst (λ es. HasWalked w.block.now w.parts (nodes ++ node ∷ []) (stack_of left.items) es)
+          walked = subst (λ es. HasWalked w.table.block.now (parts_of w.table.width) (nodes ++ node ∷ []) (stack_of left.items) es)
               (sym (with_items_is w.errors errors (raised.raised.count ∙ sym w.errors.ok.0)))
-              (subst (λ n. HasWalked w.block.now w.parts (nodes ++ n ∷ []) (stack_of left.items) errors) (sym is)
-              (walked_leaf w.block.now w.parts nodes bytes.0.items (stack_of left.items) w.errors.items errors stated
+              (subst (λ n. HasWalked w.table.block.now (parts_of w.table.width) (nodes ++ n ∷ []) (stack_of left.items) errors) (sym is)
+              (walked_leaf w.table.block.now (parts_of w.table.width) nodes bytes.0.items (stack_of left.items) w.errors.items errors stated
               goes_on raised (at_box nodes behind)));
           line = line_more nodes node w.line behind.line;
           room = let r = behind.room in omega (arith, r, room);
         }
 
     pub fault_met : {A : Type 0} (r : Result A CheckFault)
-        → IfErr r (HasPartFault w.block.now w.parts (part_of bytes.0.items stated) w.line)
+        → IfErr r (HasPartFault w.table.block.now (parts_of w.table.width) (part_of bytes.0.items stated) w.line)
         → IfErr r (λ f. (nodes rest : List Node) → IsBehind nodes w
         → AreFirst (length w.claims.now) (nodes ++ node ∷ [])
-        → HasCheckFault w.block.now w.parts (cert_over w (nodes ++ node ∷ rest)) f)
+        → HasWalkFault w (nodes ++ node ∷ rest) f)
     fault_met (Ok u) h = tt
     fault_met (Err f) h = λ nodes rest behind first.
-        subst (λ n. HasCheckFault w.block.now w.parts (cert_over w (nodes ++ n ∷ rest)) f) (sym is)
-        (leaf_fault w.block.now w.parts w.claims.now nodes bytes.0.items (stack_of left.items) w.errors.items w.line
+        subst (λ n. HasWalkFault w (nodes ++ n ∷ rest) f) (sym is)
+        (leaf_fault w.table.block.now (parts_of w.table.width) w.claims.now nodes bytes.0.items (stack_of left.items) w.errors.items w.line
         rest behind.claims_count behind.line (at_box nodes behind) stated f h)
 
 -- where a node may follow, the stack is not empty
 pub none_popped : (w : Walk) (nodes : List Node) (node : Node) → OpenBoxesGoOn → w.boxes.items ≡ [] → IsBehind nodes w
     → AreFirst (length w.claims.now) (nodes ++ node ∷ []) → ⊥
 none_popped w nodes node goes_on none behind first =
-    some_open w.block.now w.parts first.opens.0 nodes node w.errors.items goes_on first.opens.1
-    (subst (λ bs. HasWalked w.block.now w.parts nodes (stack_of bs) w.errors.items) none behind.walked)
+    some_open w.table.block.now (parts_of w.table.width) first.opens.0 nodes node w.errors.items goes_on first.opens.1
+    (subst (λ bs. HasWalked w.table.block.now (parts_of w.table.width) nodes (stack_of bs) w.errors.items) none behind.walked)
 
 -- ---- with a fault or none
 
 pub as_behind : (w : Walk) (nodes : List Node) → w.fault ≡ None → HasTaken nodes w → IsBehind nodes w
 as_behind w nodes none taken =
     subst (λ f. MatchOption f (IsBehind nodes w)
-    (λ fault. (rest : List Node) → HasCheckFault w.block.now w.parts (cert_over w (nodes ++ rest)) fault)) none
+    (λ fault. (rest : List Node) → HasWalkFault w (nodes ++ rest) fault)) none
     taken.so_far
 
 pub as_fault : (w : Walk) (nodes rest : List Node) (f : CheckFault) → w.fault ≡ Some f → HasTaken nodes w
-    → HasCheckFault w.block.now w.parts (cert_over w (nodes ++ rest)) f
+    → HasWalkFault w (nodes ++ rest) f
 as_fault w nodes rest f some taken =
     subst (λ g. MatchOption g (IsBehind nodes w)
-    (λ fault. (rest : List Node) → HasCheckFault w.block.now w.parts (cert_over w (nodes ++ rest)) fault)) some
+    (λ fault. (rest : List Node) → HasWalkFault w (nodes ++ rest) fault)) some
     taken.so_far rest
 
 pub few_lines_taken : (w : Walk) (nodes : List Node) (node : Node) → IsBehind nodes w
     → AreFirst (length w.claims.now) (nodes ++ node ∷ []) → w.line ≤ 10235
 few_lines_taken w nodes node behind first =
-    let l = few_lines w.block.now w.parts nodes (node ∷ []) (stack_of w.boxes.items) w.errors.items first.few_leaves
+    let l = few_lines w.table.block.now (parts_of w.table.width) nodes (node ∷ []) (stack_of w.boxes.items) w.errors.items first.few_leaves
     behind.walked in
     let at = behind.line in
     omega (arith, l, at)
@@ -481,15 +483,12 @@ few_lines_taken w nodes node behind first =
 pub passed_by : (w : Walk) (nodes : List Node) (node : Node) (f : CheckFault) → w.fault ≡ Some f → HasTaken nodes w
     → HasTaken (nodes ++ node ∷ []) w
 passed_by w nodes node f some taken = record {
-  valid = taken.valid;
   claims = taken.claims;
   table = taken.table;
-  parts_from = taken.parts_from;
-  parts_to = taken.parts_to;
   so_far = subst (λ g. MatchOption g (IsBehind (nodes ++ node ∷ []) w)
       (λ fault. (rest : List Node)
-      → HasCheckFault w.block.now w.parts (cert_over w ((nodes ++ node ∷ []) ++ rest)) fault)) (sym some)
-      (λ rest. subst (λ ns. HasCheckFault w.block.now w.parts (cert_over w ns) f)
+      → HasWalkFault w ((nodes ++ node ∷ []) ++ rest) fault)) (sym some)
+      (λ rest. subst (λ ns. HasWalkFault w ns f)
       (sym (append_assoc nodes (node ∷ []) rest)) (as_fault w nodes (node ∷ rest) f some taken));
 }
 
@@ -502,72 +501,72 @@ none_from_is_some (Some x) e = absurd (let z : ⊥ = cc in z)
 -- what a walk has met so far that has met no fault
 pub so_far-behind : (w : Walk) (nodes : List Node) → w.fault ≡ None → IsBehind nodes w
     → MatchOption w.fault (IsBehind nodes w)
-    (λ fault. (rest : List Node) → HasCheckFault w.block.now w.parts (cert_over w (nodes ++ rest)) fault)
+    (λ fault. (rest : List Node) → HasWalkFault w (nodes ++ rest) fault)
 so_far-behind w nodes none behind =
     subst (λ g. MatchOption g (IsBehind nodes w)
-    (λ fault. (rest : List Node) → HasCheckFault w.block.now w.parts (cert_over w (nodes ++ rest)) fault)) (sym none)
+    (λ fault. (rest : List Node) → HasWalkFault w (nodes ++ rest) fault)) (sym none)
     behind
 
 -- or one
 pub so_far-fault : (w : Walk) (nodes : List Node) (f : CheckFault) → w.fault ≡ Some f
-    → ((rest : List Node) → HasCheckFault w.block.now w.parts (cert_over w (nodes ++ rest)) f)
+    → ((rest : List Node) → HasWalkFault w (nodes ++ rest) f)
     → MatchOption w.fault (IsBehind nodes w)
-    (λ fault. (rest : List Node) → HasCheckFault w.block.now w.parts (cert_over w (nodes ++ rest)) fault)
+    (λ fault. (rest : List Node) → HasWalkFault w (nodes ++ rest) fault)
 so_far-fault w nodes f some faulty =
     subst (λ g. MatchOption g (IsBehind nodes w)
-    (λ fault. (rest : List Node) → HasCheckFault w.block.now w.parts (cert_over w (nodes ++ rest)) fault)) (sym some)
+    (λ fault. (rest : List Node) → HasWalkFault w (nodes ++ rest) fault)) (sym some)
     faulty
 
-pub behind_none : (w : Walk) → length w.block.now.inputs ≤ 8 → length w.claims.now ≡ length w.block.now.outputs
-    → stack_of w.boxes.items ≡ whole w.block.now ∷ []
-    → w.errors.items ≡ replicate (length w.block.now.outputs) 0 → w.line ≡ 3 → 2041 ≤ vec_capacity w.boxes
+pub behind_none : (w : Walk) → length w.table.block.now.inputs ≤ 8 → length w.claims.now ≡ length w.table.block.now.outputs
+    → stack_of w.boxes.items ≡ whole w.table.block.now ∷ []
+    → w.errors.items ≡ replicate (length w.table.block.now.outputs) 0 → w.line ≡ 3 → 2041 ≤ vec_capacity w.boxes
     → IsBehind [] w
 behind_none w few count stack zeros line room = record {
   claims_count = count;
-  walked = subst (λ s. HasWalked w.block.now w.parts [] s w.errors.items) (sym stack)
-      (subst (λ es. HasWalked w.block.now w.parts [] (whole w.block.now ∷ []) es) (sym zeros)
-      (walked_none w.block.now w.parts few));
+  walked = subst (λ s. HasWalked w.table.block.now (parts_of w.table.width) [] s w.errors.items) (sym stack)
+      (subst (λ es. HasWalked w.table.block.now (parts_of w.table.width) [] (whole w.table.block.now ∷ []) es) (sym zeros)
+      (walked_none w.table.block.now (parts_of w.table.width) few));
   line = line;
   room = room;
 }
 
-pub count_fault : (w : Walk) (n : ℕ) → n ≡ length w.block.now.outputs → (length w.claims.now ≡ n → ⊥)
+pub count_fault : (w : Walk) (n : ℕ) → n ≡ length w.table.block.now.outputs → (length w.claims.now ≡ n → ⊥)
     → (rest : List Node)
-    → HasCheckFault w.block.now w.parts (cert_over w rest) (fault.Outputs (length w.claims.now) n)
+    → HasWalkFault w rest (fault.Outputs (length w.claims.now) n)
 count_fault w n same differ rest =
-    subst (λ m. HasCheckFault w.block.now w.parts (cert_over w rest) (fault.Outputs (length w.claims.now) m)) (sym same)
+    subst (λ m. HasWalkFault w rest (fault.Outputs (length w.claims.now) m)) (sym same)
     (outputs (λ e. differ (e ∙ sym same)))
 
 pub last_fault : (w : Walk) (nodes : List Node) (f : CheckFault) → w.fault ≡ Some f → HasTaken nodes w
-    → HasCheckFault w.block.now w.parts (cert_over w nodes) f
+    → HasWalkFault w nodes f
 last_fault w nodes f some taken =
-    subst (λ ns. HasCheckFault w.block.now w.parts (cert_over w ns) f) (append-nil nodes)
+    subst (λ ns. HasWalkFault w ns f) (append-nil nodes)
     (as_fault w nodes [] f some taken)
 
 pub accepted_behind : (w : Walk) (nodes : List Node) (es : List ℕ) → es ≡ w.errors.items → open_from 1 nodes ≡ Some 0
     → AreClaimed es w.claims.now → IsBehind nodes w
-    → IsAccepted w.block.now w.parts (cert_over w nodes) w.errors.items
+    → AreWalkErrors w nodes w.errors.items
 accepted_behind w nodes es same is_tree are_claimed behind =
-    walked_all w.block.now w.parts nodes (stack_of w.boxes.items) w.claims.now w.errors.items is_tree
+    walked_all w.table.block.now (parts_of w.table.width) nodes (stack_of w.boxes.items) w.claims.now w.errors.items is_tree
     behind.claims_count
     (subst (λ xs. AreClaimed xs w.claims.now) same are_claimed) behind.walked
 
 pub claim_fault : (w : Walk) (nodes : List Node) (es : List ℕ) (k claim error : ℕ) → es ≡ w.errors.items
     → open_from 1 nodes ≡ Some 0 → IsFirstOver es w.claims.now k
     → claim ≡ get_or w.claims.now k 0 → error ≡ get_or w.errors.items k error → IsBehind nodes w
-    → HasCheckFault w.block.now w.parts (cert_over w nodes) (fault.Claimed (k + 1) claim error)
+    → HasWalkFault w nodes (fault.Claimed (k + 1) claim error)
 claim_fault w nodes es k claim error found closed over claim_is error_is behind =
-    let b = w.block.now in
+    let b = w.table.block.now in
     let errors = w.errors.items in
     let claims = w.claims.now in
     let o : IsFirstOver errors claims k = subst (λ xs. IsFirstOver xs claims k) found over in
     let c : o.claim ≡ claim = sym (get_or_from_slice_get claims k o.claim 0 o.claim_is) ∙ sym claim_is in
     let r : o.error ≡ error = sym (get_or_from_slice_get errors k o.error error o.error_is) ∙ sym error_is in
-    let accepted = walked_all b w.parts nodes (stack_of w.boxes.items) errors errors closed behind.walked.count
+    let accepted = walked_all b (parts_of w.table.width) nodes (stack_of w.boxes.items) errors errors closed behind.walked.count
     (λ j e d p q. same_le (sym p ∙ q)) behind.walked in
     let f = claimed errors k o behind.claims_count accepted in
-    subst (λ m. HasCheckFault b w.parts (cert_over w nodes) (fault.Claimed (k + 1) m error)) c
-    (subst (λ m. HasCheckFault b w.parts (cert_over w nodes) (fault.Claimed (k + 1) o.claim m)) r f)
+    subst (λ m. HasCheckFault b (parts_of w.table.width) (cert_over w nodes) (fault.Claimed (k + 1) m error)) c
+    (subst (λ m. HasCheckFault b (parts_of w.table.width) (cert_over w nodes) (fault.Claimed (k + 1) o.claim m)) r f)
   where
     same_le : {e d : ℕ} → Some e ≡ Some d → e ≤ d
     same_le {e} {d} h = let s : e ≡ d = cc in omega arith

@@ -4,12 +4,14 @@ use Rattle.std.specs.Prelude.{◌≡◌, ◌⊎◌, ℕ, ◌+◌, ◌-◌, ◌<�
 use Rattle.std.specs.Prelude.{Some}
 use Rattle.std.specs.Prelude.{MatchOption, slice_get, slice_index, vec_capacity}
 use Rattle.std.specs.List.{Any}
-use Rattle.fuzzy_meaning.specs.{declared.block.Block.Block, declared.block.Output.Output, Blocks.IsValid}
+use Rattle.fuzzy_meaning.specs.{declared.block.Block.Block, declared.block.Output.Output}
+use Rattle.byte_scaling.specs.Widths.{parts as parts_of}
 use Rattle.error_bound.specs.declared.{boxes.Interval.Interval, boxes.ByteBox.ByteBox}
 use Rattle.error_bound.specs.{Boxes.IsBoxOf, Reaches.IsBlockTable}
 use Rattle.box_tree.specs.declared.{cert.CertKind.CertKind, cert.Node.Node, cert.Cert.Cert}
 use Rattle.box_tree.specs.{Certificates.AreClaims, Certificates.IsNode, Trees.open_behind, Trees.leaf_count}
-use Rattle.cert_check.specs.{declared.walk.Walk.Walk, Trees.Part, Trees.IsTree, Trees.whole, Acceptance.HasBound}
+use Rattle.cert_check.specs.{declared.walk.Walk.Walk, Trees.Part, Trees.IsTree, Trees.whole}
+use Rattle.cert_check.specs.{Acceptance.HasBound, Acceptance.IsAccepted, declared.checker.CheckFault.CheckFault}
 use Rattle.cert_check.specs.Faults.{AllHold, Reaches, HasCheckFault}
 
 -- the boxes of a stack, the next one first
@@ -81,22 +83,26 @@ pub record HasWalked (b : Block) (h : ℕ) (nodes : List Node) (boxes : List (Li
 abbrev pub cert_over : Walk → List Node → Cert
 cert_over w nodes = record { claims = w.claims.now; nodes = nodes }
 
+-- its first fault, and the errors that it is accepted with
+abbrev pub HasWalkFault : Walk → List Node → CheckFault → Type 0
+HasWalkFault w nodes = HasCheckFault w.table.block.now (parts_of w.table.width) (cert_over w nodes)
+
+abbrev pub AreWalkErrors : Walk → List Node → List ℕ → Type 0
+AreWalkErrors w nodes = IsAccepted w.table.block.now (parts_of w.table.width) (cert_over w nodes)
+
 -- the walk stands behind these nodes, and has met no fault
 pub record IsBehind (nodes : List Node) (w : Walk) : Type 0 where
-  pub claims_count : length w.claims.now ≡ length w.block.now.outputs
-  pub walked : HasWalked w.block.now w.parts nodes (stack_of w.boxes.items) w.errors.items
+  pub claims_count : length w.claims.now ≡ length w.table.block.now.outputs
+  pub walked : HasWalked w.table.block.now (parts_of w.table.width) nodes (stack_of w.boxes.items) w.errors.items
   pub line : w.line ≡ length nodes + 3
   pub room : 2041 ≤ vec_capacity w.boxes
 
 -- the walk has taken these nodes: it stands behind them, or has met the first fault of each certificate that they begin
 pub record HasTaken (nodes : List Node) (w : Walk) : Type 0 where
-  pub valid : IsValid w.block.now
   pub claims : AreClaims w.claims.now
-  pub table : IsBlockTable w.block.now w.table
-  pub parts_from : 1 ≤ w.parts
-  pub parts_to : w.parts ≤ 256
+  pub table : IsBlockTable w.table
   pub so_far : MatchOption w.fault (IsBehind nodes w)
-      (λ fault. (rest : List Node) → HasCheckFault w.block.now w.parts (cert_over w (nodes ++ rest)) fault)
+      (λ fault. (rest : List Node) → HasWalkFault w (nodes ++ rest) fault)
 
 -- nodes that a certificate with so many claims may begin with, of one kind or the other
 pub record AreFirst (width : ℕ) (nodes : List Node) : Type 0 where
@@ -106,7 +112,5 @@ pub record AreFirst (width : ℕ) (nodes : List Node) : Type 0 where
 
 -- two walks over one certificate
 pub record IsSameTask (w v : Walk) : Type 0 where
-  pub block : w.block ≡ v.block
   pub claims : w.claims ≡ v.claims
-  pub parts : w.parts ≡ v.parts
   pub table : w.table ≡ v.table

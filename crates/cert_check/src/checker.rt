@@ -1,5 +1,5 @@
 //! Whether a certificate is accepted, and with which errors, or its first fault.
-ghost use Rattle.std.specs.Prelude.{◌≢◌, ◌≤◌, ◌<◌, IfOk, IfErr};
+ghost use Rattle.std.specs.Prelude.{◌≢◌, ◌<◌, IfOk, IfErr};
 ghost use Rattle.fuzzy_meaning.specs.Blocks.{IsValid};
 ghost use Rattle.box_tree.specs.declared.{cert.CertKind.CertKind as TheKind, cert.CertKind.TheVariants.Named};
 ghost use Rattle.box_tree.specs.Certificates.{IsCert};
@@ -81,20 +81,7 @@ pub fn check_for(
     ensures fault { IfErr result (λ fault.
         fault ≢ CheckFault.Memory → HasCheckFault block.now (parts_of width) cert.now fault) }
 {
-    checked(alloc, block, cert, width.parts())
-}
-
-/// The same for answers with `parts` parts to a byte.
-fn checked(alloc: Global, block: &Block, cert: &Cert, parts: u16) -> Result<Vec<u32>, CheckFault>
-    requires block { IsValid block.now }
-    requires cert { (kind : TheKind) × IsCert kind cert.now }
-    requires parts_from { 1 ≤ parts }
-    requires parts_to { parts ≤ 256 }
-    ensures accepted { IfOk result (λ errors. IsAccepted block.now parts cert.now errors.items) }
-    ensures fault { IfErr result (λ fault.
-        fault ≢ CheckFault.Memory → HasCheckFault block.now parts cert.now fault) }
-{
-    let mut walk = match Walk::new(alloc, block, cert.claims.as_slice(), parts) {
+    let mut walk = match Walk::new(alloc, block, cert.claims.as_slice(), width) {
         Ok(walk) => walk,
         Err(_) => return Err(CheckFault::Memory),
     };

@@ -1,5 +1,5 @@
 //! Checks a certificate while its text is read, node by node.
-ghost use Rattle.std.specs.Prelude.{◌≢◌, ◌≤◌, ℕ, List as Items, [], length, IfOk, IfErr};
+ghost use Rattle.std.specs.Prelude.{◌≢◌, ◌≤◌, ℕ, List as Items, length, IfOk, IfErr, []};
 ghost use Rattle.fuzzy_meaning.specs.Blocks.{IsValid};
 ghost use Rattle.byte_scaling.specs.Widths.{parts as parts_of};
 ghost use Rattle.box_tree.specs.declared.cert.CertFormat.{CertFormat as TheFormat};
@@ -9,6 +9,7 @@ ghost use Rattle.cert_check.specs.TextFaults.{IsAcceptedText, HasTextFault};
 use crate::checker::CheckFault;
 use crate::walk::Walk;
 use box_tree::{CertFault, CertFormat, Lines};
+use byte_scaling::Width;
 use fuzzy_meaning::Block;
 use std::alloc::Global;
 use thiserror::Error;
@@ -67,7 +68,7 @@ pub fn check_text_for(
         → HasTextFault block.now (parts_of format.width) format text.now refusal) }
 {
     match Lines::of(format, text) {
-        Ok(lines) => errors_of(alloc, block, lines, format.width.parts()),
+        Ok(lines) => errors_of(alloc, block, lines, format.width),
         Err(fault) => Err(TextFault::Text(fault)),
     }
 }
@@ -78,20 +79,18 @@ fn errors_of(
     alloc: Global,
     block: &Block,
     mut lines: Lines<'_>,
-    parts: u16,
+    width: Width,
 ) -> Result<Vec<u32>, TextFault>
     requires block { IsValid block.now }
     requires lines { (format : TheFormat) × (text : Items ℕ) × HasRead format text [] lines }
-    requires parts_from { 1 ≤ parts }
-    requires parts_to { parts ≤ 256 }
     ensures accepted { (format : TheFormat) (text : Items ℕ) → HasRead format text [] lines.entry
-        → IfOk result (λ errors. IsAcceptedText block.now parts format text errors.items) }
+        → IfOk result (λ errors. IsAcceptedText block.now (parts_of width) format text errors.items) }
     ensures refused { (format : TheFormat) (text : Items ℕ) → HasRead format text [] lines.entry
         → IfErr result (λ refusal. refusal ≢ TextFault.Memory
-        → HasTextFault block.now parts format text refusal) }
+        → HasTextFault block.now (parts_of width) format text refusal) }
 {
     let claims = lines.claims();
-    let mut walk = match Walk::new(alloc, block, claims.as_slice(), parts) {
+    let mut walk = match Walk::new(alloc, block, claims.as_slice(), width) {
         Ok(walk) => walk,
         Err(_) => return Err(TextFault::Memory),
     };

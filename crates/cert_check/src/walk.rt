@@ -1,5 +1,5 @@
 //! A walk over the nodes of a tree, with a stack of the open boxes: those whose nodes are still to come.
-ghost use Rattle.std.specs.Prelude.{◌≡◌, ◌≤◌, ◌<◌, ◌+◌, List, [], ◌∷◌, ◌++◌, length, replicate, OnOk, IfOk, IfErr};
+ghost use Rattle.std.specs.Prelude.{◌≡◌, ◌<◌, ◌+◌, List, ◌∷◌, ◌++◌, length, replicate, OnOk, IfOk, IfErr, []};
 ghost use Rattle.std.specs.Prelude.{IfSome, IfNone, None};
 ghost use Rattle.fuzzy_meaning.specs.Blocks.{IsValid};
 ghost use Rattle.box_tree.specs.{Certificates.AreClaims, Trees.IsTree, declared.cert.Node.Node as TheNode};
@@ -10,6 +10,7 @@ use crate::checker::CheckFault;
 use crate::leaves::raise_errors;
 use box_tree::Node;
 use box_tree::laws::open_boxes_go_on;
+use byte_scaling::Width;
 use error_bound::{BlockTable, ByteBox};
 use fuzzy_meaning::Block;
 use std::alloc::{AllocError, Global};
@@ -20,12 +21,9 @@ const MOST_BOXES: usize = 2041;
 /// A walk over the nodes of a certificate. It takes them one by one, without allocating memory.
 #[derive(Drop)]
 pub(crate) struct Walk<'a> {
-    block: &'a Block,
     claims: &'a [u32],
-    /// The number of parts that answers have to a byte.
-    parts: u16,
     /// What the leaves' boxes need to know about the block.
-    table: BlockTable,
+    table: BlockTable<'a>,
     /// The open boxes, the next one last.
     boxes: Vec<ByteBox>,
     /// The error of each output over the leaves taken so far.
@@ -37,30 +35,26 @@ pub(crate) struct Walk<'a> {
 }
 
 impl<'a> Walk<'a> {
-    ghost use Rattle.cert_check.specs.Acceptance.{IsAccepted};
-    ghost use Rattle.cert_check.specs.Faults.{HasCheckFault};
-    ghost use Rattle.cert_check.specs.Walks.{HasTaken, IsBehind, AreFirst, IsSameTask, cert_over};
+    ghost use Rattle.cert_check.specs.Walks.{HasTaken, IsBehind, AreFirst, IsSameTask, HasWalkFault, AreWalkErrors};
 
-    /// A walk that has taken no node yet, for answers with `parts` parts to a byte.
+    /// A walk that has taken no node yet, for answers of this width.
     pub(crate) fn new(
         alloc: Global,
         block: &'a Block,
         claims: &'a [u32],
-        parts: u16,
+        width: Width,
     ) -> Result<Walk<'a>, AllocError>
         requires block { IsValid block.now }
         requires claims { AreClaims claims.now }
-        requires parts_from { 1 ≤ parts }
-        requires parts_to { parts ≤ 256 }
         ensures begun { IfOk result (HasTaken []) }
-        ensures block { IfOk result (λ walk. walk.block.now ≡ block.now) }
+        ensures block { IfOk result (λ walk. walk.table.block.now ≡ block.now) }
         ensures claims { IfOk result (λ walk. walk.claims.now ≡ claims.now) }
-        ensures parts { IfOk result (λ walk. walk.parts ≡ parts) }
+        ensures width { IfOk result (λ walk. walk.table.width ≡ width) }
     {
-        let table = BlockTable::new(alloc, block)?;
-        let outputs = block.outputs.len();
+        let table = BlockTable::new(alloc, block, width)?;
+        let outputs = table.block.outputs.len();
         let mut boxes = Vec::with_capacity(alloc, MOST_BOXES)?;
-        push(&mut boxes, whole_box(block));
+        push(&mut boxes, whole_box(table.block));
         let errors = zeros(alloc, outputs)?;
         let fault = if claims.len() == outputs {
             None
@@ -68,9 +62,7 @@ impl<'a> Walk<'a> {
             Some(CheckFault::Outputs(claims.len() as u32, outputs as u32))
         };
         Ok(Walk {
-            block,
             claims,
-            parts,
             table,
             boxes,
             errors,
@@ -109,7 +101,7 @@ impl<'a> Walk<'a> {
             → IsBehind (nodes ++ node.now ∷ []) (record self.new { line = self.old.line + 1 })) }
         ensures fault { IfErr result (λ fault. (nodes rest : List TheNode) → IsBehind nodes self.old
             → AreFirst (length self.old.claims.now) (nodes ++ node.now ∷ [])
-            → HasCheckFault self.old.block.now self.old.parts (cert_over self.old (nodes ++ node.now ∷ rest)) fault) }
+            → HasWalkFault self.old (nodes ++ node.now ∷ rest) fault) }
     {
         open_boxes_go_on();
         let Some(bytes) = self.boxes.pop() else {
@@ -119,15 +111,9 @@ impl<'a> Walk<'a> {
             Node::Split(input, cut) => {
                 push_halves(&mut self.boxes, bytes, *input, *cut, self.line)
             }
-            Node::Leaf(stated) => raise_errors(
-                &mut self.errors,
-                self.block,
-                &self.table,
-                bytes,
-                stated,
-                self.parts,
-                self.line,
-            ),
+            Node::Leaf(stated) => {
+                raise_errors(&mut self.errors, &self.table, bytes, stated, self.line)
+            }
         }
     }
 
@@ -136,9 +122,9 @@ impl<'a> Walk<'a> {
         requires { (nodes : List TheNode) × HasTaken nodes self }
         ensures accepted { (nodes : List TheNode) → HasTaken nodes self.entry
             → IsTree nodes → IfOk result
-            (λ errors. IsAccepted self.entry.block.now self.entry.parts (cert_over self.entry nodes) errors.items) }
+            (λ errors. AreWalkErrors self.entry nodes errors.items) }
         ensures fault { (nodes : List TheNode) → HasTaken nodes self.entry → IsTree nodes
-            → IfErr result (HasCheckFault self.entry.block.now self.entry.parts (cert_over self.entry nodes)) }
+            → IfErr result (HasWalkFault self.entry nodes) }
     {
         if let Some(fault) = self.fault {
             return Err(fault);

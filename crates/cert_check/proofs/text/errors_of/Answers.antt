@@ -1,4 +1,5 @@
-use Rattle.std.proofs.Common.{[], ◌∙◌}
+use Rattle.std.proofs.Common.{[], ap, ◌∙◌}
+use Rattle.byte_scaling.specs.Widths.{parts as parts_of}
 use Rattle.cert_check.specs.TextFaults.{of_text}
 use Rattle.cert_check.proofs.DriverLemmas.{HasTaken-some, AreFirst-some, IsWalkOverText-more, IsAcceptedText-read}
 use Rattle.cert_check.proofs.DriverLemmas.{HasTextFault-read}
@@ -11,7 +12,7 @@ loop-node-init c =
       over = record {
         block = i.block;
         claims_are = i.claims ∙ c.as_slice.ensures.value ∙ c.claims-claims.ensures;
-        parts = i.parts;
+        parts = ap parts_of i.width;
       };
       taken = λ format text read. ([], read, i.begun);
     }

@@ -8,9 +8,7 @@ use Rattle.cert_check.proofs.walk.Walk.new.Goals as goal
 pub returns-clause-begun : goal.returns-clause-begun
 returns-clause-begun c =
     let w : Walk = record {
-      block = c.args.block;
       claims = c.args.claims;
-      parts = c.args.parts;
       table = c.in_ok-table.table;
       boxes = c.push.new.boxes;
       errors = c.in_ok-errors.errors;
@@ -24,14 +22,11 @@ returns-clause-begun c =
     let room = c.push.ensures.room in
     let exact = c.in_ok-boxes.ensures.exact in
     record {
-      valid = c.requires.block;
       claims = c.requires.claims;
-      table = c.in_ok-table.ensures;
-      parts_from = c.requires.parts_from;
-      parts_to = c.requires.parts_to;
+      table = c.in_ok-table.ensures.table;
       so_far = elim c.if-claims-outputs.branch [
         | then-claims-outputs v ↦ so_far-behind w [] v.fault-is
-            (behind_none w c.requires.block.few_inputs (v.if-claims-outputs.true ∙ c.len-outputs.ensures) stack zeros
+            (behind_none w c.in_ok-table.ensures.table.valid.few_inputs (v.if-claims-outputs.true ∙ c.len-outputs.ensures) stack zeros
             refl (omega (arith, room, exact)))
         | else-claims-outputs v ↦ so_far-fault w [] _ v.fault-is
             (count_fault w c.len-outputs.result c.len-outputs.ensures v.if-claims-outputs.false)
