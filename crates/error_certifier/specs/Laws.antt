@@ -9,7 +9,7 @@ use Rattle.box_tree.specs.{Certificates.IsCert, declared.cert.Cert.Cert}
 use Rattle.cell_bounds.specs.CellBounds.{number_of}
 use Rattle.cert_check.specs.{Acceptance.IsAccepted, BoxLaws.IsNodeOf, Laws.HasDefaults}
 use Rattle.error_certifier.specs.{declared.certifier.NotReached.NotReached, Halving.IsHalvingFor, Halving.StopsFor}
-use Rattle.error_certifier.specs.{Halving.IsHalving, Halving.StopsAt, Halving.one_for_all, Targets.AreTargets}
+use Rattle.error_certifier.specs.{Halving.IsHalving, Halving.one_for_all, Targets.AreTargets}
 use Rattle.error_certifier.specs.declared.certifier.NotReached.TheVariants.{Cell, LeafLimit, Memory, Outputs}
 
 -- the certificate of the halving, or why it stops

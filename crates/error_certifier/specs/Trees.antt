@@ -2,16 +2,17 @@
 -- Beside the promise.
 use Rattle.std.specs.Prelude.{◌≡◌, ◌⊎◌, ℕ, ◌+◌, ◌<◌, ◌≤◌, List, ◌++◌, length, All, Some, slice_get, slice_index}
 use Rattle.std.specs.List.{Any}
-use Rattle.fuzzy_meaning.specs.{declared.block.Block.Block, declared.block.Output.Output, Blocks.IsValid}
+use Rattle.fuzzy_meaning.specs.{declared.block.Block.Block, declared.block.Output.Output}
 use Rattle.error_bound.specs.{declared.boxes.Interval.Interval, Reaches.IsBlockTable, Tight.IsTightBound}
 use Rattle.box_tree.specs.declared.{cert.CertKind.CertKind, cert.Node.Node}
 use Rattle.box_tree.specs.Certificates.{IsPair, IsLeaf, IsNode}
 use Rattle.cert_check.specs.{Trees.Part, Trees.part_of, Trees.IsTree, Acceptance.HasBound, Walks.AreBounds}
-use Rattle.error_certifier.specs.Targets.{AreTargets}
+use Rattle.byte_scaling.specs.Widths.{parts as parts_of}
+use Rattle.error_certifier.specs.{Targets.AreTargets, declared.certifier.NotReached.NotReached}
 use Rattle.error_certifier.specs.declared.{leaves.FoundLeaf.FoundLeaf, halving.Task.Task, halving.Tree.Tree}
 use Rattle.error_certifier.specs.declared.leaves.Piece.{Piece}
 use Rattle.error_certifier.specs.declared.leaves.Piece.TheVariants as piece
-use Rattle.error_certifier.specs.Halving.{IsWithinTarget, IsSettled, IsAbove, IsLarge, IsWidest, Halves, counted}
+use Rattle.error_certifier.specs.Halving.{IsWithinTarget, IsSettled, IsAbove, IsLarge, IsWidest, Halves, Stops, counted}
 
 -- the pair and the Bound at a place are those of the output's best leaf, which is within its target
 pub record IsBestPair (b : Block) (h : ℕ) (targets : List ℕ) (box : List Interval) (k : ℕ) (x : Output)
@@ -58,11 +59,8 @@ IsPiece kind b h targets box (piece.Leaf found) = IsFoundLeaf kind b h targets b
 IsPiece kind b h targets box (piece.Cut place interval) = IsSplit kind b h targets box place interval
 
 pub record IsTask (task : Task) : Type 0 where
-  pub valid : IsValid task.block.now
-  pub table : IsBlockTable task.block.now task.table
-  pub targets : AreTargets task.block.now task.targets.items
-  pub parts_from : 1 ≤ task.parts
-  pub parts_to : task.parts ≤ 256
+  pub table : IsBlockTable task.table
+  pub targets : AreTargets task.table.block.now task.targets.items
 
 -- a tree with an error for each output
 pub record IsTreeFor (b : Block) (tree : Tree) : Type 0 where
@@ -89,3 +87,17 @@ pub record Grows (kind : CertKind) (b : Block) (h : ℕ) (targets : List ℕ) (b
   pub errors : (k : ℕ) (x : Output) → slice_get b.outputs k ≡ Some x
       → RisesTo b h (slice_index targets k) (k + 1) x parts (slice_index old.errors.items k)
       (slice_index new.errors.items k)
+
+-- ---- of a task
+
+abbrev pub IsTaskPiece : Task → List Interval → Piece → Type 0
+IsTaskPiece task box piece =
+    IsPiece task.kind task.table.block.now (parts_of task.table.width) task.targets.items box piece
+
+abbrev pub StopsTask : Task → List Interval → ℕ → NotReached → Type 0
+StopsTask task box n stop =
+    Stops task.kind task.table.block.now (parts_of task.table.width) task.targets.items box n stop
+
+abbrev pub GrowsBy : Task → List Interval → Tree → Tree → Type 0
+GrowsBy task box old new =
+    Grows task.kind task.table.block.now (parts_of task.table.width) task.targets.items box old new

@@ -13,6 +13,7 @@ use crate::targets::Targets;
 use arrayvec::ArrayVec;
 use box_tree::laws::open_boxes_go_on;
 use box_tree::{Cert, CertFormat, CertKind};
+use byte_scaling::Width;
 use cert_check::whole_box;
 use error_bound::BoxTable;
 use fuzzy_meaning::Block;
@@ -106,37 +107,35 @@ pub fn certify_each(
     if numbers.len() != block.outputs.len() {
         return Err(NotReached::Outputs(numbers.len() as u8, block.outputs.len() as u8));
     }
-    certified(alloc, format.kind, block, numbers, format.width.parts())
+    certified(alloc, format.kind, block, numbers, format.width)
 }
 
-/// The same with a number for each output, for answers with `parts` parts to a byte.
+/// The same with a number for each output, for answers of this width.
 fn certified(
     alloc: Global,
     kind: CertKind,
     block: &Block,
     targets: ArrayVec<u32, 4>,
-    parts: u16,
+    width: Width,
 ) -> Result<Cert, NotReached>
     requires block { IsValid block.now }
     requires targets { AreTargets block.now targets.items }
-    requires parts_from { 1 ≤ parts }
-    requires parts_to { parts ≤ 256 }
-    ensures halved { IfOk result (IsHalvingFor kind block.now parts targets.items) }
+    ensures halved { IfOk result (IsHalvingFor kind block.now (parts_of width) targets.items) }
     ensures within { IfOk result (λ cert. AreWithin targets.items cert.claims) }
     ensures cert { IfOk result (IsCert kind) }
     ensures stops { IfErr result
-        (λ stop. stop ≢ NotReached.Memory → StopsFor kind block.now parts targets.items stop) }
-    ensures out_of_reach { IfErr result (SaysOutOfReachFor kind block.now parts targets.items) }
+        (λ stop. stop ≢ NotReached.Memory → StopsFor kind block.now (parts_of width) targets.items stop) }
+    ensures out_of_reach { IfErr result (SaysOutOfReachFor kind block.now (parts_of width) targets.items) }
 {
     cells_are_out_of_reach();
     open_boxes_go_on();
-    let Ok(task) = Task::new(alloc, kind, block, targets, parts) else {
+    let Ok(task) = Task::new(alloc, kind, block, targets, width) else {
         return Err(NotReached::Memory);
     };
     let Ok(mut tree) = Tree::new(alloc, block.outputs.len()) else {
         return Err(NotReached::Memory);
     };
-    let mut table = BoxTable::over(block, &task.table, whole_box(block));
+    let mut table = BoxTable::over(&task.table, whole_box(block));
     match task.halve(whole_box(block), &mut table, &mut tree) {
         Ok(()) => Ok(tree.into_cert()),
         Err(stop) => Err(stop),

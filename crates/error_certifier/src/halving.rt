@@ -1,18 +1,20 @@
 //! Halving, box by box.
-ghost use Rattle.std.specs.Prelude.{◌≡◌, ◌≢◌, ◌≤◌, ◌<◌, ◌+◌, ◌++◌, ◌∷◌, ℕ, [], length, replicate, OnOk, IfOk, IfErr};
+ghost use Rattle.std.specs.Prelude.{◌≡◌, ◌≢◌, ◌≤◌, ◌<◌, ◌+◌, ◌++◌, ◌∷◌, ℕ, length, replicate, OnOk, IfOk, IfErr, []};
 ghost use Rattle.fuzzy_meaning.specs.Blocks.{IsValid};
-ghost use Rattle.error_bound.specs.{Boxes.IsBoxOf, Reaches.IsTable};
+ghost use Rattle.error_bound.specs.{Boxes.IsBoxOf};
 ghost use Rattle.box_tree.specs.declared.cert.CertKind.TheVariants as kind;
 ghost use Rattle.box_tree.specs.declared.cert.Node.TheVariants as node;
 ghost use Rattle.cert_check.specs.Walks.{AreRaised};
 ghost use Rattle.error_certifier.specs.{Halving.Stops, Halving.IsAbove, Targets.AreTargets};
-ghost use Rattle.error_certifier.specs.Trees.{IsTask, IsTreeFor, IsPiece, Grows};
+ghost use Rattle.error_certifier.specs.Trees.{IsTask, IsTreeFor, IsPiece, GrowsBy, StopsTask, IsTaskPiece};
+ghost use Rattle.error_bound.specs.Reaches.{IsTableOf, block_of, box_of, parts_of, IsTable};
 
 use crate::boxes::{middle, widest};
 use crate::certifier::NotReached;
 use crate::leaves::{FoundLeaf, Piece, best_leaf, tight_bounds};
 use arrayvec::ArrayVec;
 use box_tree::{Cert, CertKind, LeafLine, Node};
+use byte_scaling::Width;
 use cell_bounds::laws::narrowed_boxes_stand_for_all;
 use cell_bounds::{cells_bounds, has_few_cells, low_bytes};
 use cert_check::laws::cuts_have_halves;
@@ -29,13 +31,10 @@ const MOST_LEAVES: u16 = 4096;
 #[derive(Drop)]
 pub(crate) struct Task<'a> {
     kind: CertKind,
-    block: &'a Block,
     /// What all boxes need to know about the block.
-    pub(crate) table: BlockTable,
+    pub(crate) table: BlockTable<'a>,
     /// The target of each output.
     targets: ArrayVec<u32, 4>,
-    /// The number of parts that answers have to a byte.
-    parts: u16,
 }
 
 /// The part of a tree that is built so far, from the left.
@@ -53,25 +52,21 @@ impl<'a> Task<'a> {
         kind: CertKind,
         block: &'a Block,
         targets: ArrayVec<u32, 4>,
-        parts: u16,
+        width: Width,
     ) -> Result<Task<'a>, AllocError>
         requires block { IsValid block.now }
         requires targets { AreTargets block.now targets.items }
-        requires parts_from { 1 ≤ parts }
-        requires parts_to { parts ≤ 256 }
         ensures task { IfOk result IsTask }
         ensures kind { IfOk result (λ task. task.kind ≡ kind) }
-        ensures block { IfOk result (λ task. task.block.now ≡ block.now) }
+        ensures block { IfOk result (λ task. task.table.block.now ≡ block.now) }
         ensures targets { IfOk result (λ task. task.targets.items ≡ targets.items) }
-        ensures parts { IfOk result (λ task. task.parts ≡ parts) }
+        ensures width { IfOk result (λ task. task.table.width ≡ width) }
     {
-        let table = BlockTable::new(alloc, block)?;
+        let table = BlockTable::new(alloc, block, width)?;
         Ok(Task {
             kind,
-            block,
             table,
             targets,
-            parts,
         })
     }
 
@@ -84,15 +79,14 @@ impl<'a> Task<'a> {
         tree: &mut Tree,
     ) -> Result<(), NotReached>
         requires task { IsTask self.now }
-        requires bytes { IsBoxOf self.now.block.now bytes.0.items }
-        requires table { IsTable self.now.block.now table.old }
-        requires tree { IsTreeFor self.now.block.now tree.old }
-        ensures table { IsTable self.now.block.now table.new }
-        ensures tree { OnOk result (IsTreeFor self.now.block.now tree.new) }
-        ensures grows { OnOk result (Grows self.now.kind self.now.block.now self.now.parts
-            self.now.targets.items bytes.0.items tree.old tree.new) }
-        ensures stops { IfErr result (λ stop. stop ≢ NotReached.Memory → Stops self.now.kind self.now.block.now
-            self.now.parts self.now.targets.items bytes.0.items tree.old.leaves stop) }
+        requires bytes { IsBoxOf self.now.table.block.now bytes.0.items }
+        requires table { IsTableOf self.now.table table.old }
+        requires tree { IsTreeFor self.now.table.block.now tree.old }
+        ensures table { IsTableOf self.now.table table.new }
+        ensures tree { OnOk result (IsTreeFor self.now.table.block.now tree.new) }
+        ensures grows { OnOk result (GrowsBy self.now bytes.0.items tree.old tree.new) }
+        ensures stops { IfErr result (λ stop. stop ≢ NotReached.Memory
+            → StopsTask self.now bytes.0.items tree.old.leaves stop) }
     {
         cuts_have_halves();
         let (place, interval) = match self.found(&bytes, table) {
@@ -112,15 +106,13 @@ impl<'a> Task<'a> {
     /// What becomes of a box, or the cell in it that is above a target.
     fn found(&self, bytes: &ByteBox, table: &mut BoxTable) -> Result<Piece, NotReached>
         requires task { IsTask self.now }
-        requires bytes { IsBoxOf self.now.block.now bytes.now.0.items }
-        requires table { IsTable self.now.block.now table.old }
-        ensures table { IsTable self.now.block.now table.new }
-        ensures piece { IfOk result
-            (IsPiece self.now.kind self.now.block.now self.now.parts self.now.targets.items bytes.now.0.items) }
-        ensures stuck { IfErr result (λ stop. (n : ℕ) → Stops self.now.kind self.now.block.now self.now.parts
-            self.now.targets.items bytes.now.0.items n stop) }
+        requires bytes { IsBoxOf self.now.table.block.now bytes.now.0.items }
+        requires table { IsTableOf self.now.table table.old }
+        ensures table { IsTableOf self.now.table table.new }
+        ensures piece { IfOk result (IsTaskPiece self.now bytes.now.0.items) }
+        ensures stuck { IfErr result (λ stop. (n : ℕ) → StopsTask self.now bytes.now.0.items n stop) }
     {
-        table.move_to(self.block, bytes);
+        table.move_to(bytes);
         match self.kind {
             CertKind::Named => self.named_leaf(table),
             CertKind::Tight => self.tight_leaf(table),
@@ -129,14 +121,14 @@ impl<'a> Task<'a> {
 
     /// The same for a table's box and a plain certificate.
     fn named_leaf(&self, table: &BoxTable) -> Result<Piece, NotReached>
-        requires task { IsTask self.now }
-        requires table { IsTable self.now.block.now table.now }
+        requires table { IsTable table.now }
+        requires targets { AreTargets (block_of table.now) self.now.targets.items }
         ensures piece { IfOk result
-            (IsPiece kind.Named self.now.block.now self.now.parts self.now.targets.items table.now.bytes.0.items) }
-        ensures stuck { IfErr result (λ stop. (n : ℕ) → Stops kind.Named self.now.block.now self.now.parts
-            self.now.targets.items table.now.bytes.0.items n stop) }
+            (IsPiece kind.Named (block_of table.now) (parts_of table.now) self.now.targets.items (box_of table.now)) }
+        ensures stuck { IfErr result (λ stop. (n : ℕ) → Stops kind.Named (block_of table.now) (parts_of table.now)
+            self.now.targets.items (box_of table.now) n stop) }
     {
-        match best_leaf(self.block, table, self.targets.as_slice(), self.parts) {
+        match best_leaf(table, self.targets.as_slice()) {
             Ok(leaf) => Ok(Piece::Leaf(leaf)),
             Err(above) => {
                 let (place, interval) = widest(&table.bytes);
@@ -151,14 +143,14 @@ impl<'a> Task<'a> {
 
     /// The same for a table's box and a tight certificate.
     fn tight_leaf(&self, table: &BoxTable) -> Result<Piece, NotReached>
-        requires task { IsTask self.now }
-        requires table { IsTable self.now.block.now table.now }
+        requires table { IsTable table.now }
+        requires targets { AreTargets (block_of table.now) self.now.targets.items }
         ensures piece { IfOk result
-            (IsPiece kind.Tight self.now.block.now self.now.parts self.now.targets.items table.now.bytes.0.items) }
-        ensures stuck { IfErr result (λ stop. (n : ℕ) → Stops kind.Tight self.now.block.now self.now.parts
-            self.now.targets.items table.now.bytes.0.items n stop) }
+            (IsPiece kind.Tight (block_of table.now) (parts_of table.now) self.now.targets.items (box_of table.now)) }
+        ensures stuck { IfErr result (λ stop. (n : ℕ) → Stops kind.Tight (block_of table.now) (parts_of table.now)
+            self.now.targets.items (box_of table.now) n stop) }
     {
-        match tight_bounds(self.block, table, self.targets.as_slice(), self.parts) {
+        match tight_bounds(table, self.targets.as_slice()) {
             Ok(bounds) => Ok(Piece::Leaf(FoundLeaf {
                 stated: LeafLine::Tight,
                 bounds,
@@ -169,28 +161,22 @@ impl<'a> Task<'a> {
 
     /// The same for a tight certificate, if the tight leaf of the table's box is above a target.
     fn cells_leaf(&self, table: &BoxTable) -> Result<Piece, NotReached>
-        requires task { IsTask self.now }
-        requires table { IsTable self.now.block.now table.now }
-        requires above { IsAbove kind.Tight self.now.block.now self.now.parts self.now.targets.items
-            table.now.bytes.0.items }
+        requires table { IsTable table.now }
+        requires targets { AreTargets (block_of table.now) self.now.targets.items }
+        requires above { IsAbove kind.Tight (block_of table.now) (parts_of table.now) self.now.targets.items
+            (box_of table.now) }
         ensures piece { IfOk result
-            (IsPiece kind.Tight self.now.block.now self.now.parts self.now.targets.items table.now.bytes.0.items) }
-        ensures stuck { IfErr result (λ stop. (n : ℕ) → Stops kind.Tight self.now.block.now self.now.parts
-            self.now.targets.items table.now.bytes.0.items n stop) }
+            (IsPiece kind.Tight (block_of table.now) (parts_of table.now) self.now.targets.items (box_of table.now)) }
+        ensures stuck { IfErr result (λ stop. (n : ℕ) → Stops kind.Tight (block_of table.now) (parts_of table.now)
+            self.now.targets.items (box_of table.now) n stop) }
     {
         narrowed_boxes_stand_for_all();
-        let narrow = table.narrowed(self.block);
+        let narrow = table.narrowed();
         if !has_few_cells(&narrow) {
             let (place, interval) = widest(&narrow);
             return Ok(Piece::Cut(place, interval));
         }
-        match cells_bounds(
-            self.block,
-            &self.table,
-            &narrow,
-            self.parts,
-            self.targets.as_slice(),
-        ) {
+        match cells_bounds(table.table, &narrow, self.targets.as_slice()) {
             Ok(bounds) => Ok(Piece::Leaf(FoundLeaf {
                 stated: LeafLine::Cells,
                 bounds,

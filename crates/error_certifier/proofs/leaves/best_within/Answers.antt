@@ -1,6 +1,7 @@
 use Rattle.std.proofs.Common.{◌≤◌, ◌+◌, arith}
 use Rattle.fuzzy_meaning.specs.declared.block.Output.{Output}
 use Rattle.error_bound.specs.{BestLeaves.of_leaf, BestLeaves.of_none, Bounds.IsBound}
+use Rattle.error_bound.specs.Reaches.{parts_of}
 use Rattle.error_certifier.proofs.HalveLemmas.{pair_of_best, at_place}
 use Rattle.error_certifier.proofs.leaves.best_within.Goals as goal
 
@@ -9,7 +10,7 @@ returns-in_default-clause-bound c = λ x e. of_none c.in_default.ensures
 
 pub unreachable-requires : goal.unreachable-requires
 unreachable-requires c =
-    let b = c.args.block.now in
+    let b = c.args.table.now.table.now.block.now in
     let box = c.args.table.now.bytes.0.items in
     let o = c.args.place + 1 in
     let small : c.in-Some.leaf.k ≤ 255 = omega arith in
@@ -19,14 +20,14 @@ unreachable-requires c =
 pub returns-in-Ok-clause-pair : goal.returns-in-Ok-clause-pair
 returns-in-Ok-clause-pair c =
     let small : c.in-Some.leaf.k ≤ 255 = omega arith in
-    pair_of_best c.args.block.now c.args.table.now.bytes.0.items (c.args.place + 1) c.in-Some.leaf c.requires.block
+    pair_of_best c.args.table.now.table.now.block.now c.args.table.now.bytes.0.items (c.args.place + 1) c.in-Some.leaf c.requires.table.table.valid
     small c.in-Some.ensures
 
 pub returns-in-Ok-2-clause-bound : goal.returns-in-Ok-2-clause-bound
 returns-in-Ok-2-clause-bound c = λ x e.
-    let b = c.args.block.now in
+    let b = c.args.table.now.table.now.block.now in
     let box = c.args.table.now.bytes.0.items in
     of_leaf c.in-Some.leaf c.in-Ok.bound c.in-Some.ensures
     (at_place b c.args.place x
-    (λ (y : Output). IsBound b box (c.args.place + 1) y c.args.parts c.in-Some.leaf c.in-Ok.bound) e
+    (λ (y : Output). IsBound b box (c.args.place + 1) y (parts_of c.args.table.now) c.in-Some.leaf c.in-Ok.bound) e
     c.in-Ok.ensures.bound)

@@ -6,4 +6,4 @@ use Rattle.error_certifier.proofs.leaves.tight_within.Goals as goal
 
 pub returns-in-Some-2-clause-count : goal.returns-in-Some-2-clause-count
 returns-in-Some-2-clause-count c =
-    IfSome_then (output_at c.args.block.now (c.args.place + 1)) c.in-Some.ensures.bound (λ x bound. of_bound bound)
+    IfSome_then (output_at c.args.table.now.table.now.block.now (c.args.place + 1)) c.in-Some.ensures.bound (λ x bound. of_bound bound)

@@ -1,5 +1,6 @@
 use Rattle.std.proofs.Common.{rules, arith}
 use Rattle.std.proofs.lemmas.Result.{err_from_is_err_and}
+use Rattle.byte_scaling.specs.Widths.{parts as parts_of}
 use Rattle.error_certifier.proofs.HalveLemmas.{interval-place, Grows-leaf, Stops-leaf, left_half, right_half}
 use Rattle.error_certifier.proofs.HalveLemmas.{Stops-left, Grows-halves, Stops-right}
 use Rattle.error_certifier.specs.Trees.{IsSplit}
@@ -20,25 +21,25 @@ returns-in-Ok-Leaf-clause-stops t c =
 pub overflow_cast-place : goal.overflow_cast-place
 overflow_cast-place t c =
     let s = c.args.self.now in
-    let large : IsSplit s.kind s.block.now s.parts s.targets.items c.args.bytes.0.items c.in-Ok-Cut.place
+    let large : IsSplit s.kind s.table.block.now (parts_of s.table.width) s.targets.items c.args.bytes.0.items c.in-Ok-Cut.place
     c.in-Ok-Cut.interval = rw c.in-Ok-Cut.field-0-is at c.in-Ok-Cut.ensures.piece in
-    let few = interval-place {k = c.in-Ok-Cut.place} {v = c.in-Ok-Cut.interval} c.requires.task.valid c.requires.bytes
+    let few = interval-place {k = c.in-Ok-Cut.place} {v = c.in-Ok-Cut.interval} c.requires.task.table.valid c.requires.bytes
     large.is_at in
     omega arith
 
 pub overflow_add-place : goal.overflow_add-place
 overflow_add-place t c =
     let s = c.args.self.now in
-    let large : IsSplit s.kind s.block.now s.parts s.targets.items c.args.bytes.0.items c.in-Ok-Cut.place
+    let large : IsSplit s.kind s.table.block.now (parts_of s.table.width) s.targets.items c.args.bytes.0.items c.in-Ok-Cut.place
     c.in-Ok-Cut.interval = rw c.in-Ok-Cut.field-0-is at c.in-Ok-Cut.ensures.piece in
-    let few = interval-place {k = c.in-Ok-Cut.place} {v = c.in-Ok-Cut.interval} c.requires.task.valid c.requires.bytes
+    let few = interval-place {k = c.in-Ok-Cut.place} {v = c.in-Ok-Cut.interval} c.requires.task.table.valid c.requires.bytes
     large.is_at in
     omega arith
 
 pub halve-requires : goal.halve-requires
 halve-requires t c =
     let s = c.args.self.now in
-    let large : IsSplit s.kind s.block.now s.parts s.targets.items c.args.bytes.0.items c.in-Ok-Cut.place
+    let large : IsSplit s.kind s.table.block.now (parts_of s.table.width) s.targets.items c.args.bytes.0.items c.in-Ok-Cut.place
     c.in-Ok-Cut.interval = rw c.in-Ok-Cut.field-0-is at c.in-Ok-Cut.ensures.piece in
     let left = left_half c.requires.bytes large c.middle-cut.ensures.middle
     c.cuts_have_halves.ensures _ c.halves-left.ensures.left in
@@ -50,7 +51,7 @@ halve-requires t c =
 pub returns-in_err-halve-clause-stops : goal.returns-in_err-halve-clause-stops
 returns-in_err-halve-clause-stops t c =
     let s = c.args.self.now in
-    let large : IsSplit s.kind s.block.now s.parts s.targets.items c.args.bytes.0.items c.in-Ok-Cut.place
+    let large : IsSplit s.kind s.table.block.now (parts_of s.table.width) s.targets.items c.args.bytes.0.items c.in-Ok-Cut.place
     c.in-Ok-Cut.interval = rw c.in-Ok-Cut.field-0-is at c.in-Ok-Cut.ensures.piece in
     let p = err_from_is_err_and c.from_residual.result c.from_residual.ensures.1 in
     rw (p.1, p.2) (λ found. Stops-left c.requires.bytes large
@@ -59,7 +60,7 @@ returns-in_err-halve-clause-stops t c =
 pub halve-requires-2 : goal.halve-requires-2
 halve-requires-2 t c =
     let s = c.args.self.now in
-    let large : IsSplit s.kind s.block.now s.parts s.targets.items c.args.bytes.0.items c.in-Ok-Cut.place
+    let large : IsSplit s.kind s.table.block.now (parts_of s.table.width) s.targets.items c.args.bytes.0.items c.in-Ok-Cut.place
     c.in-Ok-Cut.interval = rw c.in-Ok-Cut.field-0-is at c.in-Ok-Cut.ensures.piece in
     let right = right_half c.requires.bytes large c.middle-cut.ensures.middle
     c.cuts_have_halves.ensures _ c.halves-left.ensures.right in (
@@ -70,17 +71,17 @@ halve-requires-2 t c =
 pub returns-clause-grows : goal.returns-clause-grows
 returns-clause-grows t c =
     let s = c.args.self.now in
-    let large : IsSplit s.kind s.block.now s.parts s.targets.items c.args.bytes.0.items c.in-Ok-Cut.place
+    let large : IsSplit s.kind s.table.block.now (parts_of s.table.width) s.targets.items c.args.bytes.0.items c.in-Ok-Cut.place
     c.in-Ok-Cut.interval = rw c.in-Ok-Cut.field-0-is at c.in-Ok-Cut.ensures.piece in
     Grows-halves c.requires.bytes large c.middle-cut.ensures.middle
     c.halves-left.ensures.left c.halves-left.ensures.right c.args.tree.now c.halve.new.tree
     c.push.new.self c.in_ok-halve.ensures.grows c.halve-2.new.tree c.halve-2.result c.cuts_have_halves.ensures
-    c.requires.task.valid (search rules) c.halve-2.ensures.grows
+    c.requires.task.table.valid (search rules) c.halve-2.ensures.grows
 
 pub returns-clause-stops : goal.returns-clause-stops
 returns-clause-stops t c =
     let s = c.args.self.now in
-    let large : IsSplit s.kind s.block.now s.parts s.targets.items c.args.bytes.0.items c.in-Ok-Cut.place
+    let large : IsSplit s.kind s.table.block.now (parts_of s.table.width) s.targets.items c.args.bytes.0.items c.in-Ok-Cut.place
     c.in-Ok-Cut.interval = rw c.in-Ok-Cut.field-0-is at c.in-Ok-Cut.ensures.piece in
     Stops-right c.requires.bytes large c.middle-cut.ensures.middle
     c.halves-left.ensures.left c.halves-left.ensures.right c.args.tree.now c.halve.new.tree
