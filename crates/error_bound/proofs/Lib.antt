@@ -12,7 +12,7 @@ pub mod TableLemmas
 pub mod FlatteningLemmas
 pub mod ConditionErrors
 pub mod RangeLemmas
-pub mod LimitLemmas
+pub mod MassLemmas
 pub mod LeafLemmas
 pub mod TightLawLemmas
 pub mod Alike

@@ -1,9 +1,10 @@
 -- What a table has of literals and rules, and the rows of its terms.
-use Rattle.std.proofs.Common.{◌≡◌, ℕ, ◌+◌, ◌-◌, ◌*◌, ◌/◌, ◌<◌, ◌≤◌, Bool, true, false, List, length, get_or, Some}
+use Rattle.std.proofs.Common.{◌≡◌, ℕ, ◌+◌, ◌-◌, ◌*◌, ◌/◌, ◌<◌, ◌≤◌, List, length, get_or, Some}
 use Rattle.std.proofs.Common.{refl, [], None, sym, ap, ◌∙◌, subst, arith, ⊎_elim, zero, suc, ◌∷◌, ap₂}
-use Rattle.std.proofs.{lemmas.Option.get_or_from_slice_get, lemmas.Option.slice_get_within, lemmas.List.length-set}
+use Rattle.std.proofs.{lemmas.Option.get_or_from_slice_get, lemmas.Option.slice_get_within}
 use Rattle.std.proofs.lemmas.Bool.{cases_eq, cases_lt}
-use Rattle.std.specs.Prelude.{slice_get, pos, slice_set}
+use Rattle.std.specs.Prelude.{slice_get, pos, slice_set, map, Option, IfSome}
+use Rattle.std.specs.Global.{Vec}
 use Rattle.fz_num.specs.Fractions.{Fraction, times}
 use Rattle.fuzzy_meaning.specs.{declared.block.Trapezoid.Trapezoid, declared.block.Block.Block, Conditions.Condition}
 use Rattle.fuzzy_meaning.specs.{declared.block.Input.Input, declared.block.Rule.Rule, Blocks.HasTerm, Blocks.input_at}
@@ -12,7 +13,9 @@ use Rattle.byte_scaling.specs.Weights.{weight_byte_of}
 use Rattle.fz_list.proofs.Algebra.{IsSomeAnd-some, IsSomeAnd-within, some_at, slice_get-set_same}
 use Rattle.error_bound.specs.Reaches.{AreTermCells, AreInputCells, AreRows, IsReachOfTerm, IsReachOfLiteral}
 use Rattle.error_bound.specs.Boxes.{literal_span, literal_byte_span, rule_span, rule_byte_span}
-use Rattle.error_bound.specs.Reaches.{IsEndOfCondition, IsEndOfRule, AreInputReaches}
+use Rattle.error_bound.specs.Reaches.{IsEndOfCondition, IsEndOfRule, AreInputReaches, AreRuleLiterals, AreLiteralsOf}
+use Rattle.error_bound.specs.{Reaches.literal_of, declared.reaches.Literal.Literal}
+use Rattle.fuzzy_meaning.specs.Conditions.{all, conditions}
 use Rattle.error_bound.specs.{Flattening.IsSame, Flattening.AreSame, Flattening.ReachesAlike, declared.ends.End.End}
 use Rattle.error_bound.specs.{declared.tables.InputCells.InputCells, declared.cells.TermCells.TermCells}
 use Rattle.error_bound.specs.{Spans.Span, Spans.span, Spans.byte_span, Spans.end_of, declared.ends.Side.Side}
@@ -31,8 +34,8 @@ no_cells = record { grades = []; rises = []; falls = [] }
 pub term_cells_at : (x : Input) (v : Interval) (cells : InputCells) (t : ℕ) (term : Trapezoid) (otherwise : TermCells)
     → AreInputCells x v cells → slice_get x.terms t ≡ Some term
     → AreTermCells x term v (get_or cells.terms t otherwise)
-term_cells_at x v cells t term otherwise all e =
-    let q = all t term e in
+term_cells_at x v cells t term otherwise each e =
+    let q = each t term e in
     subst (AreTermCells x term v) (sym (get_or_from_slice_get cells.terms t q.0 otherwise q.1)) q.2
 
 as_literal : (b : Block) (box : List Interval) (i t : ℕ) (x : Input) (term : Trapezoid) (v : Interval) (r : Reach)
@@ -44,6 +47,7 @@ as_literal b box i t x term v r ex et ev h =
       bytes = rw (ex, et, ev) h.bytes;
       deviation = rw (ex, et, ev) h.deviation;
       small = h.small;
+      masses = h.masses;
     }
 
 pub literal_reach : (b : Block) (box : List Interval) (rows : List Row) (i t : ℕ) (row : Row) (reach : Reach)
@@ -63,6 +67,24 @@ literal_reach b box rows i t row reach has count each =
           ∙ get_or_from_slice_get found.0.reaches (t - 1) here.0 reach here.1,
       as_literal b box i t x.0 term.0 v.0 here.0 x.1 term.1 v.1 here.2,
     )
+
+-- ---- what is kept of rules
+
+-- the literals that are read at a rule's place
+pub kept_literals : (b : Block) (r : Rule) (lists : List (Option (Vec Literal))) (k : ℕ) (o : Option (Vec Literal))
+    (v : Vec Literal) → AreRuleLiterals b lists → slice_get b.rules k ≡ Some r → o ≡ get_or lists k o → o ≡ Some v
+    → AreLiteralsOf b r v.items
+kept_literals b r lists k o v each found read is =
+    let q = each k r found in
+    let same : q.0 ≡ Some v = sym (get_or_from_slice_get lists k q.0 o q.1) ∙ sym read ∙ is in
+    subst (λ p. IfSome p (λ w. AreLiteralsOf b r w.items)) same q.2
+
+-- those of a condition that reaches as far as a rule's
+pub literals_alike : (b : Block) (r : Rule) (d : Condition) (o : Option (Vec Literal)) → ReachesAlike b r.cond d
+    → IfSome o (λ v. (r.weight ≡ None) × (d ≡ all (conditions (map literal_of v.items))))
+    → IfSome o (λ v. AreLiteralsOf b r v.items)
+literals_alike b r d None alike h = h
+literals_alike b r d (Some v) alike h = record { plain = h.0; alike = subst (ReachesAlike b r.cond) h.1 alike }
 
 -- of a rule by a condition that reaches as far as its own
 same_ends : (side : Side) (s r : Span Fraction) → AreSame IsSame s r → IsSame (end_of side s) (end_of side r)

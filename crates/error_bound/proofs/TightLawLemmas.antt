@@ -575,13 +575,12 @@ up-mono c f g pf pg l =
     let a3 : (c * f.num) * g.den ≤ (e * f.den) * g.den = omega arith in
     up_div-le (c * f.num) f.den e pf.pos (le_of_mul-le-mul_right a3 pg.pos)
 
+pub up-same : (c : ℕ) (f g : Fraction) → IsSame f g → up_div (c * f.num) f.den ≡ up_div (c * g.num) g.den
+up-same c f g s = both_ways (up-mono c f g s.left s.right s.below) (up-mono c g f s.right s.left s.above)
+
 pub high_part-end : (b : Block) (box : List Interval) (r : Rule) (high : End) → IsEndOfRule b box r High high
     → up_div (255000000000 * (value_of high.truth).num) (value_of high.truth).den ≡ high_part b box r
-high_part-end b box r high end =
-    let f = value_of high.truth in
-    let g = (rule_span b box r).high in
-    let s = end.value in
-    both_ways (up-mono (255 * billion) f g s.left s.right s.below) (up-mono (255 * billion) g f s.right s.left s.above)
+high_part-end b box r high end = up-same (255 * billion) (value_of high.truth) (rule_span b box r).high end.value
 
 -- ---- from the terms' numbers to the spec's
 

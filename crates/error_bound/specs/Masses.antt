@@ -1,45 +1,57 @@
 -- What the code knows of the masses of an output's terms on a box.
 -- Beside the promise.
 use Rattle.std.specs.Prelude.{◌≡◌, ℕ, ◌+◌, ◌-◌, ◌*◌, ◌/◌, ◌<◌, ◌≤◌, ◌==◌, List, if◌then◌else◌, slice_index}
-use Rattle.std.specs.Prelude.{unsigned_abs}
-use Rattle.fz_num.specs.{declared.dec.Dec.Dec, Decimals.distance, Fractions.times}
+use Rattle.fz_num.specs.{declared.dec.Dec.Dec, Decimals.distance, Fractions.Fraction, Fractions.up_div}
 use Rattle.fuzzy_meaning.specs.declared.{block.Block.Block, block.Output.Output, block.Rule.Rule}
 use Rattle.fuzzy_meaning.specs.Conditions.{Condition}
-use Rattle.error_bound.specs.declared.{boxes.Interval.Interval, tight.RuleMass.RuleMass, tight.Masses.Masses}
-use Rattle.error_bound.specs.declared.{tight.Deviations.Deviations, limits.Limit.Limit}
+use Rattle.error_bound.specs.declared.{boxes.Interval.Interval, masses.MassEnds.MassEnds, tight.Masses.Masses}
+use Rattle.error_bound.specs.declared.{tight.Deviations.Deviations}
 use Rattle.cell_error.specs.declared.{ranges.MassRange.MassRange, ranges.Deviation.Deviation, means.Scale.Scale}
 use Rattle.cell_error.specs.Means.{IsMeanError}
 use Rattle.error_bound.specs.{Boxes.rule_byte_span, CellErrors.term_errors, Errors.rule_rise, Errors.rule_fall}
-use Rattle.error_bound.specs.{Boxes.literal_span, Boxes.literal_byte_span, Spans.span, Spans.byte_span, Errors.billion}
+use Rattle.error_bound.specs.{Boxes.literal_span, Boxes.literal_byte_span, Boxes.rule_span, Errors.billion}
+use Rattle.error_bound.specs.Spans.{Span, span, byte_span}
 use Rattle.error_bound.specs.{Bounds.offset, Tight.greatest_of, Tight.sum_over, Tight.greatest_over, Tight.low_part}
 use Rattle.error_bound.specs.Tight.{high_part, if_moving, ranges_at, deviations_at}
 
--- of a rule on a box
-pub record IsRuleMass (b : Block) (box : List Interval) (r : Rule) (m : RuleMass) : Type 0 where
-  pub low : m.low ≡ low_part b box r
-  pub high : m.high ≡ high_part b box r
-  pub byte_low : m.byte_low ≡ (rule_byte_span b box r).low
-  pub byte_high : m.byte_high ≡ (rule_byte_span b box r).high
+-- the ends, in whole parts, of truths from the least to the greatest, and of those over bytes
+pub record AreMassEnds (s : Span Fraction) (g : Span ℕ) (m : MassEnds) : Type 0 where
+  pub low : m.low ≡ 255 * billion * s.low.num / s.low.den
+  pub high : m.high ≡ up_div (255 * billion * s.high.num) s.high.den
+  pub byte_low : m.byte_low ≡ g.low
+  pub byte_high : m.byte_high ≡ g.high
   pub low_small : m.low ≤ 255000000000
   pub high_small : m.high ≤ 255000000000
   pub byte_low_small : m.byte_low ≤ 255
   pub byte_high_small : m.byte_high ≤ 255
 
--- its strength reaches no further than these
-pub record IsRuleWithin (b : Block) (box : List Interval) (r : Rule) (m : RuleMass) : Type 0 where
-  pub low : low_part b box r ≤ m.low
-  pub high : high_part b box r ≤ m.high
-  pub byte_low : (rule_byte_span b box r).low ≤ m.byte_low
-  pub byte_high : (rule_byte_span b box r).high ≤ m.byte_high
+-- such truths reach no further than these ends
+pub record AreWithin (s : Span Fraction) (g : Span ℕ) (m : MassEnds) : Type 0 where
+  pub low : 255 * billion * s.low.num / s.low.den ≤ m.low
+  pub high : up_div (255 * billion * s.high.num) s.high.den ≤ m.high
+  pub byte_low : g.low ≤ m.byte_low
+  pub byte_high : g.high ≤ m.byte_high
 
--- nor does the truth of a condition under the weight of a limit
-pub record IsConditionWithin (b : Block) (box : List Interval) (c : Condition) (l : Limit) : Type 0 where
-  pub low : 255 * billion * (times (span (literal_span b box) c).low (unsigned_abs l.weight.0)).num
-      < (l.mass.low + 1) * (times (span (literal_span b box) c).low (unsigned_abs l.weight.0)).den
-  pub high : 255 * billion * (times (span (literal_span b box) c).high (unsigned_abs l.weight.0)).num
-      ≤ l.mass.high * (times (span (literal_span b box) c).high (unsigned_abs l.weight.0)).den
-  pub byte_low : (byte_span (literal_byte_span b box) c).low * (l.byte + 1) / 256 ≤ l.mass.byte_low
-  pub byte_high : (byte_span (literal_byte_span b box) c).high * (l.byte + 1) / 256 ≤ l.mass.byte_high
+-- no end of m is above that of n
+pub record IsAtMost (m n : MassEnds) : Type 0 where
+  pub low : m.low ≤ n.low
+  pub high : m.high ≤ n.high
+  pub byte_low : m.byte_low ≤ n.byte_low
+  pub byte_high : m.byte_high ≤ n.byte_high
+
+-- of a condition on a box
+abbrev pub AreEndsOfCondition : Block → List Interval → Condition → MassEnds → Type 0
+AreEndsOfCondition b box c = AreMassEnds (span (literal_span b box) c) (byte_span (literal_byte_span b box) c)
+
+abbrev pub IsConditionWithin : Block → List Interval → Condition → MassEnds → Type 0
+IsConditionWithin b box c = AreWithin (span (literal_span b box) c) (byte_span (literal_byte_span b box) c)
+
+-- of a rule
+abbrev pub IsRuleMass : Block → List Interval → Rule → MassEnds → Type 0
+IsRuleMass b box r = AreMassEnds (rule_span b box r) (rule_byte_span b box r)
+
+abbrev pub IsRuleWithin : Block → List Interval → Rule → MassEnds → Type 0
+IsRuleWithin b box r = AreWithin (rule_span b box r) (rule_byte_span b box r)
 
 -- for each term the greatest that f gives for the rules that conclude it, n at most
 pub record AreGreatest (f : Rule → ℕ) (n o : ℕ) (rs : List Rule) (values : List ℕ) : Type 0 where

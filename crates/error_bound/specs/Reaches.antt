@@ -1,18 +1,22 @@
 -- What the code's reaches stand for.
 -- Beside the promise.
-use Rattle.std.specs.Prelude.{◌≡◌, ℕ, ◌≤◌, List, IfSome, Some, slice_get, slice_index}
-use Rattle.fz_num.specs.{Decimals.distance, Fractions.Fraction}
+use Rattle.std.specs.Prelude.{◌≡◌, ℕ, ◌-◌, ◌≤◌, List, Option, IfSome, Some, None, map, slice_get, slice_index}
+use Rattle.std.specs.Global.{Vec}
+use Rattle.fz_num.specs.{Decimals.distance, Fractions.Fraction, Fractions.one_minus}
 use Rattle.fuzzy_meaning.specs.{declared.block.Block.Block, declared.block.Input.Input, declared.block.Rule.Rule}
 use Rattle.fuzzy_meaning.specs.{declared.block.Trapezoid.Trapezoid, Conditions.Condition, Places.points_of}
+use Rattle.fuzzy_meaning.specs.Conditions.{is, all, conditions, under}
 use Rattle.fuzzy_meaning.specs.Blocks.{IsValid}
 use Rattle.byte_scaling.specs.Widths.{parts}
 use Rattle.point_slope.specs.Tables.{row_of, grade_of}
 use Rattle.cell_error.specs.{declared.ranges.Deviation.Deviation, Means.IsSmallDeviation}
 use Rattle.error_bound.specs.declared.{boxes.Interval.Interval, cells.TermCells.TermCells, degrees.Degrees.Degrees}
-use Rattle.error_bound.specs.declared.{ends.End.End, reaches.Reach.Reach, tables.InputCells.InputCells}
+use Rattle.error_bound.specs.declared.{ends.End.End, ends.Ends.Ends, reaches.Reach.Reach, reaches.Literal.Literal}
+use Rattle.error_bound.specs.declared.{tables.InputCells.InputCells}
 use Rattle.error_bound.specs.declared.{tables.BlockTable.BlockTable, tables.BoxTable.BoxTable, tables.Kept.Kept}
 use Rattle.error_bound.specs.declared.{tables.Row.Row, ends.Side.Side}
 use Rattle.error_bound.specs.{Ratios.value_of, Ratios.IsRatio, Spans.Span, Spans.span, Spans.byte_span, Spans.end_of}
+use Rattle.error_bound.specs.{Spans.reversed, Masses.AreMassEnds}
 use Rattle.error_bound.specs.Boxes.{IsBoxOf, degrees_over, grades_over, literal_span, literal_byte_span, rule_span}
 use Rattle.error_bound.specs.Boxes.{rule_byte_span}
 use Rattle.error_bound.specs.Errors.{billion, rule_error, rule_rise, rule_fall}
@@ -24,6 +28,13 @@ span_of d = record { low = value_of d.low; high = value_of d.high }
 
 abbrev pub byte_span_of : Reach → Span ℕ
 byte_span_of r = record { low = r.least; high = r.greatest }
+
+-- between two ends
+abbrev pub span_of_ends : Ends → Span Fraction
+span_of_ends e = record { low = value_of e.low.truth; high = value_of e.high.truth }
+
+abbrev pub byte_span_of_ends : Ends → Span ℕ
+byte_span_of_ends e = record { low = e.low.byte; high = e.high.byte }
 
 -- from the fall to the rise
 abbrev pub fall_to_rise : Deviation → Span ℕ
@@ -66,10 +77,25 @@ HasAlike b r k conds = (c : Condition) × (slice_get conds k ≡ Some c) × Reac
 abbrev pub AreRuleConditions : Block → List Condition → Type 0
 AreRuleConditions b conds = (k : ℕ) (r : Rule) → slice_get b.rules k ≡ Some r → HasAlike b r k conds
 
+abbrev pub literal_of : Literal → Condition
+literal_of l = under l.negated (is l.input l.term)
+
+-- a rule has no weight, and an AND of these reaches as far as its condition
+pub record AreLiteralsOf (b : Block) (r : Rule) (ls : List Literal) : Type 0 where
+  pub plain : r.weight ≡ None
+  pub alike : ReachesAlike b r.cond (all (conditions (map literal_of ls)))
+
+-- for each rule, if they are there
+abbrev pub AreRuleLiterals : Block → List (Option (Vec Literal)) → Type 0
+AreRuleLiterals b lists =
+    (k : ℕ) (r : Rule) → slice_get b.rules k ≡ Some r
+    → (o : Option (Vec Literal)) × (slice_get lists k ≡ Some o) × IfSome o (λ v. AreLiteralsOf b r v.items)
+
 -- what is kept of a block
 pub record IsKept (b : Block) (kept : Kept) : Type 0 where
   pub inputs : AreAllCells b kept.inputs.items
   pub conditions : AreRuleConditions b kept.conditions.items
+  pub literals : AreRuleLiterals b kept.literals.items
 
 -- what boxes need of their block, which is valid
 pub record IsBlockTable (table : BlockTable) : Type 0 where
@@ -85,12 +111,19 @@ pub record IsSmall (r : Reach) : Type 0 where
   pub degrees : AreTruths r.degrees
   pub deviation : IsUnitDeviation r.deviation
 
+-- its masses are those of its truths, and of their complements
+pub record HasMasses (r : Reach) : Type 0 where
+  pub mass : AreMassEnds (span_of r.degrees) (byte_span_of r) r.mass
+  pub opposite :
+      AreMassEnds (reversed one_minus (span_of r.degrees)) (reversed (λ n. 255 - n) (byte_span_of r)) r.opposite
+
 -- the reach of a term over an interval
 pub record IsReachOfTerm (x : Input) (term : Trapezoid) (v : Interval) (r : Reach) : Type 0 where
   pub value : span_of r.degrees ≡ degrees_over x term v
   pub bytes : byte_span_of r ≡ grades_over x term v
   pub deviation : fall_to_rise r.deviation ≡ term_deviation x term v
   pub small : IsSmall r
+  pub masses : HasMasses r
 
 -- the reaches of an input's terms
 abbrev pub AreInputReaches : Input → Interval → List Reach → Type 0
@@ -111,6 +144,7 @@ pub record IsReachOfLiteral (b : Block) (box : List Interval) (i t : ℕ) (r : R
   pub bytes : byte_span_of r ≡ literal_byte_span b box i t
   pub deviation : fall_to_rise r.deviation ≡ term_errors b box i t
   pub small : IsSmall r
+  pub masses : HasMasses r
 
 -- an end of the reach of a condition
 pub record IsEndOfCondition (b : Block) (box : List Interval) (c : Condition) (side : Side) (e : End) : Type 0 where

@@ -4,7 +4,7 @@
 //! [`leaf_bound`] gives the Bound of a leaf that holds, or otherwise its first fault. No answer is
 //! farther than the Bound from the exact one, in millionths of the output's range
 //! ([`laws::answers_are_near`]). For many leaves of one box a [`BoxTable`] is made once, and for
-//! many boxes a [`BlockTable`]; only the latter allocates memory.
+//! many boxes a [`BlockTable`]; only [`BlockTable::new`] allocates memory.
 #![tactic(auto)]
 
 mod bounds;
@@ -16,8 +16,8 @@ mod ends;
 mod flattening;
 pub mod laws;
 mod leaves;
-mod limits;
 mod literal_errors;
+mod masses;
 mod matters;
 mod nowhere;
 mod ratio;

@@ -4,6 +4,7 @@ ghost use Rattle.fuzzy_meaning.specs.{Blocks.HasTerm, Conditions.is, Conditions.
 ghost use Rattle.error_bound.specs.Reaches.{IsTable, IsReachOfLiteral, block_of, box_of};
 
 use crate::degrees::Degrees;
+use crate::masses::MassEnds;
 use crate::ratio::Ratio;
 use crate::tables::BoxTable;
 use cell_error::Deviation;
@@ -17,6 +18,10 @@ pub(crate) struct Reach {
     pub(crate) least: u8,
     pub(crate) greatest: u8,
     pub(crate) deviation: Deviation,
+    /// The least and the greatest truth in whole parts.
+    pub(crate) mass: MassEnds,
+    /// And that of NOT.
+    pub(crate) opposite: MassEnds,
 }
 
 impl Reach {
@@ -29,6 +34,8 @@ impl Reach {
         least: 0,
         greatest: 0,
         deviation: Deviation { rise: 0, fall: 0 },
+        mass: MassEnds::NOTHING,
+        opposite: MassEnds::ALL,
     };
 }
 

@@ -1,20 +1,25 @@
 //! What boxes need to know about a block, and the reaches of all terms over a box.
-ghost use Rattle.std.specs.Prelude.{◌≡◌, ◌≤◌, ◌-◌, IfOk, IfSome, IsSomeAnd, IsTrue, Some, slice_get};
+ghost use Rattle.std.specs.Prelude.{◌≡◌, ◌≤◌, ◌-◌, IfOk, IfSome, IsSomeAnd, IsTrue, None, Some, map};
+ghost use Rattle.std.specs.Prelude.{slice_get};
 ghost use Rattle.fuzzy_meaning.specs.Blocks.{IsValid, IsValidInput, IsValidTerm};
 ghost use Rattle.error_bound.specs.{declared.tables.InputCells.InputCells as TheCells, Boxes.IsBoxOf};
 ghost use Rattle.error_bound.specs.Reaches.{AreTermCells, AreInputCells, AreAllCells, AreRuleConditions};
+ghost use Rattle.error_bound.specs.Reaches.{AreRuleLiterals, literal_of};
+ghost use Rattle.fuzzy_meaning.specs.Conditions.{all, conditions};
 ghost use Rattle.error_bound.specs.Reaches.{IsBlockTable, IsKept, all_bytes, IsReachOfTerm, AreInputReaches};
 ghost use Rattle.error_bound.specs.Reaches.{IsTable, block_of};
 
 use crate::boxes::{ByteBox, Interval};
 use crate::cells::TermCells;
 use crate::degrees::degrees_of;
+use crate::ends::{End, Ends};
 use crate::flattening::flattened;
 use crate::laws::flattening_keeps_reaches;
-use crate::reaches::Reach;
+use crate::masses::MassEnds;
+use crate::reaches::{Literal, Reach, literal_in};
 use byte_scaling::Width;
 use cell_error::Deviation;
-use fuzzy_meaning::{Block, Condition, Input, Trapezoid};
+use fuzzy_meaning::{Block, Condition, Input, Node, Rule, Trapezoid};
 use std::alloc::{AllocError, Global};
 
 /// The cells of an input's terms.
@@ -54,11 +59,13 @@ pub(crate) struct Kept {
     pub(crate) inputs: Vec<InputCells>,
     /// The rules' conditions, flat.
     pub(crate) conditions: Vec<Condition>,
+    /// The literals of each rule without a weight whose flat condition is an AND of literals.
+    pub(crate) literals: Vec<Option<Vec<Literal>>>,
 }
 
 impl<'a> BlockTable<'a> {
-    /// The table for many boxes. It takes some 35 KB for each input and a copy of each condition, and one or two
-    /// divisions for each byte of each term.
+    /// The table for many boxes. It takes some 35 KB for each input, a copy of each condition and three bytes for each of
+    /// its literals, and one or two divisions for each byte of each term.
     pub fn new(alloc: Global, block: &'a Block, width: Width) -> Result<BlockTable<'a>, AllocError>
         requires { IsValid block.now }
         ensures table { IfOk result IsBlockTable }
@@ -68,7 +75,12 @@ impl<'a> BlockTable<'a> {
     {
         let inputs = all_cells(alloc, block)?;
         let conditions = flat_conditions(alloc, block)?;
-        let kept = Some(Kept { inputs, conditions });
+        let literals = rule_literals(alloc, block, conditions.as_slice())?;
+        let kept = Some(Kept {
+            inputs,
+            conditions,
+            literals,
+        });
         Ok(BlockTable { block, width, kept })
     }
 
@@ -111,6 +123,56 @@ fn flat_conditions(alloc: Global, block: &Block) -> Result<Vec<Condition>, Alloc
         conditions.push(condition)?;
     }
     Ok(conditions)
+}
+
+/// The literals of a block's rules, given their flat conditions.
+fn rule_literals(
+    alloc: Global,
+    block: &Block,
+    conditions: &[Condition],
+) -> Result<Vec<Option<Vec<Literal>>>, AllocError>
+    requires { AreRuleConditions block.now conditions.now }
+    ensures { IfOk result (λ v. AreRuleLiterals block.now v.items) }
+{
+    let rules = block.rules.as_slice();
+    let mut lists = Vec::new(alloc);
+    for k in 0..rules.len() {
+        let literals = literals_of(alloc, &rules[k], &conditions[k])?;
+        lists.push(literals)?;
+    }
+    Ok(lists)
+}
+
+/// The literals of a rule that has this flat condition, if it has no weight and the condition is an AND of literals.
+fn literals_of(
+    alloc: Global,
+    rule: &Rule,
+    condition: &Condition,
+) -> Result<Option<Vec<Literal>>, AllocError>
+    ensures { IfOk result (λ o. IfSome o (λ v. (rule.now.weight ≡ None)
+        × (condition.now ≡ all (conditions (map literal_of v.items))))) }
+{
+    if rule.weight.is_some() {
+        return Ok(None);
+    }
+    match &condition.node {
+        Node::And(parts) => literals_among(alloc, parts.as_slice()),
+        _ => Ok(None),
+    }
+}
+
+/// Conditions as literals, if they all are.
+fn literals_among(alloc: Global, parts: &[Condition]) -> Result<Option<Vec<Literal>>, AllocError>
+    ensures { IfOk result (λ o. IfSome o (λ v. parts.now ≡ map literal_of v.items)) }
+{
+    let mut literals = Vec::new(alloc);
+    for part in parts {
+        match literal_in(part) {
+            Some(literal) => literals.push(literal)?,
+            None => return Ok(None),
+        }
+    }
+    Ok(Some(literals))
 }
 
 /// The reaches of an input's terms.
@@ -227,13 +289,26 @@ fn reach_of_term(input: &Input, term: &Trapezoid, cells: &TermCells, bytes: Inte
     ensures { IsReachOfTerm input.now term.now bytes result }
 {
     let grades = cells.over(bytes);
+    let degrees = degrees_of(input, term, bytes);
+    let mass = MassEnds::of(Ends {
+        low: End {
+            truth: degrees.low,
+            byte: grades.least,
+        },
+        high: End {
+            truth: degrees.high,
+            byte: grades.greatest,
+        },
+    });
     Reach {
-        degrees: degrees_of(input, term, bytes),
+        degrees,
         least: grades.least,
         greatest: grades.greatest,
         deviation: Deviation {
             rise: u64::from(grades.rise),
             fall: u64::from(grades.fall),
         },
+        mass,
+        opposite: mass.opposite(),
     }
 }

@@ -11,7 +11,7 @@ ghost use Rattle.fuzzy_meaning.specs.Meaning.{concludes as concludes_it};
 ghost use Rattle.error_bound.specs.{Best.silent_leaf, Leaves.Holds, CellErrors.term_errors};
 ghost use Rattle.error_bound.specs.Ratios.{value_of, IsRatio};
 ghost use Rattle.error_bound.specs.{Errors.rule_rise, Errors.rule_fall, Reaches.IsEndOfRule, Reaches.IsTable};
-ghost use Rattle.error_bound.specs.Masses.{IsRuleMass, AreMasses, AreDeviations, AreSmall, sum_at, offset_at};
+ghost use Rattle.error_bound.specs.Masses.{AreMasses, AreDeviations, AreSmall, sum_at, offset_at};
 ghost use Rattle.error_bound.specs.Masses.{IsBoundAt};
 ghost use Rattle.error_bound.specs.Tight.{IsTightBound, IsSure, if_moving, ranges_at, deviations_at};
 ghost use Rattle.error_bound.specs.Reaches.{block_of, box_of, parts_of};
@@ -19,20 +19,11 @@ ghost use Rattle.error_bound.specs.Reaches.{block_of, box_of, parts_of};
 use crate::bounds::{offset, raise_terms, silent_bound};
 use crate::ends::{End, Side};
 use crate::leaves::{concludes_some, output_of};
+use crate::masses::MassEnds;
 use crate::tables::BoxTable;
 use byte_scaling::Width;
 use cell_error::{Deviation, MassRange, Scale, mean_error};
 use fuzzy_meaning::{Output, Rule};
-
-/// The range of a rule's strength over a box: the least and the greatest in parts of 255 * 10^9, and
-/// those over bytes.
-#[derive(Clone, Copy)]
-pub(crate) struct RuleMass {
-    pub(crate) low: u64,
-    pub(crate) high: u64,
-    pub(crate) byte_low: u64,
-    pub(crate) byte_high: u64,
-}
 
 /// The ranges of the masses of an output's terms over a box, each at the index of its term.
 #[derive(Clone, Copy)]
@@ -104,8 +95,7 @@ impl BoxTable<'_> {
             let rule = &rules[n];
             if concludes_some(rule, out) {
                 let so_far = least_masses(&lows, &highs, &byte_lows, &byte_highs, rule, out);
-                if !self.is_within(n, so_far) {
-                    let mass = self.mass_of_rule(n);
+                if let Some(mass) = self.mass_above(n, so_far) {
                     raise_terms(&mut lows, rule, out, mass.low);
                     raise_terms(&mut highs, rule, out, mass.high);
                     raise_terms(&mut byte_lows, rule, out, mass.byte_low);
@@ -141,22 +131,6 @@ impl BoxTable<'_> {
         Deviations { rises, falls }
     }
 
-    /// The range of the strength of the rule at an index.
-    fn mass_of_rule(&self, place: usize) -> RuleMass
-        requires table { IsTable self.now }
-        requires place { place < length (block_of self.now).rules }
-        ensures { (r : TheRule) → slice_get (block_of self.now).rules place ≡ Some r
-            → IsRuleMass (block_of self.now) (box_of self.now) r result }
-    {
-        let ends = self.ends_of_rule(place);
-        RuleMass {
-            low: low_part(ends.low),
-            high: high_part(ends.high),
-            byte_low: u64::from(ends.low.byte),
-            byte_high: u64::from(ends.high.byte),
-        }
-    }
-
     /// How far the strength of the rule at an index may be above that over bytes, and how far below; both are 0 if
     /// the rule has no strength anywhere on the box.
     fn moving_deviation(&self, place: usize, high: End) -> Deviation
@@ -188,7 +162,7 @@ fn least_masses(
     byte_highs: &[u64; 15],
     rule: &Rule,
     out: u8,
-) -> RuleMass
+) -> MassEnds
     requires { All (λ c. (1 ≤ c.1) × (c.1 ≤ 15)) rule.now.concl }
     ensures low { (t : ℕ) → t < 15 → concludes_it rule.now out (t + 1) ≡ true → result.low ≤ slice_index lows.now t }
     ensures high { (t : ℕ) → t < 15 → concludes_it rule.now out (t + 1) ≡ true
@@ -213,31 +187,12 @@ fn least_masses(
             byte_high = byte_high.min(byte_highs[place]);
         }
     }
-    RuleMass {
+    MassEnds {
         low,
         high,
         byte_low,
         byte_high,
     }
-}
-
-/// A truth in parts of 255 * 10^9, rounded down.
-fn low_part(low: End) -> u64
-    requires { IsRatio 10000000000000000 low.truth }
-    ensures value { result ≡ 255000000000 * (value_of low.truth).num / (value_of low.truth).den }
-    ensures small { result ≤ 255000000000 }
-{
-    (255_000_000_000 * u128::from(low.truth.num) / u128::from(low.truth.den)) as u64
-}
-
-/// The same, rounded up.
-fn high_part(high: End) -> u64
-    requires { IsRatio 10000000000000000 high.truth }
-    ensures value { result ≡ up_div (255000000000 * (value_of high.truth).num) (value_of high.truth).den }
-    ensures small { result ≤ 255000000000 }
-{
-    let den = u128::from(high.truth.den);
-    ((255_000_000_000 * u128::from(high.truth.num) + (den - 1)) / den) as u64
 }
 
 impl Masses {

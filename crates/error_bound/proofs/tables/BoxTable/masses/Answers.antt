@@ -7,8 +7,8 @@ use Rattle.error_bound.proofs.TightLawLemmas.{AreGreatest-raised, AreGreatest-sk
 use Rattle.error_bound.proofs.{TightLemmas.ends_ordered}
 use Rattle.error_bound.proofs.tables.BoxTable.masses.Goals as goal
 
-pub loop-n-preserved-then-not-is_within : goal.loop-n-preserved-then-not-is_within
-loop-n-preserved-then-not-is_within c =
+pub loop-n-preserved-in-Some : goal.loop-n-preserved-in-Some
+loop-n-preserved-in-Some c =
     let b = c.args.self.now.table.now.block.now in
     let box = c.args.self.now.bytes.0.items in
     let rules = c.as_slice-rules.result.now in
@@ -21,30 +21,30 @@ loop-n-preserved-then-not-is_within c =
     ∙ ap₂ (λ q n. q ∷ drop n rules) (sym c.index-rules-n.is) back in
     let found : slice_get b.rules j ≡ Some r = subst (λ l. slice_get l j ≡ Some r) c.as_slice-rules.ensures
     (slice_get_read rules (length rules) j r refl within c.index-rules-n.is) in
-    let m = c.mass_of_rule-mass.ensures r found in
-    let mass = c.mass_of_rule-mass.result in
+    let m = c.in-Some.ensures.mass r found in
+    let mass = c.in-Some.mass in
     let rest = drop c.loop-n.n rules in
     let before = c.loop-n.invariant in
     record {
       lows_count = c.raise_terms.array_long;
-      highs_count = c.raise_terms-then-not-is_within.array_long;
-      byte_lows_count = c.raise_terms-then-not-is_within-2.array_long;
-      byte_highs_count = c.raise_terms-then-not-is_within-3.array_long;
+      highs_count = c.raise_terms-in-Some.array_long;
+      byte_lows_count = c.raise_terms-in-Some-2.array_long;
+      byte_highs_count = c.raise_terms-in-Some-3.array_long;
       lows = AreGreatest-raised (low_part b box) 255000000000 o r rest (drop j rules) mass.low c.loop-n.lows
           c.raise_terms.new.errors here m.low m.low_small before.lows c.raise_terms.ensures;
       highs = AreGreatest-raised (high_part b box) 255000000000 o r rest (drop j rules) mass.high c.loop-n.highs
-          c.raise_terms-then-not-is_within.new.errors here m.high m.high_small before.highs
-          c.raise_terms-then-not-is_within.ensures;
+          c.raise_terms-in-Some.new.errors here m.high m.high_small before.highs
+          c.raise_terms-in-Some.ensures;
       byte_lows = AreGreatest-raised (λ q. (rule_byte_span b box q).low) 255 o r rest (drop j rules) mass.byte_low
-          c.loop-n.byte_lows c.raise_terms-then-not-is_within-2.new.errors here m.byte_low m.byte_low_small
-          before.byte_lows c.raise_terms-then-not-is_within-2.ensures;
+          c.loop-n.byte_lows c.raise_terms-in-Some-2.new.errors here m.byte_low m.byte_low_small
+          before.byte_lows c.raise_terms-in-Some-2.ensures;
       byte_highs = AreGreatest-raised (λ q. (rule_byte_span b box q).high) 255 o r rest (drop j rules) mass.byte_high
-          c.loop-n.byte_highs c.raise_terms-then-not-is_within-3.new.errors here m.byte_high m.byte_high_small
-          before.byte_highs c.raise_terms-then-not-is_within-3.ensures;
+          c.loop-n.byte_highs c.raise_terms-in-Some-3.new.errors here m.byte_high m.byte_high_small
+          before.byte_highs c.raise_terms-in-Some-3.ensures;
     }
 
-pub loop-n-preserved-else-not-is_within : goal.loop-n-preserved-else-not-is_within
-loop-n-preserved-else-not-is_within c =
+pub loop-n-preserved-in_default : goal.loop-n-preserved-in_default
+loop-n-preserved-in_default c =
     let b = c.args.self.now.table.now.block.now in
     let box = c.args.self.now.bytes.0.items in
     let rules = c.as_slice-rules.result.now in
@@ -57,7 +57,7 @@ loop-n-preserved-else-not-is_within c =
     ∙ ap₂ (λ q n. q ∷ drop n rules) (sym c.index-rules-n.is) back in
     let found : slice_get b.rules j ≡ Some r = subst (λ l. slice_get l j ≡ Some r) c.as_slice-rules.ensures
     (slice_get_read rules (length rules) j r refl within c.index-rules-n.is) in
-    let m = c.is_within.ensures c.if-not-is_within.false r found in
+    let m = c.in_default.ensures.within r found in
     let so_far = c.least_masses-so_far.ensures in
     let rest = drop c.loop-n.n rules in
     let before = c.loop-n.invariant in
