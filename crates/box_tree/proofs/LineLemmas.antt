@@ -46,11 +46,6 @@ at_first word text rest ns behind found is = record {
   rest_is = append_cancel_left word rest (line_rest ns behind) (sym found ∙ is ∙ line_behind word ns behind);
 }
 
-pub line_ends : (word text ns rest behind : List ℕ) → text ≡ word ++ (numbers ns ++ rest) → rest ≡ codes "\n" ++ behind
-    → text ≡ line word ns ++ behind
-line_ends word text ns rest behind so_far ends = so_far ∙ ap (λ (r : List ℕ). word ++ (numbers ns ++ r)) ends
-    ∙ sym (line_behind word ns behind)
-
 -- a line that does not end here has one more number
 pub record HasNext (ns behind read rest : List ℕ) : Type 0 where
   pub next : ℕ
@@ -70,9 +65,6 @@ next_of ns behind read rest on no_end = next_at on.more ns behind read rest on.n
 
 pub next_is_small : (ns behind read rest : List ℕ) (h : HasNext ns behind read rest) → All IsSmall ns → h.next ≤ 1000000
 next_is_small ns behind read rest h small = at_seam IsSmall read h.next h.more (subst (All IsSmall) h.numbers_are small)
-
-pub next_is_within : (ns behind read rest : List ℕ) (h : HasNext ns behind read rest) → length read < length ns
-next_is_within ns behind read rest h = omega (arith, ap length h.numbers_are, length-append read (h.next ∷ h.more))
 
 pub digits_are : (ns behind read rest digits : List ℕ) (h : HasNext ns behind read rest) → rest ≡ codes " " ++ digits
     → digits ≡ decimal h.next ++ line_rest h.more behind

@@ -2,8 +2,8 @@
 use Rattle.std.proofs.Common.{◌≡◌, ◌∙◌, ◌+◌, inl, inr, ℕ, List, [], ◌∷◌, ap, subst, sym}
 use Rattle.std.specs.Prelude.{is_some}
 use Rattle.cpu12_asm.specs.Bytes.{byte_at}
-use Rattle.cpu12_isa.specs.{Code.encode_of, declared.instr.Instr.Instr}
-use Rattle.handler_check.specs.{Cut.code_bytes, Cut.code_end, Cut.code_start, Faults.IsFirstFault}
+use Rattle.cpu12_isa.specs.{Code.code_bytes, Code.encode_of, declared.instr.Instr.Instr}
+use Rattle.handler_check.specs.{Cut.code_end, Cut.code_start, Faults.IsFirstFault}
 use Rattle.handler_check.specs.Images.{FaultsAreOne, Gives, IsCut, IsFault, IsOutside, IsWhole}
 use Rattle.handler_check.specs.declared.faults.HandlerFault.{HandlerFault}
 use Rattle.handler_check.specs.declared.faults.HandlerFault.TheVariants.{Empty, Memory, Outside}

@@ -1,6 +1,7 @@
 -- Annotated choices, and a parser seen as another type.
 use Rattle.std.proofs.Common.{◌≡◌, ℕ, ◌+◌, Bool, true, false, List, [], ◌∷◌, ◌++◌, length, Result, Ok, Err, refl, sym}
 use Rattle.std.proofs.Common.{ap, subst, ◌∙◌, arith, inl, inr, ◌⊎◌}
+use Rattle.std.proofs.lemmas.Bool.{cases_Bool}
 use Rattle.std.proofs.lemmas.List.{length-append}
 use Rattle.fcl_tokens.specs.declared.token.Token.{Token}
 use Rattle.fcl_syntax.specs.declared.{fault.Fault.Fault, fault.Kind.Kind}
@@ -12,7 +13,7 @@ use Rattle.fcl_syntax.specs.Readers.{cond_read, fault_at, starts}
 use Rattle.fcl_syntax.proofs.Parser.{disjoint, Stops, Starts, first_annotation, answer, Stands, Shows, Fails, Parser}
 use Rattle.fcl_syntax.proofs.AnnotatedTexts.{length-tokens}
 use Rattle.fcl_syntax.proofs.Small.{seen_as, widen, answer-seen, seen_err, seen_stands, seen_fails, to_right}
-use Rattle.fcl_syntax.proofs.Small.{starts-not, starts-same, bool_cases}
+use Rattle.fcl_syntax.proofs.Small.{starts-not, starts-same}
 
 -- ---- a parser seen as another type
 
@@ -162,7 +163,7 @@ module _ {X A : Type 0} (d : Dead X) (p : Parser A) (apart : disjoint d.among p.
 
   pub dead_fails : (ts : List Token) (e : Fault) → dead_read d p ts ≡ Err e → Fails (dead_text d p) (dead_read d p) ts e
   dead_fails ts e h =
-      elim (bool_cases (starts d.among ts)) [
+      elim (cases_Bool (starts d.among ts)) [
         | inl is_so ↦ subst (Fails (dead_text d p) (dead_read d p) ts) (same_err (fault_at d.kind (length ts)) e
             (subst (λ (b : Bool). unless b (fault_at d.kind (length ts)) (to_right {A = X} (p.read ts)) ≡ Err e) is_so
             h)) (dead_here ts is_so)

@@ -30,14 +30,6 @@ shrinks p ts a rest h =
     go [] e s = absurd s
     go (x ∷ l) e s = omega (arith, ap length e, length-append l rest)
 
-pub begun : {A : Type 0} (first : List ℕ) (read : List Token → Result (A × List Token) Fault) (ts : List Token)
-    → Going first read [] ts (loop first read (length ts) ts)
-begun first read ts = record { fuel = length ts; enough = omega arith; so_far = go (loop first read (length ts) ts) }
-  where
-    go : {A : Type 0} (r : Result (List A × List Token) Fault) → prefixed [] r ≡ r
-    go (Ok x) = refl
-    go (Err e) = refl
-
 regroup : {A : Type 0} (front : List A) (a : A) (r : Result (List A × List Token) Fault)
     → prefixed front (with_front a r) ≡ prefixed (front ++ a ∷ []) r
 regroup front a (Ok x) = ap (λ (items : _). Ok (items, x.1)) (sym (append_assoc front (a ∷ []) x.0))

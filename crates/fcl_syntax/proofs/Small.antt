@@ -1,6 +1,7 @@
 -- One token, a choice, an annotated choice, and a parser seen as another type.
 use Rattle.std.proofs.Common.{◌≡◌, ℕ, Bool, true, false, List, [], ◌∷◌, ◌++◌, length, Option, Some, None, Result, Ok}
 use Rattle.std.proofs.Common.{Err, refl, sym, ap, subst, ◌∙◌, inl, inr, ◌⊎◌}
+use Rattle.std.proofs.lemmas.Bool.{cases_Bool}
 use Rattle.std.proofs.lemmas.List.{append-nil}
 use Rattle.fcl_tokens.specs.declared.token.Token.{Token}
 use Rattle.fcl_syntax.specs.declared.{fault.Fault.Fault, fault.Kind.Kind, fault.Kind.TheVariants.Expected}
@@ -178,10 +179,6 @@ pub widen : (first f : List ℕ) (ts : List Token)
 widen first f [] w h = absurd h
 widen first f (x ∷ xs) w h = w x h
 
-pub bool_cases : (b : Bool) → (b ≡ true) ⊎ (b ≡ false)
-bool_cases true = inl refl
-bool_cases false = inr refl
-
 module _ {A B : Type 0} (p : Parser A) (q : Parser B) where
   abbrev pub alt_text : A ⊎ B → List Sym
   alt_text = either_text p.text q.text
@@ -206,7 +203,7 @@ module _ {A B : Type 0} (p : Parser A) (q : Parser B) (apart : disjoint p.first 
   pub alt_stands : (ts : List Token) (t : A ⊎ B) (rest : List Token) → alt_read p q ts ≡ Ok (t, rest)
       → Stands (alt_text p q) q.goes ts t rest
   alt_stands ts t rest e =
-      elim (bool_cases (starts p.first ts)) [
+      elim (cases_Bool (starts p.first ts)) [
         | inl is_so ↦ left_stands ts t rest
             (subst (λ (b : Bool). choose b (p.read ts) (q.read ts) ≡ Ok (t, rest)) is_so e)
         | inr not_so ↦ seen_stands q (λ b. inr b) (alt_text p q) (λ b. refl) ts t rest
@@ -242,7 +239,7 @@ module _ {A B : Type 0} (p : Parser A) (q : Parser B) (apart : disjoint p.first 
 
   pub alt_fails : (ts : List Token) (e : Fault) → alt_read p q ts ≡ Err e → Fails (alt_text p q) (alt_read p q) ts e
   alt_fails ts e h =
-      elim (bool_cases (starts p.first ts)) [
+      elim (cases_Bool (starts p.first ts)) [
         | inl is_so ↦ left_fails ts e is_so (p.fails ts e (seen_err {B = A ⊎ B} (λ (x : A). inl x) (p.read ts) e
             (subst (λ (b : Bool). choose b (p.read ts) (q.read ts) ≡ Err e) is_so h)))
         | inr not_so ↦ right_fails ts e not_so (q.fails ts e (seen_err {B = A ⊎ B} (λ (x : B). inr x) (q.read ts) e

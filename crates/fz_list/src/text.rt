@@ -23,14 +23,6 @@ impl Text {
         Text { text }
     }
 
-    /// The string that the text was made from.
-    pub fn into_string(self) -> String
-        ensures { string_bytes result ≡ self }
-    {
-        let Text { text } = self;
-        text
-    }
-
     pub fn as_str(&self) -> &str
         ensures { result.now ≡ self.now }
     {

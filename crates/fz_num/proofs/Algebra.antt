@@ -1,5 +1,5 @@
 -- The algebra of fractions: their order, gaps to bytes, and what least, greatest and 1 minus do to a nearness.
-use Rattle.std.proofs.Common.{◌≡◌, ◌⊎◌, inl, inr, ⊎_elim, ℕ, ◌+◌, ◌-◌, ◌*◌, ◌<◌, ◌≤◌, min, max, subst, arith}
+use Rattle.std.proofs.Common.{◌≡◌, ⊎_elim, ℕ, ◌+◌, ◌-◌, ◌*◌, ◌<◌, ◌≤◌, min, max, subst, arith}
 use Rattle.std.proofs.Common.{mul-le-mul_right, le_of_mul-le-mul_right, mul-pos}
 use native.Mathlib.Nat.{mul-sub}
 use Rattle.std.proofs.lemmas.Bool.{cases_lt}
@@ -16,10 +16,6 @@ AtMost-trans f g h pg p q =
     let b : (g.num * h.den) * f.den ≤ (h.num * g.den) * f.den = mul-le-mul_right f.den q.cross in
     let c : (f.num * h.den) * g.den ≤ (h.num * f.den) * g.den = omega arith in
     record { cross = le_of_mul-le-mul_right c pg.pos }
-
-pub AtMost-or : (f g : Fraction) → AtMost f g ⊎ AtMost g f
-AtMost-or f g = ⊎_elim (λ l. inl (record { cross = omega arith })) (λ l. inr (record { cross = l }))
-    (cases_lt (f.num * g.den) (g.num * f.den))
 
 -- to show something of the lesser of two, show it of each where it is at most the other
 pub by_lesser : (P : Fraction → Type 0) (f g : Fraction) → (AtMost f g → P f) → (AtMost g f → P g) → P (lesser f g)

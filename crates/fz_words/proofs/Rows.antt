@@ -1,13 +1,12 @@
 -- How a command gets its subcommands, one by one, and how the table is looked up.
-use Rattle.std.proofs.Common.{◌≡◌, ◌≢◌, ◌<◌, ◌≤◌, ◌+◌, ℕ, List, [], ◌∷◌, ◌++◌, length, take, drop, drop-cons}
-use Rattle.std.proofs.Common.{cond, Bool, true, false, get_or, refl, sym, ◌∙◌, ap, add-one, arith}
-use Rattle.std.specs.Prelude.{codes, map, option_map, Some, None, suc, zero}
-use Rattle.std.specs.Str.{bytes_eq}
+use Rattle.std.proofs.Common.{◌≡◌, ◌≢◌, ◌<◌, ◌≤◌, ◌+◌, ℕ, List, [], ◌∷◌, ◌++◌, length, take}
+use Rattle.std.proofs.Common.{true, get_or, refl, sym, ◌∙◌, ap, add-one, arith}
+use Rattle.std.specs.Prelude.{codes, map, suc, zero}
 use Rattle.std.specs.Borrow.{Bor}
 use Rattle.std.proofs.Math.Seq.{take-suc}
-use Rattle.std.proofs.lemmas.List.{drop_all, map-append, take_all}
+use Rattle.std.proofs.lemmas.List.{map-append, take_all}
 use Rattle.clap.specs.{Words.App, Words.Shape, Words.Text, Words.with_subcommand, Simple.new_shape}
-use Rattle.fz_words.specs.Table.{Row, row, row_with, rows_of}
+use Rattle.fz_words.specs.Table.{Row, row, rows_of}
 use Rattle.fz_words.specs.App.{app_with, leaf_app, open_top, rules_for, sub_of, words_rule}
 
 pub rules_for-some : (n : ℕ) → n ≢ 0 → rules_for n ≡ words_rule n ∷ []
@@ -60,28 +59,3 @@ whole_app i xs le some = ap app_so_far (take_all i xs le) ∙ over_some xs some
 -- how many words the command of a row takes, and the command
 abbrev pub taking : {T : Type 0} → Row T → ℕ × T
 taking r = (r.count, r.command)
-
-rows_at : {T : Type 0} (xs : List (Stored T)) (i : ℕ) (d : Stored T) → i < length xs
-    → rows_of (drop i xs) ≡ row (get_or xs i d).0.now (get_or xs i d).1 (get_or xs i d).2 ∷ rows_of (drop (i + 1) xs)
-rows_at xs i d lt = let e : drop i xs ≡ get_or xs i d ∷ drop (i + 1) xs = rw add-one (drop-cons xs i d lt) in
-    ap rows_of e
-
-module _ {T : Type 0} (xs : List (Stored T)) (i : ℕ) (d : Stored T) (w : Text) (lt : i < length xs) where
-  pub here : bytes_eq (get_or xs i d).0.now w ≡ true
-      → option_map taking (row_with (rows_of (drop i xs)) w) ≡ Some ((get_or xs i d).1, (get_or xs i d).2)
-  here same =
-      let r = get_or xs i d in
-      ap (λ (rows : List (Row T)). option_map taking (row_with rows w)) (rows_at xs i d lt)
-      ∙ ap (λ (b : Bool). option_map taking
-      (cond b (Some (row r.0.now r.1 r.2)) (row_with (rows_of (drop (i + 1) xs)) w))) same
-
-  pub later : bytes_eq (get_or xs i d).0.now w ≡ false
-      → row_with (rows_of (drop i xs)) w ≡ row_with (rows_of (drop (i + 1) xs)) w
-  later apart =
-      let r = get_or xs i d in
-      ap (λ (rows : List (Row T)). row_with rows w) (rows_at xs i d lt)
-      ∙ ap (λ (b : Bool). cond b (Some (row r.0.now r.1 r.2)) (row_with (rows_of (drop (i + 1) xs)) w)) apart
-
-pub nowhere : {T : Type 0} (xs : List (Stored T)) (i : ℕ) (w : Text) → length xs ≤ i
-    → row_with (rows_of (drop i xs)) w ≡ None
-nowhere {T} xs i w le = ap (λ (l : List (Stored T)). row_with (rows_of l) w) (drop_all i xs le)

@@ -9,7 +9,7 @@ use Rattle.std.proofs.lemmas.List.Elements.{All-append, All-cons, All-head, All-
 use Rattle.cpu12_isa.specs.{declared.instr.Write.Write, Regions.is_free}
 use Rattle.fz_rows.specs.{FirstRows.Fields, Laws.EachTextHasFirstRows}
 use Rattle.fz_rows.proofs.Algebra.{FailsFirst, at_element, judged, more_elements}
-use Rattle.interrupt_plan.specs.declared.{PlanFault.PlanFault, Post.Post, Request.Request}
+use Rattle.interrupt_plan.specs.declared.{PlanFault.PlanFault, Post.Post}
 use Rattle.interrupt_plan.specs.declared.levels.Level.{Level}
 use Rattle.interrupt_plan.specs.declared.PlanFault.TheVariants.{BadRow, NotAscending, NotFree, TooMany}
 use Rattle.interrupt_plan.specs.Levels.{AreGoodLevels, IsGoodLevel, LevelNotAfter, SpellsLevel, no_writes, numbers_of}

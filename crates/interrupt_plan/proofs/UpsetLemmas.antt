@@ -22,16 +22,6 @@ use Rattle.interrupt_plan.proofs.SpelledLemmas.{Split, ascends-snoc, entries_one
 use Rattle.interrupt_plan.proofs.SpelledLemmas.{spelled-length, spell-snoc}
 use Rattle.interrupt_plan.proofs.SpelledLemmas.{split_at}
 
--- three fields, by their places
-pub three_fields : (fields : Fields) (a b c : List ℕ) → length fields ≡ 3 → get_or fields 0 [] ≡ a
-    → get_or fields 1 [] ≡ b → get_or fields 2 [] ≡ c
-    → fields ≡ a ∷ b ∷ c ∷ []
-three_fields [] a b c count p q r = absurd (omega arith)
-three_fields (x ∷ []) a b c count p q r = absurd (omega arith)
-three_fields (x ∷ y ∷ []) a b c count p q r = absurd (omega arith)
-three_fields (x ∷ y ∷ z ∷ []) a b c count p q r = cc
-three_fields (x ∷ y ∷ z ∷ w ∷ fields) a b c count p q r = absurd (omega arith)
-
 pub good_upset : (image : List (ℕ × ℕ)) (fields : Fields) (u : Upset) → SpellsUpset fields u
     → is_table image u.at ≡ true → IsGoodUpset image u
 good_upset image fields u spelled table = record {

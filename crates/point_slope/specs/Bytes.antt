@@ -63,18 +63,10 @@ centre h shares otherwise = if total_mass shares == 0 then otherwise else h * we
 abbrev pub resting_answer : ℕ → Output → ℕ → ℕ
 resting_answer h x before = option_map_or (λ d. h * nearest_byte x d) x.default before
 
--- what output o answers to the bytes of the inputs, after the answer before
+-- what output o answers to the bytes of the inputs, after the answer before: a byte where h is 1, 16 bits where 256
 abbrev pub answer_in : ℕ → Block → ℕ → List ℕ → ℕ → ℕ
 answer_in h b o bytes before =
     option_map_or (λ x. centre h (byte_shares b bytes o x) (resting_answer h x before)) (output_at b o) before
-
--- as a byte
-abbrev pub byte_answer : Block → ℕ → List ℕ → ℕ → ℕ
-byte_answer b o bytes before = answer_in 1 b o bytes before
-
--- in 16 bits, from 0 to 65280
-abbrev pub wide_answer : Block → ℕ → List ℕ → ℕ → ℕ
-wide_answer b o bytes before = answer_in 256 b o bytes before
 
 -- no answer of a valid block is above 255 bytes
 abbrev pub AnswersAreInRange : Type 0

@@ -13,7 +13,8 @@ use Rattle.cpu12_parts.specs.State.{State}
 use Rattle.cpu12_emul.specs.{Image.image_memory, Step.reset_with}
 use Rattle.firmware_code.specs.declared.firmware.Firmware.{Firmware}
 use Rattle.alone_code.specs.{Answers.FirmwareAnswers, Firmwares.IsFirmwareOf}
-use Rattle.eval_code.specs.Bounds.{BoundsAreFew, instruction_bound, step_bound, steps_by}
+use Rattle.eval_code.specs.Bounds.{BoundsAreFew}
+use Rattle.eval_code.proofs.Algebra.{enough_steps}
 use Rattle.eval_code.specs.declared.memory_map.MemoryMap.{MemoryMap}
 use Rattle.byte_scaling.specs.declared.width.Width.{Width}
 use Rattle.interrupt_plan.specs.declared.Request.{Request}
@@ -27,10 +28,6 @@ use Rattle.promise.specs.Bench.{AreReadOff, IsFirstAtLoop, IsRunOf, bench, loop,
 use Rattle.promise.specs.{Laws.AnswersServe, Laws.CertifiedRunsKeepPromise, Promise.Serves}
 use Rattle.promise.proofs.BenchLemmas.{bench_is, reaches, read_off}
 use Rattle.run_reports.proofs.Algebra.{rows_ran}
-
-enough_steps : (w : Width) (b : Block) → length b.outputs ≤ 4 → 3 ≤ step_bound w b
-unfolding steps_by instruction_bound
-enough_steps w b few = omega arith
 
 module _ (answers : FirmwareAnswers) (one : PlainIsOneStep) (arrives : ArrivesPlainly) (width : Width) (flags : ℕ)
     (b : Block) (f : Firmware) (bytes : List (List ℕ)) (plan : List Request) (rows : List (RowSeen (List ℕ)))

@@ -36,10 +36,7 @@ module _ (line : List ℕ) (n digit : ℕ) (digits : List ℕ) (parts : parts_of
       unopened (narrow other)
       (λ kind bytes o. (let same = ap decode_of (digits_are o.digit o.digits o.parts) in let ok = o.bytes_are in cc))
 
--- the address and the data of a count, an address and data
-abbrev pub address_in : List ℕ → ℕ
-address_in body = get_or body 1 0 * 256 + get_or body 2 0
-
+-- the data of a count, an address and data
 abbrev pub payload_in : List ℕ → List ℕ
 payload_in body = take (length body - 3) (drop 3 body)
 

@@ -28,14 +28,6 @@ pub run_first : (bytes : List (ℕ × ℕ)) → 0 < length bytes → IsRun (addr
 run_first [] some = absurd (omega arith)
 run_first (b ∷ bytes) some = (refl, tt)
 
-pub starts_there : (at : ℕ) (bytes : List (ℕ × ℕ)) (n : ℕ) → StartsAt at (drop n bytes)
-    → (n < length bytes) × (address_at bytes n ≡ at)
-starts_there at [] zero starts = absurd starts
-starts_there at [] (suc n) starts = absurd starts
-starts_there at (b ∷ bytes) zero starts = (omega arith, starts)
-starts_there at (b ∷ bytes) (suc n) starts = let rest = starts_there at bytes n starts in
-    (omega (arith, rest.0), rest.1)
-
 run_placed : (at : ℕ) (bytes : List (ℕ × ℕ)) → IsRun at bytes → placed at (bytes_only bytes) ≡ bytes
 run_placed at [] run = refl
 run_placed at (b ∷ bytes) run =

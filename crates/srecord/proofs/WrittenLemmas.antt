@@ -6,6 +6,7 @@ use Rattle.std.proofs.lemmas.Bool.Decides.{nat_tests}
 use Rattle.std.proofs.lemmas.List.{append-nil}
 use Rattle.std.specs.Str.Lines.{lines}
 use Rattle.cpu12_asm.specs.{Bytes.IsAscending, Bytes.byte_at, Bytes.placed, declared.image.Image.Image}
+use Rattle.cpu12_asm.proofs.Algebra.{or_else}
 use Rattle.srecord.specs.declared.fields.Kind.TheVariants.{Header, Bytes, Count, Start}
 use Rattle.srecord.specs.Images.{AreCut, ImageText, Piece, StartsAt, data_text, next, none as nothing_cut}
 use Rattle.srecord.specs.Lines.{record_text}
@@ -49,11 +50,6 @@ few_pieces _ _ (next p behind pieces good cut) low rises =
 pub few_records : (bytes : List (ℕ × ℕ)) (pieces : List Piece) → IsAscending bytes → AreCut bytes pieces
     → length pieces ≤ 32768
 few_records bytes pieces ascend cut = let few = few_pieces bytes pieces cut 0 (rise bytes ascend) in omega arith
-
--- the second where there is no first
-abbrev pub or_else : Option ℕ → Option ℕ → Option ℕ
-or_else None b = b
-or_else (Some x) b = Some x
 
 or_else-none : (o : Option ℕ) → or_else o None ≡ o
 or_else-none None = refl
