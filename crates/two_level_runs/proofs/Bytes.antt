@@ -1,10 +1,12 @@
 -- Under interrupts memory stays one of bytes.
 use Rattle.two_level_runs.proofs.Words.{[], ◌++◌, ◌<◌, ◌^◌, ◌∷◌, ◌≡◌, All, ap, AreBytes, AreSumsReady, arith, Begins}
 use Rattle.two_level_runs.proofs.Words.{Bool, BytesStay, FitsRegs, FitsState, FitsTemps, FitsWrites, frame_bytes}
-use Rattle.two_level_runs.proofs.Words.{framed, Free, given, HasRoom, inl, inr, IsOff, List, MemoryMap, Next, OnStack}
+use Rattle.two_level_runs.proofs.Words.{framed, Free, given, HasRoom, inl, inr, List, MemoryMap, Next, OnStack}
 use Rattle.two_level_runs.proofs.Words.{OnStackOrNone, placed, plus, refl, Regs, Running, Simulates, State, state_by}
 use Rattle.two_level_runs.proofs.Words.{StepFits, stepped, subst, suc, suspended, sym, Temps, wav, ℕ}
+use Rattle.cpu12_isa.proofs.Algebra.{fits_with_sp}
 use Rattle.cpu12_parts.specs.{Parts.sum_bytes, Inside.PushesRunning, Inside.PushesNone}
+use Rattle.cpu12_parts.proofs.Algebra.{off_fits}
 use Rattle.cpu12_emul.specs.{Simulation.IsShownStep, Simulation.StepKeeps}
 use Rattle.run_law.specs.{Soundness.SumsFitBelow}
 
@@ -44,17 +46,10 @@ frame_fits r f =
     let pc = f.pc in
     (f.ccr, (f.b, (f.a, (omega arith, (omega arith, (omega arith, (omega arith, (omega arith, (omega arith, tt)))))))))
 
-fits_at : (r : Regs) (k : ℕ) → FitsRegs r → k < 2 ^ 16 → FitsRegs (record r { sp = k })
-fits_at r k f h = record { a = f.a; b = f.b; x = f.x; y = f.y; sp = h; pc = f.pc; ccr = f.ccr }
-
 ready_fits : (open_to : ℕ → Bool) (s : State) (t : Temps) → AreSumsReady open_to s t → FitsTemps t
 ready_fits open_to s Free h = tt
 ready_fits open_to s OnStack h = tt
 ready_fits open_to s (Running p w) h = (h.0, h.1)
-
-off_fits : (t : Temps) → IsOff t → FitsTemps t
-off_fits t (inl e) = subst FitsTemps (sym e) tt
-off_fits t (inr e) = subst FitsTemps (sym e) tt
 
 -- a state that simulates one before a shown step fits
 simulating_fits : (open_to : ℕ → Bool) (flags : ℕ) (w s : State) → IsShownStep open_to flags s
@@ -70,7 +65,7 @@ simulating_fits open_to flags w s shown (inl l) bytes =
 simulating_fits open_to flags w s shown (inr l) bytes =
     let room : HasRoom s = shown.room in
     record {
-      regs = subst FitsRegs (sym l.regs) (fits_at s.regs (plus s.regs.sp 65530) room.fits (omega arith));
+      regs = subst FitsRegs (sym l.regs) (fits_with_sp s.regs (plus s.regs.sp 65530) room.fits (omega arith));
       temps = off_fits w.temps l.temps;
       mem = bytes;
     }

@@ -1,10 +1,10 @@
 -- Whole instructions of the fast code are stretches of its steps.
-use Rattle.two_level_runs.proofs.Words.{[], act_of, addresses, all_steps, ap, arith, Bool, both_ways, Each, effect}
-use Rattle.two_level_runs.proofs.Words.{false, fast_code, fast_map, has, HasFastRom, inl, inr, interrupts_masked}
-use Rattle.two_level_runs.proofs.Words.{is_foreign, is_hidden, is_kept, is_open_inside, IsFastStack, IsFastState}
-use Rattle.two_level_runs.proofs.Words.{IsIn, IsInFast, IsInstructionOver, joined, length, List, read_by, Reads, refl}
-use Rattle.two_level_runs.proofs.Words.{six_from, State, Stretch, subst, suc, sym, true, uninterrupted, Writes, ℕ}
-use Rattle.two_level_runs.proofs.Words.{◌+◌, ◌<◌, ◌^◌, ◌∙◌, ◌∷◌, ◌≡◌, ◌≤◌}
+use Rattle.two_level_runs.proofs.Words.{[], addresses, all_steps, ap, arith, Bool, both_ways, Each, effect, false}
+use Rattle.two_level_runs.proofs.Words.{fast_code, fast_map, has, HasFastRom, inl, inr, interrupts_masked, is_foreign}
+use Rattle.two_level_runs.proofs.Words.{is_hidden, is_kept, is_open_inside, IsFastStack, IsFastState, IsIn, IsInFast}
+use Rattle.two_level_runs.proofs.Words.{IsInstructionOver, joined, length, List, plain_act, read_by, Reads, refl}
+use Rattle.two_level_runs.proofs.Words.{six_from, State, Stretch, subst, suc, sym, true, uninterrupted, Writes, ℕ, ◌+◌}
+use Rattle.two_level_runs.proofs.Words.{◌<◌, ◌^◌, ◌∙◌, ◌∷◌, ◌≡◌, ◌≤◌}
 use Rattle.cpu12_parts.specs.Averages.{wav_read}
 use Rattle.cpu12_parts.specs.Rules.{rev_operands, revw_operands, rules_read, rules_written}
 use Rattle.firmware_runs.specs.Within.{InstructionStaysWithin, IsReached, IsWithin}
@@ -65,7 +65,7 @@ own sp flags d s t (inl p) = let k = p.1.0 in
       (
         record {
           step = k.step;
-          reads = own_reads sp (read_by (act_of flags p.0 s.regs) s.mem) k.reads;
+          reads = own_reads sp (read_by (plain_act flags p.0 s.regs) s.mem) k.reads;
           writes = own_writes (addresses (effect flags p.0 s.regs s.mem).writes) k.writes;
         },
         p.1.1,

@@ -1,6 +1,5 @@
 pub mod Owned
 pub mod Instructions
-pub mod Pulling
 pub mod Returning
 pub mod Bytes
 pub mod Following

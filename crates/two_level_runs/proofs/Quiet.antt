@@ -6,7 +6,8 @@ use Rattle.two_level_runs.proofs.Words.{is_fast_ram, is_hidden, is_open_inside, 
 use Rattle.two_level_runs.proofs.Words.{nat_tests, not, or_parts, OuterIsQuiet, plus, pulled, refl, Regs, Same}
 use Rattle.two_level_runs.proofs.Words.{slice_index, State, subst, suc, sym, true, WritesStay, ℕ}
 use Rattle.cpu12_isa.specs.{Flags.put, Interrupts.FrameComesBack}
-use Rattle.two_level_runs.proofs.{Entering.bytes_stay, Pulling.pulled_alike}
+use Rattle.cpu12_isa.proofs.Algebra.{pulled_alike}
+use Rattle.two_level_runs.proofs.{Entering.bytes_stay}
 use Rattle.two_level_runs.proofs.Pushing.{entered_mem, stays, size_stays, frame_read}
 
 -- the laws on which it stands

@@ -2,14 +2,14 @@
 use Rattle.two_level_runs.proofs.Words.{◌+◌, ◌<◌, ◌^◌, ◌∙◌, ◌∷◌, ◌≡◌, ◌≤◌, all_steps, ap, ap₂, arith, Before, Block}
 use Rattle.two_level_runs.proofs.Words.{Bool, both_ways, bytes_at, counted, decode_at, Each, false, fast_map}
 use Rattle.two_level_runs.proofs.Words.{FastStepsReturn, from, has, inl, inr, interrupts_masked, is_foreign, is_kept}
-use Rattle.two_level_runs.proofs.Words.{IsFastRun, IsInFast, joined, length, List, not, Ok, plus, refl, slice_index}
-use Rattle.two_level_runs.proofs.Words.{State, stepped, Stretch, subst, suc, sym, true, uninterrupted, zero, ℕ}
+use Rattle.two_level_runs.proofs.Words.{IsFastRun, IsInFast, joined, length, List, not, Ok, plus, pulled, refl, Regs}
+use Rattle.two_level_runs.proofs.Words.{slice_index, State, stepped, Stretch, subst, suc, sym, true, uninterrupted}
+use Rattle.two_level_runs.proofs.Words.{zero, ℕ}
 use Rattle.cpu12_isa.specs.{declared.instr.Instr.TheVariants.Andcc, declared.instr.Instr.TheVariants.Rti}
 use Rattle.cpu12_parts.specs.{Whole.after_plain}
 use Rattle.two_level_runs.specs.{Steps.IsOpenState}
 use Rattle.firmware_runs.specs.Within.{InstructionStaysWithin}
 use Rattle.two_level_runs.proofs.Owned.{frame_shown, stack_kept, write_own}
-use Rattle.two_level_runs.proofs.Pulling.{pulled_same}
 use Rattle.two_level_runs.proofs.Instructions.{Kept, instruction_at, instructions_at}
 use Rattle.eval_code.specs.Evaluation.{eval_frame, IsEvaluated}
 use Rattle.eval_code.specs.Frames.{FramesLeave, IsLeft}
@@ -19,6 +19,11 @@ use Rattle.cpu12_parts.specs.Whole.{IsPlainStep}
 use Rattle.byte_scaling.specs.declared.width.Width.TheVariants.{Byte}
 use Rattle.std.proofs.Common.{⊎_elim}
 use Rattle.two_level_code.specs.Running.{IsEntered}
+
+-- the registers that are pulled hang on the bytes, on SP and on the flags
+pulled_same : (r q : Regs) (xs ys : List ℕ) → r.sp ≡ q.sp → xs ≡ ys
+    → pulled r xs ≡ pulled (record q { ccr = r.ccr }) ys
+pulled_same r q xs ys sp e = ap₂ (λ (bytes : List ℕ) (n : ℕ). pulled (record r { sp = n }) bytes) e sp
 
 -- the return is one step
 rti_at : InstructionStaysWithin → (image : List ℕ) (flags sp : ℕ) (s : State) → flags < 2 ^ 8 → IsInFast image s

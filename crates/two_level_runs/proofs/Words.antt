@@ -12,7 +12,7 @@ pub use Rattle.run_law.specs.Forms.{Form, Ran, RowSeen, Rows}
 pub use Rattle.run_law.specs.Soundness.{AllGood, Ascend, Before, Begins, Quiet, Sound, WritesAreQuiet, below_sums}
 pub use Rattle.run_law.specs.Uninterrupted.{counted, expected_frame, frames_after, frames_of, is_new, resumed_of}
 pub use Rattle.run_law.specs.Uninterrupted.{state_by, stepped, taken_at, taken_before, uninterrupted}
-pub use Rattle.std.proofs.Common.{Bool, List, Ok, [], ap, ap₂, arith, bit_or, drop, false, get_or, if◌then◌else◌, inl}
+pub use Rattle.std.proofs.Common.{Bool, List, Ok, [], ap, ap₂, arith, drop, false, get_or, if◌then◌else◌, inl}
 pub use Rattle.std.proofs.Common.{inr, length, map, max, nat_le, nat_lt, not, refl, subst, suc, sym, take, true, zero}
 pub use Rattle.std.proofs.Common.{ℕ, ◌%◌, ◌&&◌, ◌*◌, ◌++◌, ◌+◌, ◌-◌, ◌<◌, ◌==◌, ◌^◌, ◌∙◌, ◌∷◌, ◌≡◌, ◌≤◌, ◌⊎◌}
 pub use Rattle.std.specs.Prelude.{All, None, Option, Some, slice_get, slice_index}
@@ -31,9 +31,9 @@ pub use Rattle.alone_runs.specs.{Answering.FirstAlike, Following.rows_of_samples
 pub use Rattle.alone_runs.specs.{Given.RequestsAreGood, OpenBytes.AreOpenAlike, Rows.bytes_of, Rows.requests_of}
 pub use Rattle.byte_scaling.specs.{declared.width.Width.TheVariants.Byte}
 pub use Rattle.cpu12_emul.specs.{Fits.StepFits, Image.image_memory}
-pub use Rattle.cpu12_isa.proofs.{Algebra.bit, Algebra.bit_or_is}
+pub use Rattle.cpu12_isa.proofs.{Algebra.bit}
 pub use Rattle.cpu12_isa.specs.{Act.read_by, Act.write_all, Code.decode_at, Code.six_from, Flags.has}
-pub use Rattle.cpu12_isa.specs.{Flags.interrupts_masked, Meaning.act_of, Meaning.effect, Regions.LeavesStack}
+pub use Rattle.cpu12_isa.specs.{Flags.interrupts_masked, Meaning.effect, Meaning.plain_act, Regions.LeavesStack}
 pub use Rattle.cpu12_isa.specs.{Regions.is_free, Regions.is_hidden, Registers.frame_bytes, Registers.pulled}
 pub use Rattle.cpu12_isa.specs.{declared.instr.Ccr.Ccr, declared.instr.Regs.Regs}
 pub use Rattle.cpu12_parts.specs.{Executions.all_steps, Fits.FitsState, Fits.FitsTemps, Laws.IsOff, Laws.addresses}

@@ -22,7 +22,7 @@ use two_level_code::laws::{fast_answers_entered, two_stand_beside};
 /// The whole instructions with which the fast code answers, and its return, are steps from the state in which it
 /// was entered to that after the interrupt, within its bounds; before each step the state keeps what the law on
 /// runs requires, and it accesses only what is the fast block's own.
-pub fn fast_steps_return()
+fn fast_steps_return()
     ensures { FastStepsReturn }
 {
     frames_leave();

@@ -1,9 +1,8 @@
 //! Runs of a slow block's firmware with a fast block inside its interrupts.
 //!
 //! An outer interrupt enters the fast code ([`laws::outer_enters`]), which enables inner interrupts and runs to
-//! its return. [`laws::fast_steps_return`] states what its steps are without inner interrupts, and
-//! [`laws::fast_runs_follow`] that under them it does the same: its counts and frames are read off the run
-//! without. [`laws::outer_is_servable`] states that each sample has such a run, [`laws::outer_is_quiet`] what it
+//! its return ([`laws::fast_runs_exist`]). [`laws::fast_runs_follow`] states that under inner interrupts it does the
+//! same: its counts and frames are read off the run without. [`laws::outer_is_servable`] states that each sample has such a run, [`laws::outer_is_quiet`] what it
 //! leaves, and [`laws::outer_serves`] that an outer request is quiet as the law on runs requires. So under all
 //! good levels a run at two levels answers as [`laws::answers_under_levels`] states: its slow rows are those of
 //! the slow firmware alone, and its fast runs answer their samples.
