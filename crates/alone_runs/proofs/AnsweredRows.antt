@@ -14,7 +14,8 @@ use Rattle.interrupt_plan.specs.{declared.Request.Request, Plans.IsGood}
 use Rattle.firmware_code.specs.{declared.firmware.Firmware.Firmware, Interruptible.is_idle}
 use Rattle.firmware_code.specs.Interruptible.{IsInterruptible}
 use Rattle.eval_code.specs.{declared.memory_map.MemoryMap.MemoryMap, MemoryMaps.main_map, Widths.answer}
-use Rattle.eval_code.specs.Bounds.{instruction_bound, steps_by, step_bound}
+use Rattle.eval_code.specs.Bounds.{steps_by, step_bound}
+use Rattle.eval_code.proofs.Algebra.{enough_steps}
 use Rattle.byte_scaling.specs.{Widths.places, declared.width.Width.Width, declared.width.Width.TheVariants.Byte}
 use Rattle.byte_scaling.specs.declared.width.Width.TheVariants.{Word}
 use Rattle.firmware_code.specs.Arrivals as arrivals
@@ -194,10 +195,6 @@ few_steps flags f plan most k (n ∷ ns) (bytes ∷ rest) s h =
     (few_steps flags f plan most (suc k) ns rest after h.1)
 
 -- a firmware waits first where it arrives first
-enough_steps : (w : Width) (b : Block) → length b.outputs ≤ 4 → 3 ≤ step_bound w b
-unfolding steps_by instruction_bound
-enough_steps w b few = omega arith
-
 first_is : ArrivesPlainly → (open_to : ℕ → Bool) (b : Block) (f : Firmware) (n flags : ℕ) (s : State)
     → length b.outputs ≤ 4 → IsFirmwareOf b (alone f n)
     → IsArrivedBeside open_to main_map (image_memory f.image.bytes) flags s → first_state (alone f n) flags ≡ s

@@ -1,8 +1,8 @@
 pub mod Placing
 pub mod Rising
-pub mod Algebra
 pub mod Sequences
 pub mod Writing
+pub mod Algebra
 pub mod Pieces
 pub mod Naming
 pub mod Valuing

@@ -12,9 +12,6 @@ use Rattle.cpu12_asm.specs.Bytes.{byte_at, IsGivenOnce, FitsMemory, placed, Hold
 abbrev pub is_same : ℕ → ℕ → Bool
 is_same p q = is_at (nat_cmp p) q
 
-is_same-refl : (p : ℕ) → is_same p p ≡ true
-is_same-refl p = grind (arith, nat_tests)
-
 same_address : (p q : ℕ) → is_same p q ≡ true → p ≡ q
 same_address p q h = grind (arith, nat_tests)
 

@@ -1,18 +1,19 @@
 -- What a source gives are bytes.
-use Rattle.std.proofs.Common.{◌≡◌, ℕ, zero, suc, ◌+◌, ◌-◌, ◌/◌, ◌%◌, ◌^◌, ◌<◌, ◌≤◌, Bool, true, false, List, [], ◌∷◌}
+use Rattle.std.proofs.Common.{◌≡◌, ℕ, zero, suc, ◌+◌, ◌-◌, ◌^◌, ◌<◌, Bool, true, false, List, [], ◌∷◌}
 use Rattle.std.proofs.Common.{◌++◌, length, map, drop, Option, Some, None, Result, Ok, Err, refl, subst, sym, ap}
 use Rattle.std.proofs.Common.{arith}
-use Rattle.std.specs.Prelude.{◌&&◌, ◌||◌, ◌==◌, nat_le, nat_lt, not, slice_index, if◌then◌else◌, IfOk, IfSome, codes}
+use Rattle.std.specs.Prelude.{◌&&◌, ◌||◌, ◌==◌, nat_lt, slice_index, if◌then◌else◌, IfOk, IfSome, codes}
 use Rattle.std.specs.{List.AllByRecursion, List.find, List.flat_map, Str.bytes_eq, Str.str_to_ascii_uppercase}
 use Rattle.std.proofs.lemmas.Bool.{cond_both}
 use Rattle.std.proofs.lemmas.Bool.Decides.{nat_tests}
 use Rattle.std.proofs.lemmas.List.Elements.{All-append, All-from_recursion}
-use Rattle.cpu12_isa.specs.declared.instr.{Instr.Instr, Instr.TheVariants.LdaaImmediate}
+use Rattle.cpu12_isa.specs.declared.instr.Instr.{Instr}
 use Rattle.cpu12_isa.specs.declared.encodings.{Encoding.Encoding, Operand.Operand, Page.Page, Page.TheVariants.One}
 use Rattle.cpu12_isa.specs.declared.encodings.Operand.TheVariants.{Byte, Word, Address, Offset, ByteToAddress}
 use Rattle.cpu12_isa.specs.declared.encodings.Operand.TheVariants.{AddressToAddress}
-use Rattle.cpu12_isa.specs.{Code.encoding_bytes, Encodings.every, Encodings.encoding_of, Encodings.operand_bytes, Encodings.prebytes}
+use Rattle.cpu12_isa.specs.{Encodings.every, Encodings.encoding_of, Encodings.operand_bytes, Encodings.prebytes}
 use Rattle.cpu12_isa.specs.Memory.{low_of}
+use Rattle.cpu12_isa.proofs.Algebra.{opcode_is_byte}
 use Rattle.cpu12_asm.specs.declared.{expressions.Sum.Sum, faults.LineFault.LineFault, items.AsmFault.AsmFault}
 use Rattle.cpu12_asm.specs.declared.{operands.Limits.Limits, statements.Action.Action}
 use Rattle.cpu12_asm.specs.declared.statements.Action.TheVariants.{Nothing, Origin, Equate, Bytes, Words, Operate}
@@ -21,7 +22,7 @@ use Rattle.cpu12_asm.specs.Giving.{Given, before, branches_far, bytes_with, give
 use Rattle.cpu12_asm.specs.Giving.{operand_limits, operand_with, overlaps, put, put_values, values_from, values_of}
 use Rattle.cpu12_asm.specs.Giving.{any_unknown, values_within, word_bytes}
 use Rattle.cpu12_asm.specs.{Lines.behind_word, Lines.code_of, Lines.first_word, Lines.lines_of, Lines.pieces}
-use Rattle.cpu12_asm.specs.Sources.{assembled, bytes_of, empty, given_by_line, names_of, with_names}
+use Rattle.cpu12_asm.specs.Sources.{assembled, empty, given_by_line, names_of, with_names}
 use Rattle.cpu12_asm.specs.Statements.{Statement, action_of, allowed, are_expressions, is_expression, is_form, operate}
 use Rattle.cpu12_asm.specs.Statements.{stated, statement_of, statement_with}
 use Rattle.cpu12_asm.specs.Values.{fits, within}
@@ -105,10 +106,6 @@ operand_are_bytes place vs (AddressToAddress source at) words =
     with_word (slice_index vs 0) (word_bytes (slice_index vs 1)) (value_at vs 0 words)
     (with_word (slice_index vs 1) [] (value_at vs 1 words) tt)
 operand_are_bytes place vs o words = tt
-
-opcode_is_byte : (i : Instr) → (encoding_of i).opcode < 2 ^ 8
-opcode_is_byte (LdaaImmediate v) = omega arith
-opcode_is_byte i = omega arith
 
 page_are_bytes : (page : Page) (bytes : List ℕ) → AreBytes bytes → AreBytes (prebytes page ++ bytes)
 page_are_bytes One bytes are = are

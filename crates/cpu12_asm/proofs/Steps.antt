@@ -1,8 +1,8 @@
 -- One line of a source, and the others after it.
-use Rattle.std.proofs.Common.{◌≡◌, ◌≢◌, ℕ, ◌+◌, List, ◌∷◌, Option, Result, Ok, Err, refl}
+use Rattle.std.proofs.Common.{◌≡◌, ◌≢◌, ℕ, ◌+◌, List, ◌∷◌, Option, Result, Ok, refl}
 use Rattle.cpu12_asm.specs.declared.{faults.LineFault.LineFault, statements.Action.Action}
 use Rattle.cpu12_asm.specs.declared.statements.Action.TheVariants.{Nothing, Origin, Equate, Bytes, Words, Operate}
-use Rattle.cpu12_asm.specs.Faults.{at_line, through}
+use Rattle.cpu12_asm.specs.Faults.{through}
 use Rattle.cpu12_asm.specs.Giving.{Given, given_with, put_values, values_within, limits_of}
 
 -- a line that does not set the place
@@ -18,8 +18,3 @@ given_with-bytes value g (Operate encoding) text other = refl
 pub through-ok : {S : Type 0} (step : S → List ℕ → Result S LineFault) (s t : S) (n : ℕ) (line : List ℕ)
     (lines : List (List ℕ)) → step s line ≡ Ok t → through step s n (line ∷ lines) ≡ through step t (n + 1) lines
 through-ok step s t n line lines e = rw e refl
-
-pub through-err : {S : Type 0} (step : S → List ℕ → Result S LineFault) (s : S) (n : ℕ) (line : List ℕ)
-    (lines : List (List ℕ)) (fault : LineFault) → step s line ≡ Err fault
-    → through step s n (line ∷ lines) ≡ Err (at_line fault n)
-through-err step s n line lines fault e = rw e refl

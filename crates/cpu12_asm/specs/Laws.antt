@@ -23,9 +23,10 @@ abbrev pub AscendingBytesAreOne : Type 0
 AscendingBytesAreOne = (bytes others : List (ℕ × ℕ)) → IsAscending bytes → IsAscending others
     → ((at : ℕ) → byte_at bytes at ≡ byte_at others at) → bytes ≡ others
 
--- what a source gives are bytes
+-- bytes of memory, at their addresses
 abbrev pub GiveBytes : List (ℕ × ℕ) → Type 0
 GiveBytes given = All (λ p. p.1 < 2 ^ 8) given
 
+-- what a source gives are bytes
 abbrev pub SourcesGiveBytes : Type 0
 SourcesGiveBytes = (source : List ℕ) (g : Given) → assembled source ≡ Ok g → GiveBytes g.bytes

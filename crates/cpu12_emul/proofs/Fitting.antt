@@ -4,7 +4,7 @@ use Rattle.cpu12_isa.specs.declared.{instr.Regs.Regs, instr.Instr.Instr}
 use Rattle.cpu12_isa.specs.Act.{Act, outcome, bind, write_all}
 use Rattle.cpu12_isa.specs.Fits.{FitsRegs, FitsWrites, AreBytes, StaysFit, BytesStay, DecodedFits}
 use Rattle.cpu12_isa.specs.declared.instr.Instr.TheVariants.{Rev, Revw, Wav, Wavr}
-use Rattle.cpu12_isa.specs.{Memory.from, Memory.bytes_at, Code.FitsOperands, Code.decode_at, Meaning.act_of}
+use Rattle.cpu12_isa.specs.{Memory.from, Memory.bytes_at, Code.FitsOperands, Code.decode_at, Meaning.plain_act}
 use Rattle.cpu12_isa.proofs.Algebra.{outcome_bind, bytes_at_fit}
 use Rattle.cpu12_parts.specs.{declared.temps.Temps.Temps, Laws.IsOff, Laws.state_of}
 use Rattle.cpu12_parts.specs.declared.temps.Temps.TheVariants.{Free, Running, OnStack}
@@ -87,7 +87,7 @@ instruction_fits laws flags r t m (Ok Wavr) ff f ft b o =
     (laws.wav_fits flags (state_of q.regs q.temps m) ff (record { regs = p.regs; temps = p.temps; mem = b })))
 instruction_fits laws flags r t m (Ok i) ff f ft b o =
     let k = laws.stays_fit flags i r m ff (o i refl) f b in
-    subst LeavesFit (sym (outcome_bind (act_of flags i r) (left_by_plain t) m))
+    subst LeavesFit (sym (outcome_bind (plain_act flags i r) (left_by_plain t) m))
     (record { regs = k.0; temps = ft; writes = k.1 })
 
 off_fits : InstructionsFit → (flags : ℕ) (s : State) → IsOff s.temps → flags < 2 ^ 8 → FitsState s

@@ -2,8 +2,9 @@
 use Rattle.std.proofs.Common.{◌≡◌, ℕ, zero, suc, ◌^◌, ◌<◌, Option, Some, None, List, [], ◌∷◌, ◌++◌, length, get_or}
 use Rattle.std.proofs.Common.{unwrap_or, refl, ap, sym, ◌∙◌, arith, inl, inr}
 use Rattle.std.proofs.lemmas.Bool.{cases_lt}
-use Rattle.std.proofs.lemmas.List.{length-append, ext_get_or}
+use Rattle.std.proofs.lemmas.List.{length-append, ext_get_or, get_or_append_left, get_or_push}
 use Rattle.cpu12_isa.specs.Memory.{zeros}
+use Rattle.cpu12_isa.proofs.Algebra.{zero_at}
 use Rattle.cpu12_asm.specs.Bytes.{byte_at}
 use Rattle.cpu12_emul.specs.Image.{byte_or_zero, image_memory, loaded, HoldsImage}
 
@@ -13,35 +14,18 @@ length_loaded image zero = refl
 length_loaded image (suc n) = length-append (loaded image n) (byte_or_zero (byte_at image n) ∷ [])
     ∙ (let e = length_loaded image n in omega arith)
 
--- the byte at the end of a list, and one before it
-at_end : (xs : List ℕ) (v i : ℕ) → i ≡ length xs → get_or (xs ++ (v ∷ [])) i 0 ≡ v
-at_end [] v i e = rw e refl
-at_end (x ∷ xs) v zero e = absurd (omega arith)
-at_end (x ∷ xs) v (suc i) e = at_end xs v i (omega arith)
-
-before_end : (xs : List ℕ) (v i : ℕ) → i < length xs → get_or (xs ++ (v ∷ [])) i 0 ≡ get_or xs i 0
-before_end [] v i l = absurd (omega arith)
-before_end (x ∷ xs) v zero l = refl
-before_end (x ∷ xs) v (suc i) l = before_end xs v i (omega arith)
-
 pub loaded_at : (image : List (ℕ × ℕ)) (n at : ℕ) → at < n
     → get_or (loaded image n) at 0 ≡ byte_or_zero (byte_at image at)
 unfolding loaded
 loaded_at image zero at l = absurd (omega arith)
 loaded_at image (suc n) at l = elim (cases_lt at n) [
-  | inl b ↦ before_end (loaded image n) (byte_or_zero (byte_at image n)) at
+  | inl b ↦ get_or_append_left (loaded image n) (byte_or_zero (byte_at image n) ∷ []) 0 at
       (let e = length_loaded image n in omega arith) ∙ loaded_at image n at b
   | inr b ↦
       let here : at ≡ n = omega arith in
-      at_end (loaded image n) (byte_or_zero (byte_at image n)) at (here ∙ sym (length_loaded image n))
+      get_or_push (loaded image n) (byte_or_zero (byte_at image n)) 0 at (length_loaded image n ∙ sym here)
       ∙ ap (λ (k : ℕ). byte_or_zero (byte_at image k)) (sym here)
 ]
-
-zero_at : (n at : ℕ) → get_or (zeros n) at 0 ≡ 0
-unfolding zeros
-zero_at zero at = refl
-zero_at (suc n) zero = refl
-zero_at (suc n) (suc at) = zero_at n at
 
 or_zero : (o : Option ℕ) (z : ℕ) → z ≡ 0 → unwrap_or o z ≡ byte_or_zero o
 or_zero None z e = e

@@ -135,9 +135,6 @@ revw_ruling stays sums steady = record {
   stack = steady.stack;
 }
 
-pub Ruled-none : (opcode flags : ℕ) (s : State) → Stands opcode s.regs.pc s.mem → Ruled opcode flags s s 0
-Ruled-none opcode flags s stands = record { parts = refl; pc = refl; sp = refl; temps = refl; stands = stands }
-
 -- one part
 Ruled-one : {i : Instr} {k : Kind} {opcode : ℕ} {On : List ℕ → Regs → Type 0} (flags : ℕ) (s : State)
     → Ruling i k opcode On

@@ -3,10 +3,10 @@ use Rattle.std.proofs.Common.{◌≡◌, ℕ, ◌+◌, ◌*◌, ◌/◌, ◌%◌
 use Rattle.std.proofs.Common.{get_or, refl, ap, sym, ◌∙◌, subst}
 use Rattle.std.proofs.Common.{arith, inl, inr}
 use Rattle.cpu12_isa.specs.{declared.instr.Regs.Regs, declared.instr.Instr.Instr, Regions.is_hidden}
-use Rattle.cpu12_isa.specs.Act.{Act, Give, Get, outcome, read_by, bind, get_all, write_all}
+use Rattle.cpu12_isa.specs.Act.{Act, outcome, read_by, bind, write_all}
 use Rattle.cpu12_isa.specs.declared.instr.Instr.TheVariants.{Rev, Revw, Wav, Wavr}
 use Rattle.cpu12_isa.specs.{Memory.plus, Memory.from, Memory.bytes_at, Code.decode_at, Code.decode_of, Code.six_from}
-use Rattle.cpu12_isa.specs.{Meaning.act_of, Meaning.is_plain, Agreement.Agree, Agreement.WritesAgree}
+use Rattle.cpu12_isa.specs.{Meaning.is_plain, Meaning.plain_act, Agreement.Agree, Agreement.WritesAgree}
 use Rattle.cpu12_isa.proofs.Algebra.{outcome_bind, read_by_bind, same_outcome}
 use Rattle.cpu12_parts.specs.declared.{temps.Temps.Temps, temps.Temps.TheVariants.Running}
 use Rattle.cpu12_parts.specs.{State.State, State.Outcome, Laws.IsOff, declared.temps.PartEnd.TheVariants.More}
@@ -24,16 +24,6 @@ step_agrees agree flags r t m n l hidden later a shown is u = (
 )
 
 -- a step where no sums run goes by six bytes
-outcome_all : {A : Type 0} (ats : List ℕ) (next : List ℕ → Act A) (m : List ℕ)
-    → outcome (get_all ats next) m ≡ outcome (next (bytes_at m ats)) m
-outcome_all [] next m = refl
-outcome_all (at ∷ ats) next m = outcome_all ats (λ vs. next (get_or m at 0 ∷ vs)) m
-
-reads_all : {A : Type 0} (ats : List ℕ) (next : List ℕ → Act A) (m : List ℕ)
-    → read_by (get_all ats next) m ≡ ats ++ read_by (next (bytes_at m ats)) m
-reads_all [] next m = refl
-reads_all (at ∷ ats) next m = ap (λ (l : List ℕ). at ∷ l) (reads_all ats (λ vs. next (get_or m at 0 ∷ vs)) m)
-
 pub step_by_bytes : (flags : ℕ) (r : Regs) (t : Temps) (m : List ℕ) → IsOff t
     → outcome (step_act flags r t) m ≡ outcome (instruction_act flags r t (decode_at m r.pc)) m
 step_by_bytes flags r t m off = elim off [
@@ -52,14 +42,9 @@ reads_by_bytes flags r t m off = elim off [
       ++ read_by (instruction_act flags r u (decode_at m r.pc)) m) (sym e) refl
 ]
 
--- an act whose value is only given on reads what it reads
-reads_given : {A B : Type 0} (a : Act A) (f : A → B) (m : List ℕ) → read_by (bind a (λ x. Give (f x))) m ≡ read_by a m
-reads_given (Give a) f m = refl
-reads_given (Get at next) f m = ap (λ (l : List ℕ). at ∷ l) (reads_given (next (get_or m at 0)) f m)
-
 -- the step of a plain instruction
 plain_act_is : (flags : ℕ) (r : Regs) (t : Temps) (i : Instr) → is_plain i ≡ true
-    → instruction_act flags r t (Ok i) ≡ bind (act_of flags i r) (left_by_plain t)
+    → instruction_act flags r t (Ok i) ≡ bind (plain_act flags i r) (left_by_plain t)
 plain_act_is flags r t Rev p = absurd (let e : false ≡ true = p in cc)
 plain_act_is flags r t Revw p = absurd (let e : false ≡ true = p in cc)
 plain_act_is flags r t Wav p = absurd (let e : false ≡ true = p in cc)
@@ -77,16 +62,16 @@ next_of-decoded flags s i next off d e =
 
 pub plain_is_step : PlainIsStep
 plain_is_step flags i s off d p =
-    let act : instruction_act flags s.regs s.temps (decode_at s.mem s.regs.pc) ≡ bind (act_of flags i s.regs)
+    let act : instruction_act flags s.regs s.temps (decode_at s.mem s.regs.pc) ≡ bind (plain_act flags i s.regs)
     (left_by_plain s.temps) =
     ap (instruction_act flags s.regs s.temps) d ∙ plain_act_is flags s.regs s.temps i p in (
       step_by_bytes flags s.regs s.temps s.mem off ∙ ap (λ (a : Act (Result Left ℕ)). outcome a s.mem) act
-          ∙ outcome_bind (act_of flags i s.regs) (left_by_plain s.temps) s.mem,
+          ∙ outcome_bind (plain_act flags i s.regs) (left_by_plain s.temps) s.mem,
       reads_by_bytes flags s.regs s.temps s.mem off
           ∙ ap (λ (a : Act (Result Left ℕ)). six_from s.regs.pc ++ read_by a s.mem) act
           ∙ ap (λ (l : List ℕ). six_from s.regs.pc ++ l)
-          (read_by_bind (act_of flags i s.regs) (left_by_plain s.temps) s.mem
-          ∙ nothing_behind (read_by (act_of flags i s.regs) s.mem)),
+          (read_by_bind (plain_act flags i s.regs) (left_by_plain s.temps) s.mem
+          ∙ nothing_behind (read_by (plain_act flags i s.regs) s.mem)),
     )
   where
     nothing_behind : (xs : List ℕ) → xs ++ [] ≡ xs

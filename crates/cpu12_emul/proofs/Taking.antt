@@ -1,5 +1,5 @@
 -- Interrupts keep the simulation.
-use Rattle.std.proofs.Common.{◌≡◌, ℕ, ◌+◌, ◌-◌, ◌%◌, ◌^◌, ◌<◌, Bool, true, false, ◌&&◌, nat_lt, nat_le, List, [], ◌∷◌}
+use Rattle.std.proofs.Common.{◌≡◌, ℕ, ◌+◌, ◌-◌, ◌%◌, ◌^◌, Bool, true, false, ◌&&◌, nat_lt, nat_le, List, [], ◌∷◌}
 use Rattle.std.proofs.Common.{◌++◌, length, refl, ap, ap₂, sym, ◌∙◌}
 use Rattle.std.proofs.Common.{subst, arith, inl, inr, lit≤}
 use Rattle.std.proofs.lemmas.Bool.{or_parts, false≢true}
@@ -9,7 +9,7 @@ use Rattle.cpu12_isa.specs.{Act.write_all, Memory.plus, Memory.from, Memory.plac
 use Rattle.cpu12_isa.specs.{Registers.frame_bytes, Registers.pulled, Agreement.Agree, Agreement.IsWritten}
 use Rattle.cpu12_isa.specs.{Regions.stack_start, Regions.is_hidden, Regions.LeavesStack, Fits.FitsRegs}
 use Rattle.cpu12_isa.proofs.Algebra.{unwritten, length_writes, agree_with, place_of, read_placed, bytes_unwritten}
-use Rattle.cpu12_isa.proofs.Algebra.{bytes_split, same_bytes}
+use Rattle.cpu12_isa.proofs.Algebra.{bytes_split, fits_with_sp, same_bytes}
 use Rattle.cpu12_parts.specs.{declared.temps.Temps.Temps, declared.temps.Temps.TheVariants.Running, State.State}
 use Rattle.cpu12_parts.specs.{Parts.sum_bytes, Laws.IsOff}
 use Rattle.cpu12_parts.specs.Inside.{pushed_sums, PushesRunning, PushesNone}
@@ -63,9 +63,6 @@ takes_quietly laws open_to ws s leaves good z f a b =
       mem = agree_with (is_hidden open_to s.regs.sp) (written ws (pushed s)).mem (pushed s).mem s.mem after wrote;
     }
 
-fits_at : (r : Regs) (k : ℕ) → FitsRegs r → k < 2 ^ 16 → FitsRegs (record r { sp = k })
-fits_at r k f h = record { a = f.a; b = f.b; x = f.x; y = f.y; sp = h; pc = f.pc; ccr = f.ccr }
-
 -- an interrupt where the sums run parks them
 parks : Pushes → (marks : Marks) (open_to : ℕ → Bool) (ws : List Write) (s t : State) (p w : ℕ) → LeavesStack open_to
     → AreOpen open_to ws → HasRoom t → Same open_to s t
@@ -86,7 +83,7 @@ parks laws marks open_to ws s t p w leaves good room l run =
     let u =
     takes_quietly laws open_to ws x leaves good
     (length_writes (placed (plus s.regs.sp 65530) (sum_bytes p w)) s.mem ∙ size)
-    (fits_at s.regs (plus s.regs.sp 65530) fits_s (omega arith)) (omega arith) (omega arith) in
+    (fits_with_sp s.regs (plus s.regs.sp 65530) fits_s (omega arith)) (omega arith) (omega arith) in
     let got : bytes_at (framed ws x).mem (from (plus s.regs.sp 65530) 6) ≡ bytes_at x.mem
     (from (plus s.regs.sp 65530) 6) =
     same_bytes (is_hidden open_to (plus s.regs.sp 65530)) (framed ws x).mem x.mem u.mem (from (plus s.regs.sp 65530) 6)
@@ -119,7 +116,7 @@ stays_parked laws marks open_to ws s t leaves good room l =
     let sp : s.regs.sp ≡ plus t.regs.sp 65530 = ap (λ (r : Regs). r.sp) l.regs in
     let size : length s.mem ≡ 65536 = l.mem.size ∙ room.size in
     let fits_s : FitsRegs s.regs =
-    subst (λ (r : Regs). FitsRegs r) (sym l.regs) (fits_at t.regs (plus t.regs.sp 65530) fits (omega arith)) in
+    subst (λ (r : Regs). FitsRegs r) (sym l.regs) (fits_with_sp t.regs (plus t.regs.sp 65530) fits (omega arith)) in
     let u = takes_quietly laws open_to ws s leaves good size fits_s (omega arith) (omega arith) in
     let got : bytes_at (framed ws s).mem (from (plus t.regs.sp 65530) 6) ≡ bytes_at s.mem
     (from (plus t.regs.sp 65530) 6) =

@@ -5,7 +5,7 @@ use Rattle.std.specs.Prelude.{slice_index}
 use Rattle.cpu12_isa.specs.declared.{instr.Regs.Regs, instr.Write.Write, instr.Instr.Instr}
 use Rattle.cpu12_isa.specs.Regions.{stack_start, stack_end, is_hidden, LeavesStack}
 use Rattle.cpu12_isa.specs.{Act.outcome, Act.read_by, Act.write_all, Memory.plus, Memory.from, Memory.bytes_at}
-use Rattle.cpu12_isa.specs.{Code.decode_at, Code.six_from, Meaning.act_of, Meaning.effect, Meaning.is_plain}
+use Rattle.cpu12_isa.specs.{Code.decode_at, Code.six_from, Meaning.effect, Meaning.is_plain, Meaning.plain_act}
 use Rattle.cpu12_isa.specs.{Agreement.Agree, Agreement.AllShown, Agreement.Uncovers, Fits.FitsRegs}
 use Rattle.cpu12_parts.specs.{declared.temps.Temps.Temps, State.State, State.Outcome, Laws.IsOff}
 use Rattle.cpu12_parts.specs.declared.temps.Temps.TheVariants.{Free, Running, OnStack}
@@ -126,7 +126,7 @@ PlainIsStep = (flags : ℕ) (i : Instr) (s : State) → IsOff s.temps → decode
     → let e = effect flags i s.regs s.mem in
     (outcome (step_act flags s.regs s.temps) s.mem
     ≡ Ok (record { regs = e.regs; temps = s.temps; writes = e.writes; kind = Plain }))
-    × (read_by (step_act flags s.regs s.temps) s.mem ≡ six_from s.regs.pc ++ read_by (act_of flags i s.regs) s.mem)
+    × (read_by (step_act flags s.regs s.temps) s.mem ≡ six_from s.regs.pc ++ read_by (plain_act flags i s.regs) s.mem)
 
 -- what a part leaves
 abbrev pub left_of : Outcome → Left

@@ -4,7 +4,7 @@ use Rattle.std.proofs.Common.{arith, inl, inr, ◌⊎◌, get_or-set_other, get_
 use Rattle.std.proofs.lemmas.Bool.{cases_eq, cases_lt}
 use Rattle.std.proofs.lemmas.List.{get_or_past, length-set}
 use Rattle.std.proofs.Math.ListN.{set}
-use Rattle.cpu12_isa.specs.Act.{Act, Give, Get, outcome, read_by, bind, write_all}
+use Rattle.cpu12_isa.specs.Act.{Act, Give, Get, outcome, read_by, write_all}
 use Rattle.cpu12_isa.specs.Agreement.{Agree, AllShown, IsWritten, ReadsAlone, WritesAgree, WritesStay}
 
 pub same_outcome : {A : Type 0} (hidden : ℕ → Bool) (m n : List ℕ) → Agree hidden m n → (act : Act A)
@@ -72,9 +72,6 @@ writes_stay ws m = (length_writes ws m, λ at h. unwritten ws m at h)
 pub agree_self : (hidden : ℕ → Bool) (m : List ℕ) → Agree hidden m m
 agree_self hidden m = record { size = refl; bytes = λ at s. refl }
 
-pub agree_back : (hidden : ℕ → Bool) (m n : List ℕ) → Agree hidden m n → Agree hidden n m
-agree_back hidden m n a = record { size = sym a.size; bytes = λ at s. sym (a.bytes at s) }
-
 pub agree_with : (hidden : ℕ → Bool) (m n p : List ℕ) → Agree hidden m n → Agree hidden n p → Agree hidden m p
 agree_with hidden m n p a b = record { size = a.size ∙ b.size; bytes = λ at s. a.bytes at s ∙ b.bytes at s }
 
@@ -91,10 +88,3 @@ shown_left hidden (x ∷ xs) ys a = (a.0, shown_left hidden xs ys a.1)
 pub shown_right : (hidden : ℕ → Bool) (xs ys : List ℕ) → AllShown hidden (xs ++ ys) → AllShown hidden ys
 shown_right hidden [] ys a = a
 shown_right hidden (x ∷ xs) ys a = shown_right hidden xs ys a.1
-
--- what an act and the next one read
-pub shown_bind : {A B : Type 0} (hidden : ℕ → Bool) (m : List ℕ) (a : Act A) (f : A → Act B)
-    → AllShown hidden (read_by a m) → ((o : A) → AllShown hidden (read_by (f o) m))
-    → AllShown hidden (read_by (bind a f) m)
-shown_bind hidden m (Give o) f s g = g o
-shown_bind hidden m (Get at next) f s g = (s.0, shown_bind hidden m (next (get_or m at 0)) f s.1 g)

@@ -54,7 +54,7 @@ page_is_bytes Two bytes h = All-cons IsByte 0x18 bytes (omega arith) h
 page_is_bytes Transfer bytes h = All-cons IsByte 0xB7 bytes (omega arith) h
 page_is_bytes AddIndexed bytes h = All-cons IsByte 0xEB bytes (omega arith) h
 
-opcode_is_byte : (i : Instr) → (encoding_of i).opcode < 2 ^ 8
+pub opcode_is_byte : (i : Instr) → (encoding_of i).opcode < 2 ^ 8
 opcode_is_byte (LdaaImmediate v) = omega arith
 opcode_is_byte i = omega arith
 

@@ -1,7 +1,7 @@
 -- What fits stays so.
 use Rattle.std.proofs.Common.{◌≡◌, ℕ, zero, suc, ◌+◌, ◌*◌, ◌/◌, ◌%◌, ◌^◌, ◌<◌, ◌≤◌, ◌==◌, ◌⊎◌, nat_lt, if◌then◌else◌}
 use Rattle.std.proofs.Common.{Bool, true, false, Result, Ok, List, [], ◌∷◌, length, get_or, arith, rules, subst, sym}
-use Rattle.std.proofs.Common.{inl, inr, get_or-set_same, get_or-set_other}
+use Rattle.std.proofs.Common.{drop, inl, inr, get_or-set_same, get_or-set_other}
 use Rattle.std.proofs.Math.Nat.{div-lt_iff_lt-mul}
 use Rattle.std.proofs.Math.ListN.{set}
 use Rattle.std.proofs.lemmas.Bool.{cases_lt, cases_eq}
@@ -13,7 +13,7 @@ use Rattle.cpu12_isa.specs.declared.{instr.Regs.Regs, instr.Instr.Instr}
 use Rattle.cpu12_isa.specs.declared.instr.Instr.TheVariants.{LdaaImmediate, Fdiv}
 use Rattle.cpu12_isa.specs.declared.encodings.Page.TheVariants.{One, Two, Transfer, AddIndexed}
 use Rattle.cpu12_isa.specs.Act.{Act, Give, Get, outcome}
-use Rattle.cpu12_isa.specs.{Memory.plus, Memory.word_of, Memory.bytes_at, Registers.divided_fraction, Meaning.act_of}
+use Rattle.cpu12_isa.specs.{Memory.plus, Memory.word_of, Memory.bytes_at, Registers.divided_fraction, Meaning.plain_act}
 use Rattle.cpu12_isa.specs.Flags.{put, carry, overflow, zero_result}
 use Rattle.cpu12_isa.specs.Code.{FitsOperands, entry, page_of, decode_of, six_from}
 use Rattle.cpu12_isa.specs.Fits.{FitsRegs, FitsWrites, AreBytes, Leaves, StaysFit, BytesStay, DecodedFits}
@@ -24,17 +24,17 @@ leaves_outcome P (Give a) m b l = l
 leaves_outcome P (Get at next) m b l = leaves_outcome P (next (get_or m at 0)) m b (l (get_or m at 0) (b at))
 
 sp_fits : (flags : ℕ) (i : Instr) (r : Regs) → flags < 2 ^ 8 → FitsOperands i → FitsRegs r
-    → Leaves (λ e. e.regs.sp < 2 ^ 16) (act_of flags i r)
+    → Leaves (λ e. e.regs.sp < 2 ^ 16) (plain_act flags i r)
 sp_fits flags (LdaaImmediate v) r h o f = f.sp
 sp_fits flags i r h o f = search (rules, widths)
 
 a_fits : (flags : ℕ) (i : Instr) (r : Regs) → flags < 2 ^ 8 → FitsOperands i → FitsRegs r
-    → Leaves (λ e. e.regs.a < 2 ^ 8) (act_of flags i r)
+    → Leaves (λ e. e.regs.a < 2 ^ 8) (plain_act flags i r)
 a_fits flags (LdaaImmediate v) r h o f = o
 a_fits flags i r h o f = search (rules, widths)
 
 b_fits : (flags : ℕ) (i : Instr) (r : Regs) → flags < 2 ^ 8 → FitsOperands i → FitsRegs r
-    → Leaves (λ e. e.regs.b < 2 ^ 8) (act_of flags i r)
+    → Leaves (λ e. e.regs.b < 2 ^ 8) (plain_act flags i r)
 b_fits flags (LdaaImmediate v) r h o f = f.b
 b_fits flags i r h o f = search (rules, widths)
 
@@ -69,43 +69,43 @@ fdiv_fits r =
     choice_fits (r.a * 2 ^ 8 + r.b) r.x (2 ^ 16) yes no (λ l. quotient_fits (r.a * 2 ^ 8 + r.b) r.x l) (omega arith)
 
 x_fits : (flags : ℕ) (i : Instr) (r : Regs) → flags < 2 ^ 8 → FitsOperands i → FitsRegs r
-    → Leaves (λ e. e.regs.x < 2 ^ 16) (act_of flags i r)
+    → Leaves (λ e. e.regs.x < 2 ^ 16) (plain_act flags i r)
 x_fits flags (LdaaImmediate v) r h o f = f.x
 x_fits flags Fdiv r h o f = fdiv_fits r
 x_fits flags i r h o f = search (rules, widths)
 
 y_fits : (flags : ℕ) (i : Instr) (r : Regs) → flags < 2 ^ 8 → FitsOperands i → FitsRegs r
-    → Leaves (λ e. e.regs.y < 2 ^ 16) (act_of flags i r)
+    → Leaves (λ e. e.regs.y < 2 ^ 16) (plain_act flags i r)
 y_fits flags (LdaaImmediate v) r h o f = f.y
 y_fits flags i r h o f = search (rules, widths)
 
 pc_fits : (flags : ℕ) (i : Instr) (r : Regs) → flags < 2 ^ 8 → FitsOperands i → FitsRegs r
-    → Leaves (λ e. e.regs.pc < 2 ^ 16) (act_of flags i r)
+    → Leaves (λ e. e.regs.pc < 2 ^ 16) (plain_act flags i r)
 pc_fits flags (LdaaImmediate v) r h o f = omega arith
 pc_fits flags i r h o f = search (rules, widths)
 
 ccr_fits : (flags : ℕ) (i : Instr) (r : Regs) → flags < 2 ^ 8 → FitsOperands i → FitsRegs r
-    → Leaves (λ e. e.regs.ccr.0 < 2 ^ 8) (act_of flags i r)
+    → Leaves (λ e. e.regs.ccr.0 < 2 ^ 8) (plain_act flags i r)
 ccr_fits flags (LdaaImmediate v) r h o f = grind (arith, common_steps, widths)
 ccr_fits flags i r h o f = grind (arith, common_steps, widths)
 
 writes_fit : (flags : ℕ) (i : Instr) (r : Regs) → flags < 2 ^ 8 → FitsOperands i → FitsRegs r
-    → Leaves (λ e. FitsWrites e.writes) (act_of flags i r)
+    → Leaves (λ e. FitsWrites e.writes) (plain_act flags i r)
 writes_fit flags (LdaaImmediate v) r h o f = tt
 writes_fit flags i r h o f = search (rules, widths)
 
 pub stays_fit : StaysFit
 stays_fit flags i r m h o f b = (
   record {
-    a = leaves_outcome (λ e. e.regs.a < 2 ^ 8) (act_of flags i r) m b (a_fits flags i r h o f);
-    b = leaves_outcome (λ e. e.regs.b < 2 ^ 8) (act_of flags i r) m b (b_fits flags i r h o f);
-    x = leaves_outcome (λ e. e.regs.x < 2 ^ 16) (act_of flags i r) m b (x_fits flags i r h o f);
-    y = leaves_outcome (λ e. e.regs.y < 2 ^ 16) (act_of flags i r) m b (y_fits flags i r h o f);
-    sp = leaves_outcome (λ e. e.regs.sp < 2 ^ 16) (act_of flags i r) m b (sp_fits flags i r h o f);
-    pc = leaves_outcome (λ e. e.regs.pc < 2 ^ 16) (act_of flags i r) m b (pc_fits flags i r h o f);
-    ccr = leaves_outcome (λ e. e.regs.ccr.0 < 2 ^ 8) (act_of flags i r) m b (ccr_fits flags i r h o f);
+    a = leaves_outcome (λ e. e.regs.a < 2 ^ 8) (plain_act flags i r) m b (a_fits flags i r h o f);
+    b = leaves_outcome (λ e. e.regs.b < 2 ^ 8) (plain_act flags i r) m b (b_fits flags i r h o f);
+    x = leaves_outcome (λ e. e.regs.x < 2 ^ 16) (plain_act flags i r) m b (x_fits flags i r h o f);
+    y = leaves_outcome (λ e. e.regs.y < 2 ^ 16) (plain_act flags i r) m b (y_fits flags i r h o f);
+    sp = leaves_outcome (λ e. e.regs.sp < 2 ^ 16) (plain_act flags i r) m b (sp_fits flags i r h o f);
+    pc = leaves_outcome (λ e. e.regs.pc < 2 ^ 16) (plain_act flags i r) m b (pc_fits flags i r h o f);
+    ccr = leaves_outcome (λ e. e.regs.ccr.0 < 2 ^ 8) (plain_act flags i r) m b (ccr_fits flags i r h o f);
   },
-  leaves_outcome (λ e. FitsWrites e.writes) (act_of flags i r) m b (writes_fit flags i r h o f),
+  leaves_outcome (λ e. FitsWrites e.writes) (plain_act flags i r) m b (writes_fit flags i r h o f),
 )
 
 -- a byte written
@@ -151,118 +151,16 @@ word_fits bs k b = let h : get_or bs k 0 < 2 ^ 8 = b k in let l : get_or bs (k +
     omega (arith, h, l)
 
 page_one_fits : (bs : List ℕ) → AreBytes bs → AllFit (page_of One bs)
-page_one_fits bs b = (
-  b 1,
-  (
-    word_fits bs 1 b,
-    (
-      b 1,
-      (
-        word_fits bs 1 b,
-        (
-          word_fits bs 1 b,
-          (
-            word_fits bs 1 b,
-            (
-              word_fits bs 1 b,
-              (
-                word_fits bs 1 b,
-                (
-                  word_fits bs 1 b,
-                  (
-                    word_fits bs 1 b,
-                    (
-                      tt,
-                      (
-                        word_fits bs 1 b,
-                        (
-                          b 1,
-                          (
-                            b 1,
-                            (
-                              b 1,
-                              (
-                                b 1,
-                                (
-                                  b 1,
-                                  (
-                                    word_fits bs 1 b,
-                                    (
-                                      tt,
-                                      (
-                                        b 1,
-                                        (
-                                          b 1,
-                                          (
-                                            tt,
-                                            (
-                                              tt,
-                                              (
-                                                tt,
-                                                (
-                                                  word_fits bs 1 b,
-                                                  (
-                                                    word_fits bs 1 b,
-                                                    (
-                                                      b 1,
-                                                      (
-                                                        word_fits bs 1 b,
-                                                        (
-                                                          b 1,
-                                                          (
-                                                            word_fits bs 1 b,
-                                                            (
-                                                              b 1,
-                                                              (
-                                                                b 1,
-                                                                (
-                                                                  word_fits bs 1 b,
-                                                                  (
-                                                                    b 1,
-                                                                    (
-                                                                      word_fits bs 1 b,
-                                                                      (
-                                                                        b 1,
-                                                                        (
-                                                                          word_fits bs 1 b,
-                                                                          (b 1, (word_fits bs 1 b, (tt, (tt, (tt, (tt, (tt, (tt, (tt, (tt, tt)))))))))),
-                                                                        ),
-                                                                      ),
-                                                                    ),
-                                                                  ),
-                                                                ),
-                                                              ),
-                                                            ),
-                                                          ),
-                                                        ),
-                                                      ),
-                                                    ),
-                                                  ),
-                                                ),
-                                              ),
-                                            ),
-                                          ),
-                                        ),
-                                      ),
-                                    ),
-                                  ),
-                                ),
-                              ),
-                            ),
-                          ),
-                        ),
-                      ),
-                    ),
-                  ),
-                ),
-              ),
-            ),
-          ),
-        ),
-      ),
-    ),
-  ),
-)
+page_one_fits bs b =
+    let n = b 1 in
+    let w = word_fits bs 1 b in
+    let from_36 : AllFit (drop 36 (page_of One bs)) =
+    (w, (n, (w, (tt, (tt, (tt, (tt, (tt, (tt, (tt, (tt, tt))))))))))) in
+    let from_24 : AllFit (drop 24 (page_of One bs)) =
+    (w, (w, (n, (w, (n, (w, (n, (n, (w, (n, (w, (n, from_36)))))))))))) in
+    let from_12 : AllFit (drop 12 (page_of One bs)) =
+    (n, (n, (n, (n, (n, (w, (tt, (n, (n, (tt, (tt, (tt, from_24)))))))))))) in
+    (n, (w, (n, (w, (w, (w, (w, (w, (w, (w, (tt, (w, from_12))))))))))))
 
 page_two_fits : (bs : List ℕ) → AreBytes bs → AllFit (page_of Two bs)
 page_two_fits bs b = (tt, ((b 2, word_fits bs 3 b), ((word_fits bs 2 b, word_fits bs 4 b), (tt, (tt, (tt, tt))))))

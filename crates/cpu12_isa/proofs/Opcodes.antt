@@ -1,9 +1,10 @@
 -- What is decoded has its opcode there.
 use Rattle.std.proofs.Common.{◌≡◌, ◌==◌, ◌&&◌, ◌++◌, ℕ, Bool, true, false, Result, Ok, Err, List, [], ◌∷◌, get_or, refl}
-use Rattle.std.proofs.Common.{ap, sym, ◌∙◌, subst, inl, inr, ◌⊎◌}
+use Rattle.std.proofs.Common.{ap, sym, ◌∙◌, subst, inl, inr}
 use Rattle.std.specs.Prelude.{if◌then◌else◌}
 use Rattle.std.proofs.lemmas.Bool.Decides.{nat_tests}
 use Rattle.std.proofs.Common.{arith}
+use Rattle.std.proofs.lemmas.Bool.{cases_Bool}
 use Rattle.cpu12_isa.specs.{declared.instr.Instr.Instr, declared.encodings.Page.Page, Encodings.encoding_of, Encodings.prebytes}
 use Rattle.cpu12_isa.specs.declared.encodings.Page.TheVariants.{One, Two, Transfer, AddIndexed}
 use Rattle.cpu12_isa.specs.Code.{is_on, entry, page_of, StandFrom, DecodedHasOpcode}
@@ -19,10 +20,6 @@ are_entries page (e ∷ es) = is_entry page e.0 e.1 && are_entries page es
 both_true : (a b : Bool) → (a && b) ≡ true → (a ≡ true) × (b ≡ true)
 both_true true b h = (refl, h)
 both_true false b h = absurd (let e : false ≡ true = h in cc)
-
-cases_of : (b : Bool) → (b ≡ true) ⊎ (b ≡ false)
-cases_of true = inl refl
-cases_of false = inr refl
 
 same_number : (a b : ℕ) → (a == b) ≡ true → a ≡ b
 same_number a b h = grind (arith, nat_tests)
@@ -40,7 +37,7 @@ same_page p q h = absurd (let e : false ≡ true = h in cc)
 found_is_entry : (page : Page) (t : List (ℕ × Instr)) (n : ℕ) (i : Instr) → are_entries page t ≡ true → entry t n ≡ Ok i
     → is_entry page n i ≡ true
 found_is_entry page [] n i a h = absurd (let e : ◌≡◌ {A = Result Instr ℕ} (Err n) (Ok i) = h in cc)
-found_is_entry page (e ∷ es) n i a h = elim (cases_of (n == e.0)) [
+found_is_entry page (e ∷ es) n i a h = elim (cases_Bool (n == e.0)) [
   | inl t ↦
       let is : e.1 ≡ i = ok_same e.1 i (sym (ap (λ (b : Bool). choose b) t) ∙ h) in
       let here = (both_true (is_entry page e.0 e.1) (are_entries page es) a).0 in
@@ -77,7 +74,7 @@ on_first_page bytes i found =
     subst (λ (front : List ℕ). StandFrom bytes 0 (front ++ ((encoding_of i).opcode ∷ []))) (sym wanted) (sym opcode, tt)
 
 pub decoded_has_opcode : DecodedHasOpcode
-decoded_has_opcode bytes i h = elim (cases_of (get_or bytes 0 0 == 0x18)) [
+decoded_has_opcode bytes i h = elim (cases_Bool (get_or bytes 0 0 == 0x18)) [
   | inl t ↦ on_page_with Two bytes 0x18 i refl refl (same_number (get_or bytes 0 0) 0x18 t)
       (sym (ap (λ (b : Bool). first b) t) ∙ h)
   | inr f ↦ behind (sym (ap (λ (b : Bool). first b) f) ∙ h)
@@ -95,7 +92,7 @@ decoded_has_opcode bytes i h = elim (cases_of (get_or bytes 0 0 == 0x18)) [
 
     last : third (get_or bytes 0 0 == 0xEB) ≡ Ok i
         → StandFrom bytes 0 (prebytes (encoding_of i).page ++ ((encoding_of i).opcode ∷ []))
-    last e = elim (cases_of (get_or bytes 0 0 == 0xEB)) [
+    last e = elim (cases_Bool (get_or bytes 0 0 == 0xEB)) [
       | inl t ↦ on_page_with AddIndexed bytes 0xEB i refl refl (same_number (get_or bytes 0 0) 0xEB t)
           (sym (ap (λ (b : Bool). third b) t) ∙ e)
       | inr f ↦ on_first_page bytes i (sym (ap (λ (b : Bool). third b) f) ∙ e)
@@ -103,7 +100,7 @@ decoded_has_opcode bytes i h = elim (cases_of (get_or bytes 0 0 == 0x18)) [
 
     behind : second (get_or bytes 0 0 == 0xB7) ≡ Ok i
         → StandFrom bytes 0 (prebytes (encoding_of i).page ++ ((encoding_of i).opcode ∷ []))
-    behind e = elim (cases_of (get_or bytes 0 0 == 0xB7)) [
+    behind e = elim (cases_Bool (get_or bytes 0 0 == 0xB7)) [
       | inl t ↦ on_page_with Transfer bytes 0xB7 i refl refl (same_number (get_or bytes 0 0) 0xB7 t)
           (sym (ap (λ (b : Bool). second b) t) ∙ e)
       | inr f ↦ last (sym (ap (λ (b : Bool). second b) f) ∙ e)

@@ -1,13 +1,14 @@
 -- Memory as pages, byte by byte.
 use Rattle.std.proofs.Common.{arith, ◌≡◌, ◌≢◌, ◌≤◌, ◌<◌, ◌+◌, ◌*◌, ◌/◌, ◌%◌, ℕ, zero, suc, Bool, true, false, cond}
-use Rattle.std.proofs.Common.{List, [], ◌∷◌, ◌++◌, length, get_or, set, replicate, refl, sym, ap, ◌∙◌, inl, inr}
+use Rattle.std.proofs.Common.{List, [], ◌∷◌, length, get_or, set, replicate, refl, sym, ap, ◌∙◌, inl, inr}
 use Rattle.std.specs.Prelude.{not, ◌==◌, count_by, sum_by}
 use Rattle.std.proofs.lemmas.Bool.{cases_eq, cases_lt, ne_eqb}
-use Rattle.std.proofs.lemmas.List.{length-append, length-replicate, ext_get_or, get_or-set_same, get_or-set_other}
-use Rattle.std.proofs.lemmas.List.{get_or-replicate, get_or_past, get_or-map, length-map, length-set, map-set}
-use Rattle.std.proofs.lemmas.List.{set-get_or}
+use Rattle.std.proofs.lemmas.List.{length-append, ext_get_or, get_or-set_same, get_or-set_other}
+use Rattle.std.proofs.lemmas.List.{get_or-replicate, get_or-map, length-map, length-set, map-set}
+use Rattle.std.proofs.lemmas.List.{get_or_append_left, get_or_push, set-get_or}
 use Rattle.std.proofs.lemmas.List.Sums.{count_by-le-length, sum_by-set}
 use Rattle.cpu12_isa.specs.{Memory.zeros, Pages.ArePages, Pages.byte_in, Pages.bytes_in, Pages.given_in}
+use Rattle.cpu12_isa.proofs.Zeros.{length_zeros, zero_at}
 
 pub length_bytes_in : (table pool : List ℕ) (n : ℕ) → length (bytes_in table pool n) ≡ n
 unfolding bytes_in
@@ -15,26 +16,16 @@ length_bytes_in table pool zero = refl
 length_bytes_in table pool (suc n) = length-append (bytes_in table pool n) (byte_in table pool n ∷ [])
     ∙ (let e = length_bytes_in table pool n in omega arith)
 
-at_end : (xs : List ℕ) (v i : ℕ) → i ≡ length xs → get_or (xs ++ v ∷ []) i 0 ≡ v
-at_end [] v i e = rw e refl
-at_end (x ∷ xs) v zero e = absurd (omega arith)
-at_end (x ∷ xs) v (suc i) e = at_end xs v i (omega arith)
-
-before_end : (xs : List ℕ) (v i : ℕ) → i < length xs → get_or (xs ++ v ∷ []) i 0 ≡ get_or xs i 0
-before_end [] v i l = absurd (omega arith)
-before_end (x ∷ xs) v zero l = refl
-before_end (x ∷ xs) v (suc i) l = before_end xs v i (omega arith)
-
 pub bytes_in-at : (table pool : List ℕ) (n at : ℕ) → at < n
     → get_or (bytes_in table pool n) at 0 ≡ byte_in table pool at
 unfolding bytes_in
 bytes_in-at table pool zero at l = absurd (omega arith)
 bytes_in-at table pool (suc n) at l = elim (cases_lt at n) [
-  | inl b ↦ before_end (bytes_in table pool n) (byte_in table pool n) at
+  | inl b ↦ get_or_append_left (bytes_in table pool n) (byte_in table pool n ∷ []) 0 at
       (let e = length_bytes_in table pool n in omega arith) ∙ bytes_in-at table pool n at b
   | inr b ↦
       let here : at ≡ n = omega arith in
-      at_end (bytes_in table pool n) (byte_in table pool n) at (here ∙ sym (length_bytes_in table pool n))
+      get_or_push (bytes_in table pool n) (byte_in table pool n) 0 at (length_bytes_in table pool n ∙ sym here)
       ∙ ap (byte_in table pool) (sym here)
 ]
 
@@ -96,18 +87,6 @@ stays_given table page l own =
     ∙ ap (set (given_in table) page) (given_at table page l ∙ has_place (get_or table page 0) own)
 
 -- ---- all at first
-
-zero_at : (n at : ℕ) → get_or (zeros n) at 0 ≡ 0
-unfolding zeros
-zero_at n at = elim (cases_lt at n) [
-  | inl l ↦ get_or-replicate n at 0 0 l
-  | inr l ↦ get_or_past (replicate {A = ℕ} n 0) at 0
-      (let e : length (replicate {A = ℕ} n 0) ≡ n = length-replicate n 0 in omega (arith, e, l))
-]
-
-length_zeros : (n : ℕ) → length (zeros n) ≡ n
-unfolding zeros
-length_zeros n = length-replicate n 0
 
 abbrev no_places : List ℕ
 no_places = replicate 256 0

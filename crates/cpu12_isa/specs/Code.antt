@@ -1,7 +1,7 @@
 -- Instructions as bytes (CPU12 Reference Manual, appendix A).
 -- Reached by the promise.
 use Rattle.std.specs.Prelude.{◌≡◌, ◌+◌, ◌==◌, ◌++◌, ℕ, Bool, true, false, if◌then◌else◌, Result, Ok, Err, List, [], ◌∷◌}
-use Rattle.std.specs.Prelude.{length, slice_index}
+use Rattle.std.specs.Prelude.{flat_map, length, slice_index}
 use Rattle.cpu12_isa.specs.declared.{instr.Instr.Instr, encodings.Encoding.Encoding, encodings.Page.Page}
 use Rattle.cpu12_isa.specs.declared.{encodings.Operand.Operand}
 use Rattle.cpu12_isa.specs.declared.encodings.Page.TheVariants.{One, Two, Transfer, AddIndexed}
@@ -18,9 +18,18 @@ encoding_bytes encoding = prebytes encoding.page ++ (encoding.opcode ∷ operand
 abbrev pub encode_of : Instr → List ℕ
 encode_of i = encoding_bytes (encoding_of i)
 
+-- the bytes of instructions one after another
+abbrev pub code_bytes : List Instr → List ℕ
+code_bytes code = flat_map encode_of code
+
 -- operands that are bytes and words
 abbrev pub FitsOperands : Instr → Type 0
 FitsOperands i = FitsOperand (encoding_of i).operand
+
+-- instructions whose operands fit
+abbrev pub FitCode : List Instr → Type 0
+FitCode [] = Unit {0}
+FitCode (i ∷ is) = FitsOperands i × FitCode is
 
 -- the word in bytes from a place
 abbrev pub word_in : List ℕ → ℕ → ℕ

@@ -2,7 +2,7 @@
 -- Beside the promise.
 use Rattle.std.specs.Prelude.{◌≡◌, ℕ, ◌+◌, ◌<◌, ◌≤◌, ◌⊎◌, List, [], ◌∷◌, length}
 use Rattle.cpu12_isa.specs.declared.{instr.Instr.Instr, instr.Instr.TheVariants.Rev, instr.Instr.TheVariants.Revw}
-use Rattle.cpu12_isa.specs.{Act.read_by, Fits.FitsRegs, Fits.AreBytes, Meaning.act_of, Meaning.effect}
+use Rattle.cpu12_isa.specs.{Act.read_by, Fits.FitsRegs, Fits.AreBytes, Meaning.effect, Meaning.plain_act}
 use Rattle.cpu12_parts.specs.{State.State, Averages.wav_read, Laws.addresses, Laws.IsOff}
 use Rattle.cpu12_parts.specs.Rules.{Rule, RuleOperands, rev_operands, revw_operands, rules_read, rules_written}
 use Rattle.cpu12_parts.specs.Whole.{IsPlainStep, IsRulesStep, IsAverageStep}
@@ -23,7 +23,7 @@ Each P (at ∷ ats) = P at × Each P ats
 -- a plain instruction, REV or REVW, and WAV, that read at addresses of one kind and write at those of another
 pub record IsPlainOver (R W : ℕ → Type 0) (flags : ℕ) (i : Instr) (s t : State) : Type 0 where
   pub step : IsPlainStep flags i s t
-  pub reads : Each R (read_by (act_of flags i s.regs) s.mem)
+  pub reads : Each R (read_by (plain_act flags i s.regs) s.mem)
   pub writes : Each W (addresses (effect flags i s.regs s.mem).writes)
 
 pub record IsRulesOver (R W : ℕ → Type 0) (i : Instr) (f : RuleOperands) (flags d : ℕ) (p : Rule) (ps : List Rule)

@@ -1,5 +1,6 @@
--- The plain algebra of addresses, bytes in memory, flags and sizes of code, which the crates above use.
+-- The plain algebra of addresses, bytes in memory, flags, sizes of code and its steps, which the crates above use.
 pub use Rattle.eval_code.proofs.Sizes.{code_size, code_size-append, length-code_bytes, length-le-code_size}
+pub use Rattle.eval_code.proofs.Few.{enough_steps}
 pub use Rattle.eval_code.proofs.phases.Outputs.{places_few}
 pub use Rattle.eval_code.proofs.phases.RuleMemory.{Below, From, apart_by, below_front, below_back}
 pub use Rattle.eval_code.proofs.steps.Addresses.{each_more, shown_each, all_shown, six_each, written_shown}

@@ -1,9 +1,10 @@
 -- How many instructions and steps a sample takes at least and at most.
-use Rattle.eval_code.proofs.Words.{[], ◌*◌, ◌∷◌, ◌≡◌, ◌≤◌, arith, Dec, RuleInstruction, revw_bound, instruction_of, instruction_bound}
+use Rattle.eval_code.proofs.Words.{[], ◌*◌, ◌∷◌, ◌≡◌, ◌≤◌, arith, Block, Dec, instruction_bound}
+use Rattle.eval_code.proofs.Words.{instruction_of, RuleInstruction, revw_bound}
 use Rattle.eval_code.proofs.Words.{LayoutLaw, length, List, None, Option, Output, output_bound, refl, Some, steps_by}
 use Rattle.eval_code.proofs.Words.{sum_by, sum_by-cons, Width, Word}
 use Rattle.byte_scaling.specs.{declared.width.Width.TheVariants.Byte}
-use Rattle.eval_code.specs.{Bounds.BoundsAreFew}
+use Rattle.eval_code.specs.{Bounds.BoundsAreFew, Bounds.step_bound}
 use Rattle.rule_layout.specs.declared.flat.RuleInstruction.TheVariants as instruction
 use Rattle.eval_code.proofs.{Joins.sum_by-term_count, phases.RuleFacts.block_facts}
 use Rattle.eval_code.proofs.Placement.{element_count-le, sum_by-singleton_count}
@@ -25,6 +26,11 @@ outputs_bound w (o ∷ os) =
 revw_bound-le : (f : RuleInstruction) → revw_bound f ≤ 1
 revw_bound-le instruction.Rev = omega arith
 revw_bound-le instruction.Revw = omega arith
+
+-- enough for the three steps up to the first wait
+pub enough_steps : (w : Width) (b : Block) → length b.outputs ≤ 4 → 3 ≤ step_bound w b
+unfolding instruction_bound steps_by
+enough_steps w b few = omega arith
 
 pub bounds_are_few : LayoutLaw → BoundsAreFew
 unfolding instruction_bound steps_by

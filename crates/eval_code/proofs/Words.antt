@@ -9,7 +9,7 @@ pub use Rattle.cpu12_isa.specs.declared.instr.Instr.TheVariants.{StabExtended, T
 pub use Rattle.cpu12_parts.specs.Rules.{element_bytes, elements_of, named, rules_target}
 pub use Rattle.eval_code.specs.Bounds.{complement_count, element_count, entry_count, revw_bound, input_term_count}
 pub use Rattle.eval_code.specs.Bounds.{output_bound, output_term_count}
-pub use Rattle.eval_code.specs.Code.{block_code, code_bytes, eval_code, eval_code_over, fuzzify_code, input_slots}
+pub use Rattle.eval_code.specs.Code.{block_code, eval_code, eval_code_over, fuzzify_code, input_slots}
 pub use Rattle.eval_code.specs.Code.{output_code, outputs_code, quotient_code, rules_code, slots_code, terms_before}
 pub use Rattle.eval_code.specs.Data.{bytes_of_word, rule_bytes, rule_bytes_by, singleton_bytes, singleton_bytes_of}
 pub use Rattle.eval_code.specs.Data.{table_bytes, weight_bytes, weight_bytes_by}
@@ -32,17 +32,18 @@ pub use Rattle.std.proofs.Common.{◌≤◌, ◌⊎◌}
 pub use Rattle.byte_scaling.specs.{Cells.NearestIsByte, Cells.nearest_byte, Widths.parts, Widths.places}
 pub use Rattle.byte_scaling.specs.{declared.width.Width.TheVariants.Word, declared.width.Width.Width}
 pub use Rattle.cpu12_asm.proofs.{Algebra.byte_at-append, Algebra.byte_at-placed, Algebra.or_else}
-pub use Rattle.cpu12_asm.specs.{Bytes.byte_at, Bytes.placed, declared.items.Item.Item}
+pub use Rattle.cpu12_asm.specs.{Bytes.byte_at, Bytes.placed, Laws.GiveBytes, declared.items.Item.Item}
 pub use Rattle.cpu12_asm.specs.{declared.items.Item.TheVariants.Byte, declared.items.Item.TheVariants.Op}
 pub use Rattle.cpu12_asm.specs.{declared.items.Item.TheVariants.Place}
 pub use Rattle.cpu12_emul.specs.{Image.HoldsImage, Image.byte_or_zero, Image.image_memory}
 pub use Rattle.cpu12_isa.proofs.{Algebra.fits_opened, Algebra.fits_put}
-pub use Rattle.cpu12_isa.specs.{Agreement.AgreeFrom, Code.decode_at, Code.encode_of, Code.six_from, Flags.has}
-pub use Rattle.cpu12_isa.specs.{Flags.opened, Memory.from, Memory.plus, Plain.interrupt_masks, Regions.stack_end}
+pub use Rattle.cpu12_isa.specs.{Agreement.AgreeFrom, Code.code_bytes, Code.decode_at, Code.encode_of, Code.six_from}
+pub use Rattle.cpu12_isa.specs.{Flags.has, Flags.opened, Memory.from, Memory.plus, Plain.interrupt_masks}
+pub use Rattle.cpu12_isa.specs.{Regions.stack_end}
 pub use Rattle.cpu12_isa.specs.{declared.instr.Ccr.Ccr, declared.instr.Instr.Instr, declared.instr.Regs.Regs}
 pub use Rattle.cpu12_parts.specs.{Averages.dot, Averages.total, Parts.weighted, State.State, Touching.Each}
 pub use Rattle.cpu12_parts.specs.{Whole.after_plain}
-pub use Rattle.eval_code.specs.{Items.IsApart, Items.bytes_at, Items.code_at, Placed.GiveBytes}
+pub use Rattle.eval_code.specs.{Items.IsApart, Items.bytes_at, Items.code_at}
 pub use Rattle.eval_code.specs.{Standing.DecodesWhereItStands, Widths.answer, Widths.bytes_of}
 pub use Rattle.eval_code.specs.{declared.memory_map.MemoryMap.MemoryMap}
 pub use Rattle.fuzzy_meaning.specs.{declared.block.Block.Block, declared.block.Input.Input}

@@ -1,6 +1,6 @@
 -- The code of EVAL, instruction by instruction.
 -- Beside the promise.
-use Rattle.std.specs.Prelude.{ℕ, ◌+◌, ◌-◌, List, [], ◌∷◌, ◌++◌, flat_map, length, take, replicate, sum_by, Option, Some}
+use Rattle.std.specs.Prelude.{ℕ, ◌+◌, ◌-◌, List, [], ◌∷◌, ◌++◌, length, take, replicate, sum_by, Option, Some}
 use Rattle.std.specs.Prelude.{None, option_map}
 use Rattle.fuzzy_meaning.specs.declared.{block.Block.Block, block.Input.Input, block.Output.Output}
 use Rattle.byte_scaling.specs.Cells.{nearest_byte}
@@ -8,7 +8,7 @@ use Rattle.rule_layout.specs.declared.{flat.Slot.Slot, flat.RuleInstruction.Rule
 use Rattle.rule_layout.specs.declared.flat.Slot.TheVariants.{Term, Complement, Out}
 use Rattle.rule_layout.specs.declared.flat.RuleInstruction.TheVariants as instruction
 use Rattle.rule_layout.specs.{Slots.slots_of, Slots.term_count, Slots.singleton_count, Layouts.instruction_of}
-use Rattle.cpu12_isa.specs.{declared.instr.Instr.Instr, Code.encode_of, Code.FitsOperands}
+use Rattle.cpu12_isa.specs.declared.instr.Instr.{Instr}
 use Rattle.cpu12_isa.specs.declared.instr.Instr.TheVariants.{LdaaImmediate, LdaaExtended, LdabImmediate, LdxImmediate}
 use Rattle.cpu12_isa.specs.declared.instr.Instr.TheVariants.{LdyImmediate, StaaExtended, StabExtended, ClrExtended}
 use Rattle.cpu12_isa.specs.declared.instr.Instr.TheVariants.{Coma, CpxImmediate, Beq, Bra, Andcc, Orcc, TransferXD}
@@ -16,15 +16,6 @@ use Rattle.cpu12_isa.specs.declared.instr.Instr.TheVariants.{TransferYD, Ediv, F
 use Rattle.eval_code.specs.declared.memory_map.MemoryMap.{MemoryMap}
 use Rattle.byte_scaling.specs.declared.{width.Width.Width, width.Width.TheVariants.Byte, width.Width.TheVariants.Word}
 use Rattle.byte_scaling.specs.Widths.{places}
-
--- the bytes of instructions one after another
-abbrev pub code_bytes : List Instr → List ℕ
-code_bytes code = flat_map encode_of code
-
--- instructions whose operands fit
-abbrev pub FitCode : List Instr → Type 0
-FitCode [] = Unit {0}
-FitCode (i ∷ is) = FitsOperands i × FitCode is
 
 -- the grades of each input's byte, of which the first stands at this address, under its terms' tables, one after
 -- another

@@ -7,7 +7,8 @@ use Rattle.cpu12_parts.specs.{State.State, Executions.all_steps, Touching.IsInOn
 use Rattle.eval_code.specs.{declared.memory_map.MemoryMap.MemoryMap, Widths.bytes_of, Widths.answer}
 use Rattle.eval_code.specs.Data.{table_bytes, singleton_bytes, weight_bytes, rule_bytes}
 use Rattle.byte_scaling.specs.{declared.width.Width.Width, Widths.places}
-use Rattle.eval_code.specs.{Bounds.instruction_bound, Bounds.step_bound, Code.code_bytes, Code.eval_code}
+use Rattle.cpu12_isa.specs.Code.{code_bytes}
+use Rattle.eval_code.specs.{Bounds.instruction_bound, Bounds.step_bound, Code.eval_code}
 use Rattle.eval_code.specs.{Items.IsApart, Firing.AreInputBytes, Frames.Frame, Frames.IsRunIn}
 
 -- what a memory map keeps for a block's evaluation: its code, and what that reads and writes

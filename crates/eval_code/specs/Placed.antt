@@ -3,15 +3,16 @@
 use Rattle.std.specs.Prelude.{◌≡◌, ◌≢◌, ℕ, ◌+◌, ◌^◌, ◌<◌, ◌≤◌, ◌⊎◌, List, ◌∷◌, ◌++◌, length, All, None}
 use Rattle.fuzzy_meaning.specs.{declared.block.Block.Block, Blocks.IsValid}
 use Rattle.rule_layout.specs.Layouts.{IsWithinLimits, weights_of}
-use Rattle.cpu12_isa.specs.{declared.instr.Instr.Instr, Agreement.AgreeBetween}
+use Rattle.cpu12_isa.specs.{declared.instr.Instr.Instr, Agreement.AgreeBetween, Code.code_bytes}
 use Rattle.cpu12_asm.specs.declared.{items.Item.Item, items.Item.TheVariants.Place}
 use Rattle.cpu12_asm.specs.{Bytes.byte_at, Bytes.Holds, Items.given_by, Items.IsRisingFrom, Items.IsRising}
+use Rattle.cpu12_asm.specs.Laws.{GiveBytes}
 use Rattle.cpu12_emul.specs.Image.{image_memory}
 use Rattle.eval_code.specs.declared.memory_map.MemoryMap.{MemoryMap}
 use Rattle.eval_code.specs.Data.{table_bytes, singleton_bytes, weight_bytes, rule_bytes}
 use Rattle.eval_code.specs.Evaluation.{HasBytes, HasEval, eval_bytes}
 use Rattle.byte_scaling.specs.declared.width.Width.{Width}
-use Rattle.eval_code.specs.{Code.code_bytes, Code.block_code, Items.block_items, Items.IsApart}
+use Rattle.eval_code.specs.{Code.block_code, Items.block_items, Items.IsApart}
 
 -- EVAL's bytes are so many at most
 abbrev pub eval_room : ℕ
@@ -77,10 +78,6 @@ abbrev pub GivesBehind : Type 0
 GivesBehind =
     (items behind : List Item) (at : ℕ)
     → given_by (items ++ (Place at ∷ behind)) ≡ given_by items ++ given_by (Place at ∷ behind)
-
--- bytes of memory
-abbrev pub GiveBytes : List (ℕ × ℕ) → Type 0
-GiveBytes given = All (λ p. p.1 < 2 ^ 8) given
 
 -- What they give are bytes, where those of the code around EVAL are.
 abbrev pub BlockGivesBytes : Type 0

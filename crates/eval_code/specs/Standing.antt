@@ -2,11 +2,12 @@
 -- Beside the promise.
 use Rattle.std.specs.Prelude.{◌≡◌, ℕ, ◌+◌, ◌^◌, ◌<◌, Ok, List, [], ◌∷◌, ◌++◌, map, length, All, slice_index}
 use Rattle.cpu12_isa.specs.declared.instr.Instr.{Instr}
-use Rattle.cpu12_isa.specs.{Code.encode_of, Code.decode_at, Code.FitsOperands, Fits.AreBytes}
-use Rattle.cpu12_asm.specs.{declared.items.Item.Item, Bytes.Holds, Items.given_by, Items.IsRising}
+use Rattle.cpu12_isa.specs.{Code.code_bytes, Code.encode_of, Code.decode_at, Code.FitCode, Code.FitsOperands}
+use Rattle.cpu12_isa.specs.Fits.{AreBytes}
+use Rattle.cpu12_asm.specs.{declared.items.Item.Item, Bytes.Holds, Items.given_by, Items.IsRising, Laws.GiveBytes}
 use Rattle.cpu12_asm.specs.declared.items.Item.TheVariants.{Place, Byte, Op}
 use Rattle.cpu12_emul.specs.Image.{image_memory}
-use Rattle.eval_code.specs.{Code.code_bytes, Code.FitCode, Evaluation.HasBytes, Placed.GiveBytes}
+use Rattle.eval_code.specs.Evaluation.{HasBytes}
 
 -- instructions one after another, each of which is there at its address
 abbrev pub StandsWhere : (ℕ → Instr → Type 0) → ℕ → List Instr → Type 0

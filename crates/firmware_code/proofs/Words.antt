@@ -15,12 +15,12 @@ pub use Rattle.byte_scaling.specs.{Widths.places, declared.width.Width.TheVarian
 pub use Rattle.byte_scaling.specs.{declared.width.Width.TheVariants.Word, declared.width.Width.Width}
 pub use Rattle.cpu12_asm.specs.{Bytes.Holds, Items.IsRising, Items.given_by, declared.items.Item.Item}
 pub use Rattle.cpu12_emul.specs.{Image.image_memory, Step.reset_with}
-pub use Rattle.cpu12_isa.specs.{Act.read_by, Agreement.AgreeFrom, Agreement.AllShown, Code.decode_at, Code.encode_of}
-pub use Rattle.cpu12_isa.specs.{Code.six_from, Flags.has, Meaning.act_of, Meaning.effect, Memory.plus}
-pub use Rattle.cpu12_isa.specs.{Regions.is_hidden, Regions.stack_end, declared.instr.Instr.Instr}
+pub use Rattle.cpu12_isa.specs.{Act.read_by, Agreement.AgreeFrom, Agreement.AllShown, Code.code_bytes, Code.decode_at}
+pub use Rattle.cpu12_isa.specs.{Code.encode_of, Code.six_from, Flags.has, Meaning.effect, Meaning.plain_act}
+pub use Rattle.cpu12_isa.specs.{Memory.plus, Regions.is_hidden, Regions.stack_end, declared.instr.Instr.Instr}
 pub use Rattle.cpu12_parts.specs.{Executions.Execution, Laws.addresses, State.State, Touching.Each}
 pub use Rattle.cpu12_parts.specs.{Whole.PlainExecution, Whole.after_plain, declared.temps.Temps.TheVariants.Free}
-pub use Rattle.eval_code.specs.{Code.code_bytes, Items.IsApart, Items.bytes_at, Placed.StandsBetween, Widths.bytes_of}
+pub use Rattle.eval_code.specs.{Items.IsApart, Items.bytes_at, Placed.StandsBetween, Widths.bytes_of}
 pub use Rattle.eval_code.specs.{declared.memory_map.MemoryMap.MemoryMap}
 pub use Rattle.firmware_code.specs.{Frames.start_code, Images.vector_items, Laws.LowerLaws}
 pub use Rattle.firmware_code.specs.{declared.firmware.Firmware.Firmware}

@@ -3,7 +3,7 @@
 use Rattle.std.specs.Prelude.{◌≡◌, ℕ, ◌+◌, ◌-◌, ◌^◌, ◌<◌, ◌≤◌, ◌⊎◌, true, false, List, [], ◌∷◌, length}
 use Rattle.std.specs.Prelude.{slice_index, slice_set}
 use Rattle.fuzzy_meaning.specs.{declared.block.Block.Block, Blocks.IsValid}
-use Rattle.cpu12_isa.specs.{declared.instr.Instr.Instr, Agreement.Agree, Memory.high_of, Memory.low_of}
+use Rattle.cpu12_isa.specs.{declared.instr.Instr.Instr, Agreement.Agree, Code.code_bytes, Memory.high_of, Memory.low_of}
 use Rattle.cpu12_isa.specs.Regions.{free_start, stack_end}
 use Rattle.cpu12_isa.specs.declared.instr.Instr.TheVariants.{LdsImmediate, ClrExtended, Andcc}
 use Rattle.cpu12_parts.specs.{Executions.Execution, Executions.all_steps, State.State}
@@ -11,7 +11,7 @@ use Rattle.cpu12_parts.specs.Whole.{after_plain, PlainExecution}
 use Rattle.cpu12_emul.specs.Step.{reset_with}
 use Rattle.eval_code.specs.declared.memory_map.MemoryMap.{MemoryMap}
 use Rattle.byte_scaling.specs.declared.width.Width.{Width}
-use Rattle.eval_code.specs.{Code.code_bytes, Data.bytes_of_word, Evaluation.HasBytes, Evaluation.HasAnswers}
+use Rattle.eval_code.specs.{Data.bytes_of_word, Evaluation.HasBytes, Evaluation.HasAnswers}
 use Rattle.eval_code.specs.Items.{IsApart}
 use Rattle.firmware_code.specs.{Code.frame_code, Interruptible.IsInterruptibleStep, Standing.HasFirmware}
 use Rattle.firmware_code.specs.Settings.{Setting, Live}

@@ -5,7 +5,7 @@ use Rattle.std.specs.Prelude.{slice_index}
 use Rattle.cpu12_isa.specs.declared.{instr.Instr.Instr, instr.Instr.TheVariants.Rev, instr.Instr.TheVariants.Revw}
 use Rattle.cpu12_isa.specs.{Act.read_by, Agreement.AgreeFrom, Agreement.AllShown, Agreement.Uncovers, Code.six_from}
 use Rattle.cpu12_isa.specs.{Fits.FitsRegs, Fits.AreBytes, Flags.has, Flags.interrupts_masked}
-use Rattle.cpu12_isa.specs.{Meaning.act_of, Meaning.effect, Memory.plus, Regions.is_hidden, Regions.stack_end}
+use Rattle.cpu12_isa.specs.{Meaning.effect, Meaning.plain_act, Memory.plus, Regions.is_hidden, Regions.stack_end}
 use Rattle.cpu12_parts.specs.{declared.temps.Temps.TheVariants.Free, State.State, Averages.wav_read, Laws.addresses}
 use Rattle.cpu12_parts.specs.{Touching.Each, Whole.IsPlainStep, Whole.IsRulesStep, Whole.IsAverageStep}
 use Rattle.cpu12_parts.specs.Rules.{Rule, RuleOperands, rev_operands, revw_operands, rules_read, rules_written}
@@ -39,7 +39,7 @@ IsInterruptible open_to = IsSteady open_to false
 -- more after it is written.
 pub record IsShownPlain (open_to : ℕ → Bool) (flags : ℕ) (i : Instr) (s t : State) : Type 0 where
   pub step : IsPlainStep flags i s t
-  pub reads : AllShown (is_hidden open_to s.regs.sp) (read_by (act_of flags i s.regs) s.mem)
+  pub reads : AllShown (is_hidden open_to s.regs.sp) (read_by (plain_act flags i s.regs) s.mem)
   pub writes : AllShown (is_hidden open_to (min s.regs.sp t.regs.sp)) (addresses (effect flags i s.regs s.mem).writes)
   pub uncovers : Uncovers (is_hidden open_to s.regs.sp)
       (effect flags i s.regs s.mem).writes (is_hidden open_to t.regs.sp)

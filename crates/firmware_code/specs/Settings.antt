@@ -5,15 +5,16 @@ use Rattle.std.specs.Prelude.{length, slice_index, All}
 use Rattle.cpu12_isa.specs.declared.instr.Instr.{Instr}
 use Rattle.cpu12_isa.specs.declared.instr.Instr.TheVariants.{JsrExtended, Rts}
 use Rattle.cpu12_isa.specs.{Act.read_by, Agreement.AgreeFrom, Agreement.AllShown, Code.encode_of, Code.decode_at}
-use Rattle.cpu12_isa.specs.{Code.FitsOperands, Fits.FitsRegs, Fits.AreBytes, Fits.StaysFit, Flags.has}
-use Rattle.cpu12_isa.specs.{Flags.interrupts_masked, Meaning.act_of, Meaning.effect, Meaning.is_plain, Memory.word_of}
+use Rattle.cpu12_isa.specs.{Code.code_bytes, Code.FitCode, Code.FitsOperands}
+use Rattle.cpu12_isa.specs.{Fits.FitsRegs, Fits.AreBytes, Fits.StaysFit, Flags.has, Flags.interrupts_masked}
+use Rattle.cpu12_isa.specs.{Meaning.effect, Meaning.is_plain, Meaning.plain_act, Memory.word_of}
 use Rattle.cpu12_isa.specs.Plain.{interrupt_masks, is_straight}
 use Rattle.cpu12_isa.specs.Regions.{free_start, stack_start, stack_end, is_hidden}
 use Rattle.cpu12_parts.specs.declared.temps.Temps.TheVariants.{Free}
 use Rattle.cpu12_parts.specs.{Laws.addresses, State.State, Touching.Each, Whole.after_plain}
 use Rattle.eval_code.specs.declared.memory_map.MemoryMap.{MemoryMap}
 use Rattle.eval_code.specs.Evaluation.{HasBytes, Reads, Writes}
-use Rattle.eval_code.specs.{Standing.DecodesWhereItStands, Standing.StandsWhere, Code.code_bytes, Code.FitCode}
+use Rattle.eval_code.specs.{Standing.DecodesWhereItStands, Standing.StandsWhere}
 use Rattle.firmware_code.specs.Arrivals.{given}
 use Rattle.firmware_code.specs.Interruptible.{is_idle, IsStackOfOneCall, IsInterruptible, IsInterruptibleStep}
 use Rattle.firmware_code.specs.Interruptible.{IsShownPlain}
@@ -106,7 +107,7 @@ pub record Next (c : Setting) (s t : State) (q : ℕ) : Type 0 where
 abbrev pub InstructionGoesOn : Type 0
 InstructionGoesOn =
     (c : Setting) (s : State) (p q : ℕ) (i : Instr) → Live c s → s.regs.pc ≡ p → Here c p i → is_plain i ≡ true
-    → AllShown (is_hidden c.open_to s.regs.sp) (read_by (act_of c.flags i s.regs) s.mem)
+    → AllShown (is_hidden c.open_to s.regs.sp) (read_by (plain_act c.flags i s.regs) s.mem)
     → Each (λ at. at < free_start) (addresses (effect c.flags i s.regs s.mem).writes)
     → AllShown c.open_to (addresses (effect c.flags i s.regs s.mem).writes)
     → (effect c.flags i s.regs s.mem).regs.sp ≡ s.regs.sp
@@ -124,7 +125,7 @@ abbrev pub MaskedGoesOn : Type 0
 MaskedGoesOn =
     (c : Setting) (masked later : Bool) (s : State) (p q : ℕ) (i : Instr) → Lives c.image masked s → s.regs.pc ≡ p
     → c.memory_map.code ≤ p → p + 6 ≤ c.memory_map.code + code_room → decode_at c.image p ≡ Ok i → is_plain i ≡ true
-    → FitsOperands i → AllShown (is_hidden c.open_to s.regs.sp) (read_by (act_of c.flags i s.regs) s.mem)
+    → FitsOperands i → AllShown (is_hidden c.open_to s.regs.sp) (read_by (plain_act c.flags i s.regs) s.mem)
     → Each (λ at. at < free_start) (addresses (effect c.flags i s.regs s.mem).writes)
     → AllShown c.open_to (addresses (effect c.flags i s.regs s.mem).writes)
     → (effect c.flags i s.regs s.mem).regs.sp ≡ s.regs.sp
@@ -141,7 +142,7 @@ CallGoesOn =
 abbrev pub StraightInstructionGoesOn : Type 0
 StraightInstructionGoesOn =
     (c : Setting) (s : State) (p : ℕ) (i : Instr) → Live c s → s.regs.pc ≡ p → Here c p i → is_straight i ≡ true
-    → AllShown (is_hidden c.open_to s.regs.sp) (read_by (act_of c.flags i s.regs) s.mem)
+    → AllShown (is_hidden c.open_to s.regs.sp) (read_by (plain_act c.flags i s.regs) s.mem)
     → Each (λ at. at < free_start) (addresses (effect c.flags i s.regs s.mem).writes)
     → AllShown c.open_to (addresses (effect c.flags i s.regs s.mem).writes)
     → Next c s (after_plain c.flags i s) (p + length (encode_of i))

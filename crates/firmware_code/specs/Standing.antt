@@ -4,12 +4,12 @@ use Rattle.std.specs.Prelude.{◌≡◌, ℕ, ◌+◌, ◌^◌, ◌<◌, ◌≤�
 use Rattle.fuzzy_meaning.specs.{declared.block.Block.Block, Blocks.IsValid}
 use Rattle.rule_layout.specs.Layouts.{IsWithinLimits}
 use Rattle.cpu12_isa.specs.declared.{instr.Instr.Instr, instr.Instr.TheVariants.Rts}
-use Rattle.cpu12_isa.specs.{Fits.AreBytes, Regions.vector}
+use Rattle.cpu12_isa.specs.{Code.code_bytes, Fits.AreBytes, Regions.vector}
 use Rattle.cpu12_asm.specs.{Bytes.Holds, Items.given_by}
 use Rattle.cpu12_emul.specs.Image.{image_memory}
 use Rattle.eval_code.specs.declared.memory_map.MemoryMap.{MemoryMap}
 use Rattle.byte_scaling.specs.declared.width.Width.{Width}
-use Rattle.eval_code.specs.{Code.code_bytes, Data.bytes_of_word, Evaluation.HasBytes, Items.IsApart}
+use Rattle.eval_code.specs.{Data.bytes_of_word, Evaluation.HasBytes, Items.IsApart}
 use Rattle.eval_code.specs.{Items.block_items, Placed.IsInOrder, Placed.StandsBetween}
 use Rattle.firmware_code.specs.{Calls.IsInCode, Calls.HasRoutine, Images.vector_items}
 

@@ -4,7 +4,7 @@ use Rattle.std.proofs.Common.{ap, ap₂, sym, ◌∙◌, subst, arith, inl, inr}
 use Rattle.std.proofs.lemmas.Bool.{Decides.nat_tests, true≢false}
 use Rattle.cpu12_isa.specs.declared.instr.Instr.{Instr, TheVariants.Rev, TheVariants.Revw, TheVariants.Wav}
 use Rattle.cpu12_isa.specs.{Act.read_by, Agreement.AllShown, Agreement.Uncovers, Code.six_from, Meaning.Effect}
-use Rattle.cpu12_isa.specs.{Meaning.act_of, Meaning.effect}
+use Rattle.cpu12_isa.specs.{Meaning.effect, Meaning.plain_act}
 use Rattle.cpu12_isa.specs.Regions.{stack_end, is_hidden}
 use Rattle.cpu12_isa.proofs.Algebra.{shown_append}
 use Rattle.cpu12_parts.specs.{declared.temps.Temps.Temps, Averages.wav_read, Laws.AreKept, Laws.addresses, State.State}
@@ -95,7 +95,7 @@ plain_step laws one open_to l image flags i s t busy c p =
         left = record { regs = e.regs; temps = s.temps; writes = e.writes; kind = Plain };
         goes = is.0;
         reads = subst (AllShown h) (sym is.1)
-            (shown_append h (six_from s.regs.pc) (read_by (act_of flags i s.regs) s.mem) c.code p.reads);
+            (shown_append h (six_from s.regs.pc) (read_by (plain_act flags i s.regs) s.mem) c.code p.reads);
         covers = subst (λ (u : State). Uncovers h e.writes (is_hidden open_to u.regs.sp)) step.after p.uncovers;
         room = record {
           size = c.size;

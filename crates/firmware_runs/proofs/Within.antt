@@ -5,7 +5,7 @@ use Rattle.std.proofs.lemmas.Bool.{Decides.nat_tests, or_parts}
 use Rattle.cpu12_isa.specs.declared.instr.Instr.{Instr, TheVariants.Rev, TheVariants.Revw, TheVariants.Wav}
 use Rattle.cpu12_isa.specs.{Act.read_by, Act.outcome, Agreement.AllShown, Code.decode_of, Code.decode_at}
 use Rattle.cpu12_isa.specs.{Code.six_from, Code.DecodedHasOpcode, Fits.FitsRegs, Fits.AreBytes, Flags.has}
-use Rattle.cpu12_isa.specs.{Flags.interrupts_masked, Memory.plus, Memory.bytes_at, Meaning.act_of, Meaning.Effect}
+use Rattle.cpu12_isa.specs.{Flags.interrupts_masked, Memory.plus, Memory.bytes_at, Meaning.Effect, Meaning.plain_act}
 use Rattle.cpu12_isa.specs.{Meaning.effect}
 use Rattle.cpu12_isa.specs.Regions.{is_hidden}
 use Rattle.cpu12_isa.proofs.Algebra.{shown_append}
@@ -15,6 +15,7 @@ use Rattle.cpu12_parts.specs.{State.State, State.Outcome, Inside.second_byte, La
 use Rattle.cpu12_parts.specs.{Averages.wav_read}
 use Rattle.cpu12_parts.specs.Laws.{PartsTo, Touches}
 use Rattle.cpu12_parts.specs.Fits.{FitsTemps, FitsOutcome, PartFits}
+use Rattle.cpu12_parts.proofs.Algebra.{off_fits}
 use Rattle.cpu12_parts.specs.Rules.{RuleOperands, Rule, rev_operands, revw_operands, rules_read, rules_written, rules_whole}
 use Rattle.cpu12_parts.specs.Touching.{Each, IsPlainOver, IsRulesOver, IsInstructionOver}
 use Rattle.cpu12_emul.specs.declared.ends.Stepped.TheVariants.{Plain, LastPart}
@@ -47,11 +48,7 @@ begun open_to hidden kept s c = let between = c.between in
       place = inl (refl, refl);
     }
 
--- sums that are off fit, and are ready
-off_fits : (t : Temps) → IsOff t → FitsTemps t
-off_fits t (inl e) = subst FitsTemps (sym e) tt
-off_fits t (inr e) = subst FitsTemps (sym e) tt
-
+-- sums that do not run are ready
 off_ready : (open_to : ℕ → Bool) (v : State) (t : Temps) → IsOff t → AreSumsReady open_to v t
 off_ready open_to v t (inl e) = subst (AreSumsReady open_to v) (sym e) tt
 off_ready open_to v t (inr e) = subst (AreSumsReady open_to v) (sym e) tt
@@ -280,8 +277,8 @@ plain_is laws open_to hidden kept flags i s t c p rises =
     (within laws.decoded_has_opcode open_to hidden kept flags s s left c (begun open_to hidden kept s c) is.0
     (omega (arith, same, rises))
     (subst (AllShown hidden) (sym is.1)
-    (shown_append hidden own (read_by (act_of flags i s.regs) s.mem) (all_shown hidden own c.code)
-    (all_shown hidden (read_by (act_of flags i s.regs) s.mem) p.reads)))
+    (shown_append hidden own (read_by (plain_act flags i s.regs) s.mem) (all_shown hidden own c.code)
+    (all_shown hidden (read_by (plain_act flags i s.regs) s.mem) p.reads)))
     (all_shown kept (addresses e.writes) p.writes))
     (ap (λ (o : Result Left ℕ). applied o s.mem) is.0 ∙ ap plainly (sym step.after))
   where

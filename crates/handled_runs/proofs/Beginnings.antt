@@ -3,11 +3,10 @@ use Rattle.std.proofs.Common.{◌≡◌, ◌≢◌, ℕ, ◌+◌, ◌*◌, ◌^�
 use Rattle.std.proofs.Common.{Some, None, List, [], ◌++◌, get_or, refl, ap, ap₂, sym, ◌∙◌, subst, arith, nat_cmp}
 use Rattle.std.specs.BTreeMap.{is_at}
 use Rattle.std.proofs.lemmas.Bool.{both_ways, cases_lt}
-use Rattle.std.proofs.lemmas.Bool.Decides.{nat_tests}
 use Rattle.std.proofs.lemmas.List.{get_or_past}
 use Rattle.cpu12_isa.specs.Agreement.{Agree}
 use Rattle.cpu12_asm.specs.Bytes.{byte_at}
-use Rattle.cpu12_asm.proofs.Algebra.{or_else, byte_at-append}
+use Rattle.cpu12_asm.proofs.Algebra.{or_else, byte_at-append, is_at-other}
 use Rattle.cpu12_parts.specs.State.{State}
 use Rattle.cpu12_emul.specs.Image.{byte_or_zero, image_memory, HoldsImage, ImagesLoadAlike}
 use Rattle.handler_check.specs.{Images.IsWhole, Running.HasImage}
@@ -44,15 +43,13 @@ code_leaves = record {
 }
 
 -- the joint image's bytes
-other : (p at : ℕ) → p ≢ at → is_at (nat_cmp at) p ≡ false
-other p at ne = grind (arith, nat_tests)
-
 behind_vector : (firmware handler : List (ℕ × ℕ)) (at : ℕ) → 65522 ≢ at → 65523 ≢ at
     → byte_at (joint_bytes firmware handler) at ≡ or_else (byte_at handler at) (byte_at firmware at)
 behind_vector firmware handler at a b =
     let rest = handler ++ firmware in
-    ap (λ (t : Bool). cond t (Some 64) (cond (is_at (nat_cmp at) 65523) (Some 0) (byte_at rest at))) (other 65522 at a)
-    ∙ ap (λ (t : Bool). cond t (Some 0) (byte_at rest at)) (other 65523 at b)
+    ap (λ (t : Bool). cond t (Some 64) (cond (is_at (nat_cmp at) 65523) (Some 0) (byte_at rest at)))
+    (is_at-other at 65522 (λ e. a (sym e)))
+    ∙ ap (λ (t : Bool). cond t (Some 0) (byte_at rest at)) (is_at-other at 65523 (λ e. b (sym e)))
     ∙ byte_at-append at handler firmware
 
 -- beside handlers with the same bytes it is the same memory

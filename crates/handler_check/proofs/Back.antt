@@ -1,13 +1,8 @@
 -- Steps up to an RTI, and the RTI.
-use Rattle.handler_check.proofs.Words.{◌<◌, ◌==◌, ◌^◌, ◌∙◌, ◌≡◌, ap, applied, arith, bit, bit_and_is, bit_or}
-use Rattle.handler_check.proofs.Words.{bit_or_is, Bool, Ccr, false, frame_bytes, get_or, IsOff, Left, List, Next}
-use Rattle.handler_check.proofs.Words.{next_of, Ok, Plain, plus, pulled, refl, Regs, Result, Returned, returned, Rti}
-use Rattle.handler_check.proofs.Words.{StandsAt, State, subst, suc, sym, true, until_rti, word_of, zero, ℕ}
-use Rattle.std.proofs.{Common.ap₂}
-use Rattle.cpu12_isa.specs.{Flags.pulled_flags}
-use Rattle.cpu12_isa.proofs.{Algebra.same_ccr}
+use Rattle.handler_check.proofs.Words.{◌<◌, ◌==◌, ◌∙◌, ◌≡◌, ap, applied, arith, Bool, false, get_or, IsOff, Left, Next}
+use Rattle.handler_check.proofs.Words.{next_of, Ok, Plain, refl, Result, Returned, returned, Rti, StandsAt, State}
+use Rattle.handler_check.proofs.Words.{subst, suc, sym, true, until_rti, zero, ℕ}
 use Rattle.handler_check.specs.{Running.then_back, Running.one_step}
-use Rattle.std.proofs.lemmas.Nat.{and_le_l}
 use Rattle.handler_check.proofs.Grounds.{Grounds}
 
 -- k steps lead from s to g, and none of them is an RTI
@@ -44,29 +39,3 @@ pub rti_steps : Grounds → (flags : ℕ) (s : State) → IsOff s.temps → Stan
 rti_steps k flags s off stands =
     let step = k.plain_is_step flags Rti s off (k.decodes s.mem s.regs.pc Rti tt stands) refl in
     ap (λ (o : Result Left ℕ). applied o s.mem) step.0
-
--- flags are pulled alike where X is the same
-pulls_alike : (c d : Ccr) (b : ℕ) → b < 2 ^ 8 → bit c.0 6 ≡ bit d.0 6 → pulled_flags c b ≡ pulled_flags d b
-pulls_alike c d b f x =
-    same_ccr (pulled_flags c b) (pulled_flags d b) (let h = and_le_l b (bit_or c.0 191) in omega arith)
-    (let h = and_le_l b (bit_or d.0 191) in omega arith) (simp (bit_or_is, bit_and_is, x))
-
-by : List ℕ → ℕ → Ccr → Regs
-by bytes sp c = record {
-  a = get_or bytes 2 0;
-  b = get_or bytes 1 0;
-  x = word_of (get_or bytes 3 0) (get_or bytes 4 0);
-  y = word_of (get_or bytes 5 0) (get_or bytes 6 0);
-  sp = plus sp 9;
-  pc = word_of (get_or bytes 7 0) (get_or bytes 8 0);
-  ccr = c;
-}
-
-pub pulled_alike : (r q s : Regs) (xs : List ℕ) → s.ccr.0 < 2 ^ 8 → xs ≡ frame_bytes s → r.sp ≡ q.sp
-    → bit r.ccr.0 6 ≡ bit q.ccr.0 6 → pulled r xs ≡ pulled q xs
-unfolding by
-pulled_alike r q s xs f e sp x =
-    let b : get_or xs 0 0 ≡ s.ccr.0 = ap (λ (l : List ℕ). get_or l 0 0) e in
-    let c : pulled_flags r.ccr (get_or xs 0 0) ≡ pulled_flags q.ccr (get_or xs 0 0) =
-    pulls_alike r.ccr q.ccr (get_or xs 0 0) (omega arith) x in
-    ap₂ (by xs) sp c

@@ -1,12 +1,11 @@
 -- Where the bytes of an image stand.
-use Rattle.handler_check.proofs.Words.{◌+◌, ◌-◌, ◌<◌, ◌^◌, ◌∙◌, ◌≡◌, ◌≤◌, AllFit, ap, AreFirsts}
-use Rattle.handler_check.proofs.Words.{arith, Backward, Bool, byte_at, cases_lt, code_end, Dead, decode_at}
-use Rattle.handler_check.proofs.Words.{DecodesEncoded, Empty, encode_of, Falls, false, false≢true, FitsOperands}
-use Rattle.handler_check.proofs.Words.{get_or, Gives, HandlerFault, HasCode, Height, inl, inr, Instr}
-use Rattle.handler_check.proofs.Words.{is_some, is_trapped, IsAt, IsCut, IsFault, IsFirstFault, IsOutside, IsSome}
-use Rattle.handler_check.proofs.Words.{IsWhole, length, List, Memory, nat_lt, nat_tests, None, NotFree, Ok}
-use Rattle.handler_check.proofs.Words.{Option, Outside, refl, Refused, size_of, Some, subst, sym, Target, Trap, true}
-use Rattle.handler_check.proofs.Words.{unwrap_or, ℕ}
+use Rattle.handler_check.proofs.Words.{◌+◌, ◌-◌, ◌<◌, ◌^◌, ◌∙◌, ◌≡◌, ◌≤◌, ap, AreFirsts, arith, Backward, Bool}
+use Rattle.handler_check.proofs.Words.{byte_at, cases_lt, code_end, Dead, decode_at, DecodesEncoded, Empty, encode_of}
+use Rattle.handler_check.proofs.Words.{Falls, false, false≢true, FitCode, FitsOperands, get_or, Gives, HandlerFault}
+use Rattle.handler_check.proofs.Words.{HasCode, Height, inl, inr, Instr, is_some, is_trapped, IsAt, IsCut, IsFault}
+use Rattle.handler_check.proofs.Words.{IsFirstFault, IsOutside, IsSome, IsWhole, length, List, Memory, nat_lt}
+use Rattle.handler_check.proofs.Words.{nat_tests, None, NotFree, Ok, Option, Outside, refl, Refused, size_of, Some}
+use Rattle.handler_check.proofs.Words.{subst, sym, Target, Trap, true, unwrap_or, ℕ}
 use Rattle.handler_check.specs.{Images.IsRun}
 use Rattle.handler_check.proofs.{Decoding.size_low, Places.within}
 use Rattle.handler_check.proofs.Given.{HasBytes, gives_get, gives_all, given_by, one_given}
@@ -50,7 +49,7 @@ has_bytes image end m old r w at b e =
 -- the cut of its bytes
 cut_is : DecodesEncoded
     → (image : List (ℕ × ℕ)) (end : ℕ) (m : List ℕ) (is : List Instr) (trapped : Bool) (firsts : List Bool)
-    → IsRun image end → HasBytes image m → AllFit is → HasCode is m → AreFirsts is trapped firsts
+    → IsRun image end → HasBytes image m → FitCode is → HasCode is m → AreFirsts is trapped firsts
     → 16384 + length firsts ≡ end
     → (trapped ≡ true → (i : Instr) → decode_at m (code_end is) ≡ Ok i → end < code_end is + size_of i) → IsCut image is
 cut_is decodes image end m is trapped firsts r h fits code t size stops =
@@ -108,7 +107,7 @@ trapped_is image end is trapped firsts r t size = elim (cases_lt (code_end is) e
 pub cut_parts : DecodesEncoded → (m old : List ℕ)
     → {image : List (ℕ × ℕ)} {end : ℕ} {is : List Instr} {trapped : Bool} {firsts : List Bool}
     → IsRun image end → ((at : ℕ) → at < 2 ^ 16 → get_or m at 0 ≡ unwrap_or (byte_at image at) (get_or old at 0))
-    → AllFit is → HasCode is m → AreFirsts is trapped firsts → 16384 + length firsts ≡ end
+    → FitCode is → HasCode is m → AreFirsts is trapped firsts → 16384 + length firsts ≡ end
     → (trapped ≡ true → (i : Instr) → decode_at m (code_end is) ≡ Ok i → end < code_end is + size_of i)
     → IsWhole image × IsCut image is × (is_trapped image is ≡ trapped)
 cut_parts decodes m old {image} {end} {is} {trapped} {firsts} r writes fits code t size stops = (

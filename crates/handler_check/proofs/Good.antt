@@ -5,14 +5,14 @@ use Rattle.handler_check.proofs.Words.{frame_bytes, framed, get_or, HasCode, Has
 use Rattle.handler_check.proofs.Words.{IsOff, IsWritten, length, List, nat_le, nat_lt, nat_tests, Next, pairs_of}
 use Rattle.handler_check.proofs.Words.{placed, Plain, plus, pulled, refl, Regs, Returned, returned, State, step_limit}
 use Rattle.handler_check.proofs.Words.{subst, suc, sym, true, until_rti, word_of, Write, zero, ℕ}
-use Rattle.cpu12_isa.proofs.Algebra.{agree_self, read_placed, bytes_unwritten, same_bytes}
+use Rattle.cpu12_isa.proofs.Algebra.{agree_self, read_placed, bytes_unwritten, pulled_alike, same_bytes}
 use Rattle.std.proofs.{Common.lit≤}
 use Rattle.cpu12_isa.specs.{Memory.from, Regions.LeavesStack, Agreement.AllShown}
 use Rattle.cpu12_emul.specs.{Simulation.Same, Take.pushed, Take.written}
 use Rattle.handler_check.proofs.{Grounds.Grounds, Running.Stage, Running.arrives, Shortness.accepted_is_short}
 use Rattle.handler_check.proofs.Bytes.{under, AllFine, free_is, stays, code_stays, open_fine, write_append}
 use Rattle.handler_check.proofs.Bytes.{open_append}
-use Rattle.handler_check.proofs.Back.{back_in, rti_steps, pulled_alike}
+use Rattle.handler_check.proofs.Back.{back_in, rti_steps}
 
 pub leaves : LeavesStack is_free
 leaves at h = let r = free_is at h in inl r.1

@@ -1,12 +1,12 @@
 -- The instructions of a cut are accepted or have a first fault.
-use Rattle.handler_check.proofs.Words.{[], ◌+◌, ◌<◌, ◌∙◌, ◌∷◌, ◌≡◌, ◌≤◌, ◌⊎◌, AllFit, AreJudged, arith, Backward, Bool}
+use Rattle.handler_check.proofs.Words.{[], ◌+◌, ◌<◌, ◌∙◌, ◌∷◌, ◌≡◌, ◌≤◌, ◌⊎◌, AreJudged, arith, Backward, Bool}
 use Rattle.handler_check.proofs.Words.{Branches, branches_to, cases_eq, cases_lt, code_end, Dead, Falls, falls_to}
-use Rattle.handler_check.proofs.Words.{false, false≢true, Fits, get_or, HandlerFault, Height, height_after, inl, inr}
-use Rattle.handler_check.proofs.Words.{Instr, is_allowed, is_free, IsAccepted, IsAt, IsFirst, IsFirstFault, IsForward}
-use Rattle.handler_check.proofs.Words.{IsFrom, IsIn, IsSummary, Jumps, Kind, kind_of, LdaaImmediate, leads, led_all}
-use Rattle.handler_check.proofs.Words.{length, List, None, NotFree, Option, Passes, PathSummary, Pulls, Pushes, refl}
-use Rattle.handler_check.proofs.Words.{Refused, Returns, Rti, size_of, Some, subst, suc, sym, take, Target, Trap, true}
-use Rattle.handler_check.proofs.Words.{written_by, zero, ℕ}
+use Rattle.handler_check.proofs.Words.{false, false≢true, FitCode, Fits, get_or, HandlerFault, Height, height_after}
+use Rattle.handler_check.proofs.Words.{inl, inr, Instr, is_allowed, is_free, IsAccepted, IsAt, IsFirst, IsFirstFault}
+use Rattle.handler_check.proofs.Words.{IsForward, IsFrom, IsIn, IsSummary, Jumps, Kind, kind_of, LdaaImmediate, leads}
+use Rattle.handler_check.proofs.Words.{led_all, length, List, None, NotFree, Option, Passes, PathSummary, Pulls}
+use Rattle.handler_check.proofs.Words.{Pushes, refl, Refused, Returns, Rti, size_of, Some, subst, suc, sym, take}
+use Rattle.handler_check.proofs.Words.{Target, Trap, true, written_by, zero, ℕ}
 use Rattle.std.specs.Prelude.{MatchOption}
 use Rattle.handler_check.specs.{Judging.Fails}
 use Rattle.handler_check.proofs.{Marking.mark_on, Marking.mark_first, Marking.accepted_of, FirstFaults.fails_first}
@@ -300,7 +300,8 @@ module _ (is : List Instr) (trapped : Bool) where
   abbrev IsJudged : Type 0
   IsJudged = ((trapped ≡ false) × ((instrs : ℕ) × IsAccepted is instrs)) ⊎ IsFaulty
 
-  ended : AllFit is → code_end is ≤ 20480 → (trapped ≡ false → 16384 < code_end is) → IsReached (code_end is) → IsJudged
+  ended : FitCode is → code_end is ≤ 20480 → (trapped ≡ false → 16384 < code_end is) → IsReached (code_end is)
+      → IsJudged
   ended fits few some r = by_trap trapped refl
     where
       by_summary : trapped ≡ true → (o : Option PathSummary) → r.summaries (code_end is) ≡ o → IsFaulty
@@ -331,7 +332,7 @@ module _ (is : List Instr) (trapped : Bool) where
             ),
           )
 
-  pub code_judged : AllFit is → code_end is ≤ 20480 → (trapped ≡ false → 16384 < code_end is) → IsJudged
+  pub code_judged : FitCode is → code_end is ≤ 20480 → (trapped ≡ false → 16384 < code_end is) → IsJudged
   code_judged fits few some = elim (reached (length is) (omega arith)) [
     | inr faulty ↦ inr faulty
     | inl r ↦ ended fits few some

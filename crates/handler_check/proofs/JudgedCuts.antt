@@ -1,9 +1,8 @@
 -- The bytes of an image have a cut.
-use Rattle.handler_check.proofs.Words.{[], ◌++◌, ◌+◌, ◌-◌, ◌<◌, ◌^◌, ◌∙◌, ◌∷◌, ◌≡◌, ◌≤◌, ◌⊎◌, AllFit, ap, arith}
-use Rattle.handler_check.proofs.Words.{byte_at, cases_eq, cases_lt, code_bytes, code_end, decode_at, DecodesEncoded}
-use Rattle.handler_check.proofs.Words.{encode_of, FitsOperands, get_or, Gives, inl, inr, Instr, IsCut, List}
-use Rattle.handler_check.proofs.Words.{None, Ok, Option, refl, Result, size_of, Some, subst, suc, sym}
-use Rattle.handler_check.proofs.Words.{unwrap_or, zero, ℕ}
+use Rattle.handler_check.proofs.Words.{[], ◌++◌, ◌+◌, ◌-◌, ◌<◌, ◌^◌, ◌∙◌, ◌∷◌, ◌≡◌, ◌≤◌, ◌⊎◌, ap, arith, byte_at}
+use Rattle.handler_check.proofs.Words.{cases_eq, cases_lt, code_bytes, code_end, decode_at, DecodesEncoded, encode_of}
+use Rattle.handler_check.proofs.Words.{FitCode, FitsOperands, get_or, Gives, inl, inr, Instr, IsCut, List, None, Ok}
+use Rattle.handler_check.proofs.Words.{Option, refl, Result, size_of, Some, subst, suc, sym, unwrap_or, zero, ℕ}
 use Rattle.std.specs.Prelude.{Err}
 use Rattle.std.proofs.Common.{append_assoc}
 use Rattle.std.proofs.lemmas.List.{append-nil}
@@ -103,11 +102,11 @@ module _ (decodes : DecodesEncoded) (image : List (ℕ × ℕ)) (m : List ℕ) (
     one_more : (is : List Instr) (i : Instr) → code_end (is ++ i ∷ []) ≡ code_end is + size_of i
     one_more is i = let more = bytes-push is i in omega (arith, more)
 
-    whole : (is : List Instr) → AllFit is → Gives image 16384 (code_bytes is) → code_end is ≤ end
+    whole : (is : List Instr) → FitCode is → Gives image 16384 (code_bytes is) → code_end is ≤ end
         → (StandsThere image (code_end is) → ⊥) → HasCut
     whole is fits gives l none = (is, (record { fits = fits; stands = gives; ends = λ i f g. none (i, (f, g)) }, l))
 
-    cut_from : (room : ℕ) (is : List Instr) → AllFit is → Gives image 16384 (code_bytes is) → code_end is ≤ end
+    cut_from : (room : ℕ) (is : List Instr) → FitCode is → Gives image 16384 (code_bytes is) → code_end is ≤ end
         → end ≤ code_end is + room → HasCut
     cut_from zero is fits gives l few = whole is fits gives l (none_behind is (omega (arith, few)))
     cut_from (suc room) is fits gives l few = elim (cases_lt (code_end is) end) [

@@ -1,8 +1,8 @@
 -- Judged place by place, code is accepted.
-use Rattle.handler_check.proofs.Words.{[], ◌++◌, ◌+◌, ◌<◌, ◌∙◌, ◌∷◌, ◌≡◌, ◌≤◌, ◌⊎◌, AllFit, ap, AreJudged, arith, Bool}
-use Rattle.handler_check.proofs.Words.{branches_to, code_bytes, code_end, falls, falls_to, false, false≢true, given}
-use Rattle.handler_check.proofs.Words.{Has, height_after, inl, inr, Instr, IsAccepted, IsAt, IsFirst, IsForward, IsIn}
-use Rattle.handler_check.proofs.Words.{IsSummary, Jumps, Kind, kind_of, leads, led_all, length, List, May, None}
+use Rattle.handler_check.proofs.Words.{[], ◌++◌, ◌+◌, ◌<◌, ◌∙◌, ◌∷◌, ◌≡◌, ◌≤◌, ◌⊎◌, ap, AreJudged, arith, Bool}
+use Rattle.handler_check.proofs.Words.{branches_to, code_bytes, code_end, falls, falls_to, false, false≢true, FitCode}
+use Rattle.handler_check.proofs.Words.{given, Has, height_after, inl, inr, Instr, IsAccepted, IsAt, IsFirst, IsForward}
+use Rattle.handler_check.proofs.Words.{IsIn, IsSummary, Jumps, Kind, kind_of, leads, led_all, length, List, May, None}
 use Rattle.handler_check.proofs.Words.{Option, Passes, Path, PathSummary, refl, Returns, Rti, size_of, Some, subst}
 use Rattle.handler_check.proofs.Words.{suc, sym, targets, true, zero, ℕ}
 use Rattle.std.specs.Prelude.{MatchOption}
@@ -264,7 +264,7 @@ longest_of : (is : List Instr) (best : ℕ) → 0 < best
 longest_of is best l (inl e) = absurd (omega arith)
 longest_of is best l (inr r) = r
 
-pub accepted_of : (is : List Instr) (best : ℕ) (summaries : ℕ → Option PathSummary) → AllFit is → code_end is ≤ 20480
+pub accepted_of : (is : List Instr) (best : ℕ) (summaries : ℕ → Option PathSummary) → FitCode is → code_end is ≤ 20480
     → ((i : Instr) × IsAt is 16384 i) → AreJudged is false (code_end is) best summaries → IsAccepted is best
 accepted_of is best summaries fits ends start m = record {
   fits = fits;

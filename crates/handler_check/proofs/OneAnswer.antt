@@ -1,7 +1,7 @@
 -- An image is a handler with one count, or has one first fault.
-use Rattle.handler_check.proofs.Words.{[], ◌+◌, ◌<◌, ◌∙◌, ◌∷◌, ◌≡◌, ◌≤◌, ◌⊎◌, AllFit, ap, Applies, arith, Backward}
-use Rattle.handler_check.proofs.Words.{Bool, Branches, branches_to, byte_at, cases_lt, code_bytes, code_end, Dead}
-use Rattle.handler_check.proofs.Words.{decode_at, DecodesEncoded, Empty, encode_of, Falls, false, FitsOperands, get_or}
+use Rattle.handler_check.proofs.Words.{[], ◌+◌, ◌<◌, ◌∙◌, ◌∷◌, ◌≡◌, ◌≤◌, ◌⊎◌, ap, Applies, arith, Backward, Bool}
+use Rattle.handler_check.proofs.Words.{Branches, branches_to, byte_at, cases_lt, code_bytes, code_end, Dead, decode_at}
+use Rattle.handler_check.proofs.Words.{DecodesEncoded, Empty, encode_of, Falls, false, FitCode, FitsOperands, get_or}
 use Rattle.handler_check.proofs.Words.{given, Gives, HandlerFault, Height, if◌then◌else◌, inl, inr, Instr, is_some}
 use Rattle.handler_check.proofs.Words.{is_trapped, IsAt, IsCut, IsFault, IsFirstFault, IsHandler, IsIn, IsOutside}
 use Rattle.handler_check.proofs.Words.{IsSome, IsWhole, Jumps, Kind, kind_of, length, length-append, List, Memory}
@@ -78,7 +78,7 @@ same_instr decodes holds image w at i j fi fj gi gj =
     (one_given decodes image (image_memory image) at j (held holds image w) l fj gj)
 
 record Cuts (image : List (ℕ × ℕ)) (start : ℕ) (is : List Instr) : Type 0 where
-  fits : AllFit is
+  fits : FitCode is
   stands : Gives image start (code_bytes is)
   ends : (i : Instr) → FitsOperands i → Gives image (start + length (code_bytes is)) (encode_of i) → ⊥
 

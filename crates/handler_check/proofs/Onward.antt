@@ -1,6 +1,6 @@
 -- What is needed where one instruction is judged.
-use Rattle.handler_check.proofs.Words.{[], ◌+◌, ◌-◌, ◌<◌, ◌∙◌, ◌∷◌, ◌≡◌, ◌≤◌, AllFit, ap, AreFirsts, AreJudged, arith}
-use Rattle.handler_check.proofs.Words.{Bool, branches_to, code_end, Dead, falls, falls_to, false, get_or, given}
+use Rattle.handler_check.proofs.Words.{[], ◌+◌, ◌-◌, ◌<◌, ◌∙◌, ◌∷◌, ◌≡◌, ◌≤◌, ap, AreFirsts, AreJudged, arith, Bool}
+use Rattle.handler_check.proofs.Words.{branches_to, code_end, Dead, falls, falls_to, false, FitCode, get_or, given}
 use Rattle.handler_check.proofs.Words.{HandlerFault, if◌then◌else◌, inl, inr, Instr, IsAccepted, IsAt, IsFirst}
 use Rattle.handler_check.proofs.Words.{IsFirstFault, IsIn, Kind, kind_of, LdaaImmediate, leads, led_all, length, List}
 use Rattle.handler_check.proofs.Words.{nat_le, nat_lt, nat_tests, None, Option, PathSummary, refl, replicate, Returns}
@@ -106,7 +106,7 @@ some_code (i ∷ is) l = omega arith
 
 pub accepted_end : (is : List Instr) (trapped : Bool) (firsts : List Bool) (best : ℕ)
     (summaries : ℕ → Option PathSummary) (at : ℕ)
-    → AreFirsts is trapped firsts → 0 < length firsts → AllFit is → trapped ≡ false → at ≡ code_end is
+    → AreFirsts is trapped firsts → 0 < length firsts → FitCode is → trapped ≡ false → at ≡ code_end is
     → AreJudged is trapped at best summaries
     → IsAccepted is best
 accepted_end is trapped firsts best summaries at t some fits e here m =

@@ -1,6 +1,6 @@
 -- Where the instructions of a list stand.
-use Rattle.handler_check.proofs.Words.{[], ◌++◌, ◌+◌, ◌<◌, ◌∙◌, ◌∷◌, ◌≡◌, ◌≤◌, ◌⊎◌, AllFit, ap, arith, code_bytes}
-use Rattle.handler_check.proofs.Words.{code_end, encode_of, FitsOperands, get_or, HasCode, inl, inr, Instr, IsAt}
+use Rattle.handler_check.proofs.Words.{[], ◌++◌, ◌+◌, ◌<◌, ◌∙◌, ◌∷◌, ◌≡◌, ◌≤◌, ◌⊎◌, ap, arith, code_bytes, code_end}
+use Rattle.handler_check.proofs.Words.{encode_of, FitCode, FitsOperands, get_or, HasCode, inl, inr, Instr, IsAt}
 use Rattle.handler_check.proofs.Words.{IsFrom, length, length-append, List, refl, size_of, StandsAt, subst, suc, sym}
 use Rattle.handler_check.proofs.Words.{take, zero, ℕ}
 use Rattle.handler_check.proofs.Decoding.{size_low}
@@ -129,7 +129,7 @@ bytes-push (j ∷ is) i =
     let r = bytes-push is i in
     omega (arith, a, b, r)
 
-pub fits-push : (is : List Instr) (i : Instr) → AllFit is → FitsOperands i → AllFit (is ++ i ∷ [])
+pub fits-push : (is : List Instr) (i : Instr) → FitCode is → FitsOperands i → FitCode (is ++ i ∷ [])
 fits-push [] i f g = (g, tt)
 fits-push (j ∷ is) i f g = (f.0, fits-push is i f.1 g)
 

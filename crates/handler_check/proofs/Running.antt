@@ -1,10 +1,10 @@
 -- An accepted handler runs to its RTI.
-use Rattle.handler_check.proofs.Words.{[], ◌++◌, ◌+◌, ◌<◌, ◌==◌, ◌∙◌, ◌∷◌, ◌≡◌, ◌≤◌, Agree, AllFit, ap, applied}
-use Rattle.handler_check.proofs.Words.{AreOpen, arith, bit, Bool, code_bytes, effect, false, false≢true, FitsHeight}
+use Rattle.handler_check.proofs.Words.{[], ◌++◌, ◌+◌, ◌<◌, ◌==◌, ◌∙◌, ◌∷◌, ◌≡◌, ◌≤◌, Agree, ap, applied, AreOpen}
+use Rattle.handler_check.proofs.Words.{arith, bit, Bool, code_bytes, effect, false, false≢true, FitCode, FitsHeight}
 use Rattle.handler_check.proofs.Words.{FitsOperands, get_or, HasCode, height_after, inl, inr, Instr, is_free}
-use Rattle.handler_check.proofs.Words.{IsAccepted, IsAt, IsFrom, IsIn, IsOff, LdaaImmediate, leads, Left, length}
-use Rattle.handler_check.proofs.Words.{List, May, Next, next_of, Ok, pairs_of, Path, Plain, Psha, Pula, refl, Result}
-use Rattle.handler_check.proofs.Words.{Rti, size_of, StandsAt, State, subst, suc, sym, Temps, true, Write, write_all}
+use Rattle.handler_check.proofs.Words.{IsAccepted, IsAt, IsFrom, IsIn, IsOff, LdaaImmediate, leads, Left, length, List}
+use Rattle.handler_check.proofs.Words.{May, Next, next_of, Ok, pairs_of, Path, Plain, Psha, Pula, refl, Result, Rti}
+use Rattle.handler_check.proofs.Words.{size_of, StandsAt, State, subst, suc, sym, Temps, true, Write, write_all}
 use Rattle.handler_check.proofs.Words.{written_by, zero, ℕ}
 use Rattle.std.proofs.Common.{rules}
 use Rattle.cpu12_isa.specs.declared.{instr.Regs.Regs, instr.Instr.TheVariants.JsrExtended, instr.Instr.TheVariants.Mem}
@@ -39,7 +39,7 @@ pub record Arrives (is : List Instr) (flags base : ℕ) (t : Temps) (x : Bool) (
   pub free : AreOpen is_free writes
   pub mem : Agree (under base) last.mem (write_all (pairs_of writes) m)
 
-fits_at : (start : ℕ) (is : List Instr) (at : ℕ) (i : Instr) → AllFit is → IsFrom start is at i → FitsOperands i
+fits_at : (start : ℕ) (is : List Instr) (at : ℕ) (i : Instr) → FitCode is → IsFrom start is at i → FitsOperands i
 fits_at start [] at i f w = absurd w
 fits_at start (j ∷ js) at i f w =
     elim w [ inl e ↦ subst FitsOperands (sym e.1) f.0 | inr k ↦ fits_at (start + size_of j) js at i f.1 k ]

@@ -1,12 +1,12 @@
 -- The names that most proofs of this crate cite, passed on from one place.
 pub use Rattle.cpu12_emul.specs.Step.{Left, Next, applied, next_of}
-pub use Rattle.cpu12_isa.proofs.Algebra.{bit, bit_and_is, bit_or_is, unwritten}
-pub use Rattle.cpu12_isa.specs.Code.{Begins, DecodesEncoded, FitsOperands, StandsAt, decode_at, encode_of, six_from}
+pub use Rattle.cpu12_isa.proofs.Algebra.{bit, unwritten}
+pub use Rattle.cpu12_isa.specs.Code.{Begins, DecodesEncoded, FitCode, FitsOperands, StandsAt, code_bytes, decode_at}
+pub use Rattle.cpu12_isa.specs.Code.{encode_of, six_from}
 pub use Rattle.cpu12_isa.specs.Memory.{bytes_at, placed, plus, word_of}
 pub use Rattle.cpu12_isa.specs.declared.instr.Instr.TheVariants.{Bcc, Bcs, Beq, Bne, Bra}
 pub use Rattle.cpu12_isa.specs.declared.instr.Instr.TheVariants.{LdaaImmediate, Psha, Pula, Rti}
-pub use Rattle.handler_check.specs.Cut.{AllFit, HasCode, IsAt, IsFrom, code_bytes, code_end, code_limit, code_start}
-pub use Rattle.handler_check.specs.Cut.{size_of}
+pub use Rattle.handler_check.specs.Cut.{HasCode, IsAt, IsFrom, code_end, code_limit, code_start, size_of}
 pub use Rattle.handler_check.specs.Faults.{Applies, IsFirst, IsFirstFault, Meets, place_of, rank}
 pub use Rattle.handler_check.specs.Images.{Gives, IsCut, IsFault, IsHandler, IsOutside, IsWhole, is_trapped}
 pub use Rattle.handler_check.specs.Judging.{AreFirsts, AreJudged, Has, Passes}
@@ -19,7 +19,7 @@ pub use Rattle.handler_check.specs.Running.{at_code, step_limit}
 pub use Rattle.handler_check.specs.declared.faults.HandlerFault.TheVariants.{Backward, Dead, Empty, Falls, Height}
 pub use Rattle.handler_check.specs.declared.faults.HandlerFault.TheVariants.{Memory, NotFree, Outside, Refused}
 pub use Rattle.handler_check.specs.declared.faults.HandlerFault.TheVariants.{Target, Trap}
-pub use Rattle.std.proofs.Common.{Bool, List, None, Ok, Option, Result, Some, [], ap, arith, bit_or, false, get_or}
+pub use Rattle.std.proofs.Common.{Bool, List, None, Ok, Option, Result, Some, [], ap, arith, false, get_or}
 pub use Rattle.std.proofs.Common.{inl, inr, length, length-append, nat_le, nat_lt, refl, replicate, subst, suc, sym}
 pub use Rattle.std.proofs.Common.{take, true, unwrap_or, zero, ℕ, ◌%◌, ◌&&◌, ◌++◌, ◌+◌, ◌-◌, ◌<◌, ◌^◌, ◌||◌, ◌∙◌, ◌∷◌}
 pub use Rattle.std.proofs.Common.{◌≡◌, ◌≢◌, ◌≤◌, ◌⊎◌}
@@ -30,7 +30,7 @@ pub use Rattle.cpu12_emul.specs.{Simulation.AreOpen, Simulation.TakesQuietly, Ta
 pub use Rattle.cpu12_emul.specs.{Take.returned, declared.ends.Stepped.TheVariants.Plain}
 pub use Rattle.cpu12_isa.specs.{Act.write_all, Agreement.Agree, Agreement.IsWritten, Agreement.WritesAgree}
 pub use Rattle.cpu12_isa.specs.{Meaning.effect, Regions.is_free, Regions.is_hidden}
-pub use Rattle.cpu12_isa.specs.{Registers.frame_bytes, Registers.pulled, declared.instr.Ccr.Ccr}
+pub use Rattle.cpu12_isa.specs.{Registers.frame_bytes, Registers.pulled}
 pub use Rattle.cpu12_isa.specs.{declared.instr.Instr.Instr, declared.instr.Regs.Regs, declared.instr.Write.Write}
 pub use Rattle.cpu12_parts.specs.{Laws.IsOff, Laws.addresses, State.State, declared.temps.Temps.Temps}
 pub use Rattle.handler_check.specs.{Accepted.IsAccepted, Accepted.May, PathSummaries.IsSummary, PathSummaries.led_all}

@@ -1,7 +1,7 @@
 -- The bytes of a handler, cut into instructions one after the other.
 -- Beside the promise.
-use Rattle.std.specs.Prelude.{◌≡◌, ℕ, ◌+◌, ◌⊎◌, List, [], ◌∷◌, ◌++◌, length}
-use Rattle.cpu12_isa.specs.{declared.instr.Instr.Instr, Code.encode_of, Code.FitsOperands, Code.StandsAt}
+use Rattle.std.specs.Prelude.{◌≡◌, ℕ, ◌+◌, ◌⊎◌, List, [], ◌∷◌, length}
+use Rattle.cpu12_isa.specs.{declared.instr.Instr.Instr, Code.code_bytes, Code.encode_of, Code.StandsAt}
 
 -- the first address of a handler, and the one behind the last that it may have
 abbrev pub code_start : ℕ
@@ -13,17 +13,9 @@ code_limit = 0x5000
 abbrev pub size_of : Instr → ℕ
 size_of i = length (encode_of i)
 
-abbrev pub code_bytes : List Instr → List ℕ
-code_bytes [] = []
-code_bytes (i ∷ is) = encode_of i ++ code_bytes is
-
 -- the place behind instructions that stand from $4000 on
 abbrev pub code_end : List Instr → ℕ
 code_end is = code_start + length (code_bytes is)
-
-abbrev pub AllFit : List Instr → Type 0
-AllFit [] = Unit {0}
-AllFit (i ∷ is) = FitsOperands i × AllFit is
 
 -- i stands at a place, where these instructions stand one after the other from another place on
 abbrev pub IsFrom : ℕ → List Instr → ℕ → Instr → Type 0

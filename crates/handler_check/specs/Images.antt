@@ -1,11 +1,12 @@
 -- The handler of an image, or its first fault.
 -- Beside the promise.
 use Rattle.std.specs.Prelude.{◌≡◌, ℕ, ◌+◌, ◌<◌, ◌≤◌, ◌⊎◌, Bool, false, Some, None, is_some, IsSome, List, [], ◌∷◌}
-use Rattle.cpu12_isa.specs.{Code.encode_of, Code.FitsOperands, declared.instr.Instr.Instr}
+use Rattle.cpu12_isa.specs.{Code.code_bytes, Code.encode_of, Code.FitCode, Code.FitsOperands}
+use Rattle.cpu12_isa.specs.declared.instr.Instr.{Instr}
 use Rattle.cpu12_asm.specs.Bytes.{byte_at}
 use Rattle.handler_check.specs.{declared.faults.HandlerFault.HandlerFault, Accepted.IsAccepted, Faults.IsFirstFault}
 use Rattle.handler_check.specs.declared.faults.HandlerFault.TheVariants.{Empty, Outside, Memory}
-use Rattle.handler_check.specs.Cut.{code_start, code_limit, code_bytes, code_end, AllFit}
+use Rattle.handler_check.specs.Cut.{code_start, code_limit, code_end}
 
 -- an image gives these bytes, one after the other from a place on
 abbrev pub Gives : List (ℕ × ℕ) → ℕ → List ℕ → Type 0
@@ -14,7 +15,7 @@ Gives image at (v ∷ vs) = (byte_at image at ≡ Some v) × Gives image (at + 1
 
 -- The cut of an image's bytes from $4000 on: instructions one after the other, behind which none stands whole.
 pub record IsCut (image : List (ℕ × ℕ)) (is : List Instr) : Type 0 where
-  pub fits : AllFit is
+  pub fits : FitCode is
   pub stands : Gives image code_start (code_bytes is)
   pub ends : (i : Instr) → FitsOperands i → Gives image (code_end is) (encode_of i) → ⊥
 

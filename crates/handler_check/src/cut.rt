@@ -1,8 +1,9 @@
 //! The bytes of a handler as instructions.
 ghost use Rattle.std.specs.Prelude.{◌≡◌, ◌≤◌, ◌<◌, ◌+◌, ◌-◌, ℕ, List, true, false, Ok, IfOk, IfSome, IfNone, length};
 ghost use Rattle.std.specs.Prelude.{slice_get, unwrap_or};
-ghost use Rattle.cpu12_isa.specs.{declared.instr.Instr.Instr, Code.FitsOperands, Code.StandsAt, Code.decode_at};
-ghost use Rattle.handler_check.specs.Cut.{code_start, code_limit, code_end, size_of, AllFit, HasCode};
+ghost use Rattle.cpu12_isa.specs.declared.instr.Instr.{Instr};
+ghost use Rattle.cpu12_isa.specs.Code.{FitCode, FitsOperands, StandsAt, decode_at};
+ghost use Rattle.handler_check.specs.Cut.{code_start, code_limit, code_end, size_of, HasCode};
 ghost use Rattle.handler_check.specs.{Paths.IsIn, Faults.IsFirst, Judging.AreFirsts, PathSummaries.list_of};
 
 use crate::faults::CODE_START;
@@ -86,7 +87,7 @@ fn whole_at<M: Mem>(m: &M, at: u16, end: u16) -> Option<(Instr, u16)>
 pub(crate) fn cut_of<M: Mem>(alloc: Global, m: &M, end: u16) -> Result<Cut, AllocError>
     requires low { code_start ≤ end }
     requires high { end ≤ code_limit }
-    ensures fits { IfOk result (λ c. AllFit c.code.items) }
+    ensures fits { IfOk result (λ c. FitCode c.code.items) }
     ensures table { IfOk result (λ c. AreFirsts c.code.items c.trapped c.firsts.items) }
     ensures stands { IfOk result (λ c. HasCode c.code.items (M.bytes m.now)) }
     ensures size { IfOk result (λ c. code_start + length c.firsts.items ≡ end) }

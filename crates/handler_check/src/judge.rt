@@ -1,7 +1,8 @@
 //! The instructions of a handler, checked one after the other.
 ghost use Rattle.std.specs.Prelude.{◌≡◌, ◌≢◌, ◌⊎◌, ◌≤◌, ◌<◌, ◌+◌, ℕ, Some, false, IfOk, IfErr, IfSome, IfNone};
 ghost use Rattle.std.specs.Prelude.{MatchOption, length};
-ghost use Rattle.handler_check.specs.Cut.{code_start, code_limit, size_of, AllFit, IsAt};
+ghost use Rattle.cpu12_isa.specs.Code.{FitCode};
+ghost use Rattle.handler_check.specs.Cut.{code_start, code_limit, size_of, IsAt};
 ghost use Rattle.handler_check.specs.{Accepted.IsAccepted, Faults.IsFirstFault, Paths.kind_of};
 ghost use Rattle.handler_check.specs.Judging.{AreFirsts, AreJudged, Fails, Passes};
 ghost use Rattle.handler_check.specs.PathSummaries.{summary_at, IsSummary};
@@ -130,7 +131,7 @@ fn fault_behind(summaries: &PathSummaries, at: u16) -> HandlerFault
 /// Checks a split of at least one byte.
 pub(crate) fn judge(alloc: Global, cut: &Cut) -> Result<Handler, HandlerFault>
     requires table { AreFirsts cut.now.code.items cut.now.trapped cut.now.firsts.items }
-    requires fits { AllFit cut.now.code.items }
+    requires fits { FitCode cut.now.code.items }
     requires some { 0 < length cut.now.firsts.items }
     ensures ends { IfOk result (λ h. cut.now.trapped ≡ false) }
     ensures accepted { IfOk result (λ h. IsAccepted cut.now.code.items h.instrs) }

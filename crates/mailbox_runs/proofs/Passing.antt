@@ -13,7 +13,7 @@ use Rattle.run_law.specs.{Forms.ended}
 use Rattle.firmware_code.specs.Interruptible.{IsSteady, IsShownPlain}
 use Rattle.firmware_code.proofs.Algebra.{in_room}
 use Rattle.std.specs.Prelude.{◌==◌}
-use Rattle.cpu12_isa.specs.Meaning.{Effect, act_of, effect}
+use Rattle.cpu12_isa.specs.Meaning.{Effect, effect, plain_act}
 use Rattle.cpu12_isa.proofs.Algebra.{shown_append}
 use Rattle.mailbox_runs.proofs.Posting.{took_none}
 
@@ -24,7 +24,7 @@ plainly u = Ok (record { state = u; kind = Plain })
 pub quiet_plain : PlainStepLaws → (flags : ℕ) (hidden : ℕ → Bool) (i : Instr) (y t v : State) → y.temps ≡ Free
     → IsPlainStep flags i y t
     → (effect flags i y.regs y.mem).writes ≡ [] → AllShown hidden (six_from y.regs.pc)
-    → AllShown hidden (read_by (act_of flags i y.regs) y.mem)
+    → AllShown hidden (read_by (plain_act flags i y.regs) y.mem)
     → v.regs ≡ y.regs → v.temps ≡ y.temps → Agree hidden v.mem y.mem
     → next_of flags v ≡ plainly (record t { mem = v.mem })
 quiet_plain laws flags hidden i y t v free p none code reads er et a =
@@ -32,7 +32,7 @@ quiet_plain laws flags hidden i y t v free p none code reads er et a =
     let is = laws.plain_is_step flags i y (inl free) p.decoded p.plain in
     let left : Left = record { regs = e.regs; temps = y.temps; writes = e.writes; kind = Plain } in
     let shown = subst (AllShown hidden) (sym is.1)
-    (shown_append hidden (six_from y.regs.pc) (read_by (act_of flags i y.regs) y.mem) code reads) in
+    (shown_append hidden (six_from y.regs.pc) (read_by (plain_act flags i y.regs) y.mem) code reads) in
     let both = laws.step_agrees flags y.regs y.temps v.mem y.mem left hidden hidden a shown is.0 (λ at h. inl h) in
     ap (λ (r : Regs). applied (outcome (step_act flags r v.temps) v.mem) v.mem) er
     ∙ ap (λ (u : Temps). applied (outcome (step_act flags y.regs u) v.mem) v.mem) et
@@ -71,7 +71,7 @@ shown_plain laws masked image flags i s t h k =
       left = record { regs = e.regs; temps = s.temps; writes = e.writes; kind = Plain };
       goes = is.0;
       reads = subst (AllShown hidden) (sym is.1)
-          (shown_append hidden (six_from s.regs.pc) (read_by (act_of flags i s.regs) s.mem) code k.reads);
+          (shown_append hidden (six_from s.regs.pc) (read_by (plain_act flags i s.regs) s.mem) code k.reads);
       covers = subst (λ (u : State). Uncovers hidden e.writes (is_hidden is_free u.regs.sp)) p.after k.uncovers;
       room = room_of masked image s h;
       sums = subst (λ (u : Temps). AreSumsReady is_free s u) (sym h.temps) tt;

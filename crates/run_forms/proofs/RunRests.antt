@@ -6,15 +6,15 @@ use Rattle.std.proofs.lemmas.List.{drop_all}
 use Rattle.std.specs.Prelude.{if◌then◌else◌, Option, Some, slice_get, map}
 use Rattle.cpu12_parts.specs.State.{State}
 use Rattle.cpu12_emul.specs.{Take.FrameSeen, Step.Next, Step.next_of}
-use Rattle.run_law.specs.Forms.{Form, Ran, run_from, RowSeen, row_of, Rows}
+use Rattle.run_law.specs.Forms.{Form, Ran, run_from, row_of, Rows}
 use Rattle.run_forms.specs.declared.{boundary.SampleState.SampleState}
 use Rattle.run_forms.specs.declared.{sample.Counts.Counts, run_state.RunState.RunState}
 use Rattle.run_forms.specs.{Forms.plan_form, Forms.SeenNotes, Forms.Harness, Rows.tellings, Rows.shown}
 use Rattle.run_forms.specs.Rest.{SampleSummary, summary, after, rest_at, shown_by}
 use Rattle.run_forms.specs.Slices.{Follow, requests_first, HasRoom}
-use Rattle.run_forms.specs.Positions.{Position, numbered, all_numbered, positions_or, positions}
+use Rattle.run_forms.specs.Positions.{Position, numbered, all_numbered}
 use Rattle.run_forms.specs.SampleRests.{SampleRest, before_takes, after_takes, after_state, at_end, by_step, IsSteady}
-use Rattle.run_forms.specs.RunRests.{RunRest, RestHere, from_here, at_position, shown_run, rest_before}
+use Rattle.run_forms.specs.RunRests.{RunRest, from_here, at_position, rest_before}
 use Rattle.run_forms.specs.RunRests.{sample_at, with_row}
 use Rattle.run_forms.specs.RunRests.{left_by, rest_by, rest_here, requests_at, rows_here, state_here}
 use Rattle.run_forms.proofs.{Onward.from_nothing, RowSteps.rows_under, RowSteps.one_row, RowSteps.no_row}
@@ -230,32 +230,6 @@ given_room {A = A} {U = U} fits seen qs first room t et h eq few =
     subst (λ (u : Counts U). fits u.notes (length qs - u.next)) (sym et)
     (subst (λ (k : ℕ). fits room k) (sym all)
     (subst (λ (l : List A). length l ≤ 10000 → fits room (length l)) (sym eq) h.enough few))
-
--- the first position of a run, behind the one before its samples
-pub first_goes : {S A B T : Type 0} (shows : RowSeen S → List B → T) (first : State) (o n : RestHere T) (p q : Position)
-    (all : Rows S A B)
-    → o ≡ at_position p (made (all_numbered 1 all.states) (shown shows all) all.state) → o ≡ at_position q (from_here n)
-    → from_here n ≡ shown_run shows first all
-first_goes {T = T} shows first o n p q all e f =
-    let same : from_here n ≡ made (all_numbered 1 all.states) (shown shows all) all.state =
-    ap (λ (x : RestHere T). made x.later x.rows x.state) (sym f ∙ e) in
-    let there : n.here ∷ n.later ≡ all_numbered 1 all.states = ap (λ (a : RunRest T). a.left) same in
-    ap (λ (ps : List Position). made (positions_or first ps) n.rows n.state) there
-    ∙ ap (λ (a : RunRest T). made (positions first all) a.rows a.state) same
-
--- and where there are no samples, that one is the only one
-pub first_stays : {S A B T : Type 0} (shows : RowSeen S → List B → T) (first : State) (o : RestHere T)
-    (all : Rows S A B)
-    → o ≡ at_position (record { sample = 0; moment = 0; state = first })
-    (made (all_numbered 1 all.states) (shown shows all) all.state) → o.later ≡ []
-    → from_here o ≡ shown_run shows first all
-first_stays {T = T} shows first o all e none =
-    let rows = shown shows all in
-    let there : [] ≡ all_numbered 1 all.states = sym none ∙ ap (λ (x : RestHere T). x.later) e in
-    ap from_here e
-    ∙ ap (λ (ps : List Position). made (record { sample = 0; moment = 0; state = first } ∷ ps) rows all.state)
-    (sym there)
-    ∙ ap (λ (ps : List Position). made (positions_or first ps) rows all.state) there
 
 -- the sample's state before the first sample
 pub steady_before : {A U B : Type 0} (fits : U → ℕ → Type 0) (seen : SeenNotes U B) (room : U) (st : SampleState U)

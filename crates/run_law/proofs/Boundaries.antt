@@ -1,8 +1,8 @@
 -- All that is taken at one boundary.
 use Rattle.std.proofs.Common.{◌≡◌, ℕ, Bool, true, false, ◌&&◌, nat_le, List, [], ◌∷◌, refl, ap, ap₂, sym, ◌∙◌, subst}
-use Rattle.std.proofs.Common.{inl, inr, ◌⊎◌}
+use Rattle.std.proofs.Common.{inl, inr}
 use Rattle.std.specs.Prelude.{if◌then◌else◌}
-use Rattle.std.proofs.lemmas.Bool.{and_parts}
+use Rattle.std.proofs.lemmas.Bool.{and_parts, cases_Bool}
 use Rattle.cpu12_parts.specs.State.{State}
 use Rattle.cpu12_emul.specs.Take.{FrameSeen, frame_of, may_interrupt}
 use Rattle.cpu12_emul.specs.Simulation.{Marks, Simulates}
@@ -36,10 +36,6 @@ pub record Boundary {S A B : Type 0} (marks : Marks) (open_to : ℕ → Bool) (f
   pub told : EachTold (IsToldIn open_to f Own s) done (takes f m qs w).told
   pub own : Own (onto (takes f m qs w).told done) (takes f m qs w).state
 
-bool_cases : (b : Bool) → (b ≡ true) ⊎ (b ≡ false)
-bool_cases true = inl refl
-bool_cases false = inr refl
-
 pub boundary : {S A B : Type 0} (marks : Marks) (open_to : ℕ → Bool) (f : Form S A B) (P : State → Type 0)
     (Good : A → Type 0) (Own : List (A × B) → State → Type 0) → Ground marks open_to f P Good Own
     → (done : List (A × B)) (m : ℕ) (first : Bool) (qs : List A) (w s : State) → AllGood Good qs → P s
@@ -56,7 +52,7 @@ boundary marks open_to f P Good Own gr done m first [] w s good ps l own =
     }
 boundary {S = S} {A = A} {B = B} marks open_to f P Good Own gr done m first (q ∷ qs) w s good ps l own =
     let may = settled_may marks open_to first w s l in
-    elim (bool_cases (may_interrupt s && nat_le (f.moment q) m)) [
+    elim (cases_Bool (may_interrupt s && nat_le (f.moment q) m)) [
       | inl due ↦
           let t = took_one marks open_to f P Good Own gr first done q w s good.0 ps
           (and_parts (may_interrupt s) (nat_le (f.moment q) m) due).0 l own in

@@ -2,17 +2,13 @@
 use Rattle.std.proofs.Common.{◌≡◌, ℕ, zero, suc, ◌+◌, ◌-◌, ◌<◌, ◌≤◌, Bool, true, false, ◌&&◌, nat_le, List, [], ◌∷◌}
 use Rattle.std.proofs.Common.{refl, ap, ap₂, sym, ◌∙◌, subst, arith, inl, inr, ◌⊎◌}
 use Rattle.std.specs.Prelude.{if◌then◌else◌}
-use Rattle.std.proofs.lemmas.Bool.{false≢true}
+use Rattle.std.proofs.lemmas.Bool.{cases_Bool, false≢true}
 use Rattle.std.proofs.lemmas.Bool.Decides.{nat_tests}
 use Rattle.cpu12_parts.specs.State.{State}
 use Rattle.cpu12_emul.specs.Take.{FrameSeen, may_interrupt}
 use Rattle.run_law.specs.Uninterrupted.{uninterrupted, first_open, taken_at, expected_frame}
 use Rattle.run_law.specs.{Soundness.Ascend, Moments.TakenAtFirstOpen, Moments.TakenAtOnce}
 use Rattle.run_law.proofs.Boundaries.{drop_due, frames_here, taken_here}
-
-bool_cases : (b : Bool) → (b ≡ true) ⊎ (b ≡ false)
-bool_cases true = inl refl
-bool_cases false = inr refl
 
 pub le_true : (a b : ℕ) → a ≤ b → nat_le a b ≡ true
 le_true a b h = grind (arith, nat_tests)
@@ -21,7 +17,7 @@ pub le_false : (a b : ℕ) → b < a → nat_le a b ≡ false
 le_false a b h = grind (arith, nat_tests)
 
 pub split : (a b : ℕ) → (a ≤ b) ⊎ (b < a)
-split a b = elim (bool_cases (nat_le a b))
+split a b = elim (cases_Bool (nat_le a b))
     [ inl e ↦ inl (grind (arith, nat_tests, e)) | inr e ↦ inr (grind (arith, nat_tests, e)) ]
 
 pub ascend_less : {A : Type 0} (moment : A → ℕ) (k m : ℕ) (qs : List A) → k ≤ m → Ascend moment m qs
@@ -32,14 +28,14 @@ ascend_less moment k m (q ∷ qs) l h = (omega (arith, h.0), h.1)
 -- the first open boundary lies between the first and the last,
 pub open_from : (flags : ℕ) (s : State) (k m : ℕ) → m ≤ first_open flags s k m
 open_from flags s zero m = omega arith
-open_from flags s (suc k) m = elim (bool_cases (may_interrupt (uninterrupted flags m s))) [
+open_from flags s (suc k) m = elim (cases_Bool (may_interrupt (uninterrupted flags m s))) [
   | inl e ↦ rw e (omega arith)
   | inr e ↦ rw e (let r = open_from flags s k (suc m) in omega arith)
 ]
 
 open_within : (flags : ℕ) (s : State) (k m : ℕ) → first_open flags s k m ≤ m + k
 open_within flags s zero m = omega arith
-open_within flags s (suc k) m = elim (bool_cases (may_interrupt (uninterrupted flags m s))) [
+open_within flags s (suc k) m = elim (cases_Bool (may_interrupt (uninterrupted flags m s))) [
   | inl e ↦ rw e (omega arith)
   | inr e ↦ rw e (let r = open_within flags s k (suc m) in omega arith)
 ]
@@ -48,7 +44,7 @@ open_within flags s (suc k) m = elim (bool_cases (may_interrupt (uninterrupted f
 pub open_there : (flags : ℕ) (s : State) (k m : ℕ) → first_open flags s k m < m + k
     → may_interrupt (uninterrupted flags (first_open flags s k m) s) ≡ true
 open_there flags s zero m h = absurd (omega arith)
-open_there flags s (suc k) m h = elim (bool_cases (may_interrupt (uninterrupted flags m s))) [
+open_there flags s (suc k) m h = elim (cases_Bool (may_interrupt (uninterrupted flags m s))) [
   | inl e ↦
       let v : first_open flags s (suc k) m ≡ m = rw e refl in
       subst (λ (i : ℕ). may_interrupt (uninterrupted flags i s) ≡ true) (sym v) e
@@ -61,7 +57,7 @@ open_there flags s (suc k) m h = elim (bool_cases (may_interrupt (uninterrupted 
 pub open_first : (flags : ℕ) (s : State) (k m j : ℕ) → m ≤ j → j < m + k
     → may_interrupt (uninterrupted flags j s) ≡ true → first_open flags s k m ≤ j
 open_first flags s zero m j l g h = absurd (omega arith)
-open_first flags s (suc k) m j l g h = elim (bool_cases (may_interrupt (uninterrupted flags m s))) [
+open_first flags s (suc k) m j l g h = elim (cases_Bool (may_interrupt (uninterrupted flags m s))) [
   | inl e ↦ rw e l
   | inr e ↦ rw e (open_first flags s k (suc m) j (later e) (omega arith) h)
 ]
@@ -110,7 +106,7 @@ taken_ascend {A = A} flags n s moment j m (q ∷ qs) l h =
 -- a request that waits is due where its boundary has come
 due_is : (flags n : ℕ) (s : State) (a m : ℕ) → m < n → m ≤ at_of flags n s a
     → (may_interrupt (uninterrupted flags m s) && nat_le a m) ≡ nat_le (at_of flags n s a) m
-due_is flags n s a m l g = elim (bool_cases (may_interrupt (uninterrupted flags m s))) [
+due_is flags n s a m l g = elim (cases_Bool (may_interrupt (uninterrupted flags m s))) [
   | inl e ↦ ap (λ (b : Bool). b && nat_le a m) e ∙ elim (split a m) [
     | inl due ↦ le_true a m due ∙ sym (le_true (at_of flags n s a) m (at_first flags n s a m due l e))
     | inr not_due ↦ (let from = from_moment flags n s a in
@@ -164,7 +160,7 @@ pub taken_at_first_open : TakenAtFirstOpen
 taken_at_first_open flags n s a = record {
   from = from_moment flags n s a;
   opens = λ l. at_open flags n s a l;
-  least = λ j l g h. (elim (bool_cases (may_interrupt (uninterrupted flags j s))) [
+  least = λ j l g h. (elim (cases_Bool (may_interrupt (uninterrupted flags j s))) [
     | inl e ↦ (let early = at_first flags n s a j l h e in absurd (omega arith))
     | inr e ↦ e
   ]);

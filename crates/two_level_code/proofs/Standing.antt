@@ -9,16 +9,17 @@ use Rattle.std.proofs.lemmas.Bool.Decides.{nat_tests}
 use Rattle.std.proofs.lemmas.List.{get_or_past}
 use Rattle.std.proofs.lemmas.List.Elements.{All-nil, All-cons, All-append}
 use Rattle.fuzzy_meaning.specs.declared.block.Block.{Block}
-use Rattle.cpu12_isa.specs.{declared.instr.Instr.TheVariants.Rts, Agreement.Agree, Fits.AreBytes, Memory.word_of}
+use Rattle.cpu12_isa.specs.{declared.instr.Instr.TheVariants.Rts, Agreement.Agree, Code.code_bytes, Fits.AreBytes}
+use Rattle.cpu12_isa.specs.{Memory.word_of}
 use Rattle.cpu12_isa.specs.Regions.{is_free, vector, is_vector}
 use Rattle.cpu12_asm.proofs.Algebra.{or_else, byte_at-append}
 use Rattle.cpu12_asm.specs.declared.{items.Item.Item, items.Item.TheVariants.Place}
-use Rattle.cpu12_asm.specs.{Bytes.byte_at, Items.given_by}
+use Rattle.cpu12_asm.specs.{Bytes.byte_at, Items.given_by, Laws.GiveBytes}
 use Rattle.cpu12_emul.specs.Image.{byte_or_zero, image_memory, HoldsImage}
 use Rattle.eval_code.specs.declared.memory_map.MemoryMap.{MemoryMap}
-use Rattle.eval_code.specs.{MemoryMaps.main_map, Code.code_bytes, Items.block_items, Evaluation.HasAnswers}
+use Rattle.eval_code.specs.{MemoryMaps.main_map, Items.block_items, Evaluation.HasAnswers}
 use Rattle.eval_code.specs.{Evaluation.Reads, Evaluation.Writes, Standing.ImageIsBytes}
-use Rattle.eval_code.specs.Placed.{BlockStaysInside, GivesBehind, GiveBytes, BlockGivesBytes}
+use Rattle.eval_code.specs.Placed.{BlockStaysInside, GivesBehind, BlockGivesBytes}
 use Rattle.byte_scaling.specs.{declared.width.Width.Width, declared.width.Width.TheVariants.Byte}
 use Rattle.firmware_code.specs.{Code.frame_code, Images.vector_items}
 use Rattle.alone_code.specs.Firmwares.{firmware_items}

@@ -17,11 +17,12 @@ pub use Rattle.watched_code.specs.WatchedCode.{segments_code, segments_of, watch
 pub use Rattle.watched_code.specs.WatchedCode.{weight_segments}
 pub use Rattle.byte_scaling.specs.{Cells.NearestIsByte, Cells.nearest_byte, declared.width.Width.TheVariants.Byte}
 pub use Rattle.cpu12_asm.specs.{Items.IsRising, Items.given_by}
-pub use Rattle.cpu12_isa.specs.{Agreement.AgreeFrom, Code.encode_of, Flags.has, Regions.is_free, Regions.stack_end}
+pub use Rattle.cpu12_isa.specs.{Agreement.AgreeFrom, Code.FitCode, Code.code_bytes, Code.encode_of, Flags.has}
+pub use Rattle.cpu12_isa.specs.{Regions.is_free, Regions.stack_end}
 pub use Rattle.cpu12_isa.specs.{declared.instr.Instr.Instr}
 pub use Rattle.cpu12_parts.specs.{Executions.Execution, State.State, Whole.after_plain}
 pub use Rattle.eval_code.proofs.{Algebra.bytes_set_out}
-pub use Rattle.eval_code.specs.{Code.FitCode, Code.block_code, Code.code_bytes, Evaluation.HasBytes}
+pub use Rattle.eval_code.specs.{Code.block_code, Evaluation.HasBytes}
 pub use Rattle.eval_code.specs.{Firing.AreInputBytes, Items.IsApart, Items.block_items, MemoryMaps.main_map}
 pub use Rattle.eval_code.specs.{Placed.BlockGivesAtParts, Placed.HasParts, Widths.answer}
 pub use Rattle.eval_code.specs.{declared.memory_map.MemoryMap.MemoryMap}

@@ -7,11 +7,11 @@ use Rattle.byte_scaling.specs.Cells.{nearest_byte}
 use Rattle.rule_layout.specs.declared.flat.RuleInstruction.{RuleInstruction}
 use Rattle.rule_layout.specs.declared.flat.RuleInstruction.TheVariants as instruction
 use Rattle.rule_layout.specs.Layouts.{instruction_of, weights_of}
-use Rattle.cpu12_isa.specs.{declared.instr.Instr.Instr, Regions.stack_end}
+use Rattle.cpu12_isa.specs.{declared.instr.Instr.Instr, Code.code_bytes, Regions.stack_end}
 use Rattle.cpu12_isa.specs.declared.instr.Instr.TheVariants.{LdabImmediate, LdxImmediate, StabExtended, ClrExtended}
 use Rattle.cpu12_isa.specs.declared.instr.Instr.TheVariants.{CpxImmediate, Bne, Rts, AddbImmediate}
 use Rattle.cpu12_isa.specs.declared.instr.Instr.TheVariants.{AddbPostIncrementX}
-use Rattle.eval_code.specs.{declared.memory_map.MemoryMap.MemoryMap, MemoryMaps.main_map, Code.code_bytes}
+use Rattle.eval_code.specs.{declared.memory_map.MemoryMap.MemoryMap, MemoryMaps.main_map}
 use Rattle.eval_code.specs.Data.{table_bytes, singleton_bytes, rule_bytes}
 use Rattle.watched_code.specs.{declared.segments.Segment.Segment, Checksums.check_byte}
 use Rattle.firmware_code.specs.Code.{frame_code}

@@ -6,7 +6,7 @@ use Rattle.alone_code.proofs.Words.{length, List, main_map, refl, Setting, State
 use Rattle.cpu12_isa.specs.Agreement.{Agree}
 use Rattle.eval_code.specs.Placed.{BlockIsShort, BlockRises, IsInOrder}
 use Rattle.std.proofs.Common.{Bool, inl}
-use Rattle.eval_code.specs.Code.{code_bytes, FitCode}
+use Rattle.cpu12_isa.specs.Code.{code_bytes, FitCode}
 use Rattle.firmware_code.specs.Code.{frame_code}
 use Rattle.cpu12_asm.specs.Items.{given_by}
 use Rattle.firmware_code.specs.Standing.{HasFirmware}

@@ -8,7 +8,7 @@ use Rattle.eval_code.proofs.Words.{singleton_count, Slot, slots_code, slots_of, 
 use Rattle.eval_code.proofs.Words.{sym, Term, term_slot, Width, Word, zero, ℕ}
 use Rattle.std.proofs.{lemmas.List.length-replicate}
 use Rattle.byte_scaling.specs.{declared.width.Width.TheVariants.Byte}
-use Rattle.eval_code.specs.{Code.FitCode}
+use Rattle.cpu12_isa.specs.{Code.FitCode}
 use Rattle.std.specs.Prelude.{IfSome}
 use Rattle.eval_code.proofs.{phases.RuleFacts.BlockFacts, Joins.sum_by-term_count, Sizes.code_size}
 use Rattle.eval_code.proofs.{Sizes.code_size-eval, steps.Decoding.fit_append, phases.Fuzzify.grades}

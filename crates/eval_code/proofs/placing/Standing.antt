@@ -1,11 +1,11 @@
 -- The parts of items that go up stand in the memory of their image.
 use Rattle.eval_code.proofs.Words.{[], ◌++◌, ◌+◌, ◌<◌, ◌∙◌, ◌∷◌, ◌≡◌, ◌≤◌, ap, append_assoc, arith, Byte, byte_at}
-use Rattle.eval_code.proofs.Words.{byte_at-append, byte_at-placed, byte_or_zero, cond, encode_of, false, get_or}
-use Rattle.eval_code.proofs.Words.{given_by, given_from, HoldsImage, image_memory, Instr, is_at, IsRising}
-use Rattle.eval_code.proofs.Words.{IsRisingFrom, Item, item_bytes, length, length-append, List, map, nat_cmp}
-use Rattle.eval_code.proofs.Words.{nat_tests, None, Op, or_else, Place, place_after, place_behind, placed, refl, Some}
-use Rattle.eval_code.proofs.Words.{subst, suc, sym, true, zero, ℕ}
+use Rattle.eval_code.proofs.Words.{byte_at-append, byte_at-placed, byte_or_zero, cond, encode_of, get_or, given_by}
+use Rattle.eval_code.proofs.Words.{given_from, HoldsImage, image_memory, Instr, IsRising, IsRisingFrom, Item}
+use Rattle.eval_code.proofs.Words.{item_bytes, length, length-append, List, map, None, Op, or_else, Place, place_after}
+use Rattle.eval_code.proofs.Words.{place_behind, placed, refl, Some, subst, suc, sym, zero, ℕ}
 use Rattle.cpu12_asm.specs.{Bytes.Holds}
+use Rattle.cpu12_asm.proofs.Algebra.{is_at-other, is_at-refl}
 use Rattle.cpu12_asm.specs.Rising.{RisesBehindFirst, EndsInMemory, RisesBehindPart}
 use Rattle.eval_code.specs.Standing.{BytesStand, CodeStands, ZeroBelow}
 use Rattle.eval_code.proofs.{steps.Memory.HasBytes, steps.Memory.bytes_by, steps.Decoding.code_bytes}
@@ -86,13 +86,10 @@ none_behind rises at q (x ∷ xs) ys h low =
     ∙ rest
 
 -- nor below their start
-other_below : (at q : ℕ) → q < at → is_at (nat_cmp q) at ≡ false
-other_below at q h = grind (arith, nat_tests)
-
 pub none_placed_below : (at q : ℕ) (bs : List ℕ) → q < at → byte_at (placed at bs) q ≡ None
 none_placed_below at q [] h = refl
 none_placed_below at q (b ∷ bs) h =
-    ap (λ t. cond t (Some b) (byte_at (placed (at + 1) bs) q)) (other_below at q h)
+    ap (λ t. cond t (Some b) (byte_at (placed (at + 1) bs) q)) (is_at-other q at (λ e. omega arith))
     ∙ none_placed_below (at + 1) q bs (omega arith)
 
 pub none_below : Rises → (at q : ℕ) (xs : List Item) → IsRisingFrom at xs → q < at → byte_at (given_from at xs) q ≡ None
@@ -104,21 +101,15 @@ none_below rises at q (x ∷ xs) h low =
     ∙ none_below rises (place_after at x) q xs head.1 (omega (arith, head.0))
 
 -- a byte of those that are placed
-same_here : (p : ℕ) → is_at (nat_cmp p) p ≡ true
-same_here p = grind (arith, nat_tests)
-
-other_above : (p q : ℕ) → p < q → is_at (nat_cmp q) p ≡ false
-other_above p q h = grind (arith, nat_tests)
-
 found_placed : (p j : ℕ) (bs : List ℕ) → j < length bs → byte_at (placed p bs) (p + j) ≡ Some (get_or bs j 0)
 found_placed p j [] lt = absurd (omega arith)
 found_placed p zero (b ∷ bs) lt =
     let e : p + 0 ≡ p = omega arith in
-    ap (byte_at (placed p (b ∷ bs))) e ∙ ap (λ t. cond t (Some b) (byte_at (placed (p + 1) bs) p)) (same_here p)
+    ap (byte_at (placed p (b ∷ bs))) e ∙ ap (λ t. cond t (Some b) (byte_at (placed (p + 1) bs) p)) (is_at-refl p)
 found_placed p (suc j) (b ∷ bs) lt =
     let e : p + suc j ≡ p + 1 + j = omega arith in
     ap (byte_at (placed p (b ∷ bs))) e
-    ∙ ap (λ t. cond t (Some b) (byte_at (placed (p + 1) bs) (p + 1 + j))) (other_above p (p + 1 + j) (omega arith))
+    ∙ ap (λ t. cond t (Some b) (byte_at (placed (p + 1) bs) (p + 1 + j))) (is_at-other (p + 1 + j) p (λ e. omega arith))
     ∙ found_placed (p + 1) j bs (omega arith)
 
 -- a part of rising items stands in memory

@@ -5,7 +5,7 @@ use Rattle.eval_code.proofs.Words.{length-append, Ok, stack_end, subst, ℕ}
 use Rattle.cpu12_isa.specs.{Fits.EncodedIsShort, Memory.bytes_at, Code.decode_of, Code.Begins, Code.DecodesEncoded}
 use Rattle.cpu12_isa.specs.{Code.FitsOperands}
 use Rattle.eval_code.specs.{Standing.StandsWhere}
-pub use Rattle.eval_code.specs.Code.{code_bytes, FitCode}
+pub use Rattle.cpu12_isa.specs.Code.{code_bytes, FitCode}
 use Rattle.eval_code.proofs.steps.Memory.{HasBytes, bytes_front, bytes_back}
 use Rattle.eval_code.proofs.Sizes.{code_size}
 

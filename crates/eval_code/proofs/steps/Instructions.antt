@@ -4,7 +4,7 @@ use Rattle.eval_code.proofs.Words.{after_plain, ap, ap₂, arith, Beq, Bool, Bra
 use Rattle.eval_code.proofs.Words.{false, get_or, grade_of, has, if◌then◌else◌, inl, inr, Instr, length, Mem, min}
 use Rattle.eval_code.proofs.Words.{nat_lt, nat_tests, plus, Reads, refl, Regs, State, true, Writes, ℕ}
 use Rattle.std.proofs.{Common.nat_le}
-use Rattle.cpu12_isa.specs.{Act.read_by, Flags.put, Flags.tested_word, Meaning.act_of, Meaning.effect}
+use Rattle.cpu12_isa.specs.{Act.read_by, Flags.put, Flags.tested_word, Meaning.effect, Meaning.plain_act}
 use Rattle.cpu12_isa.specs.{Plain.is_straight, Registers.grade, Registers.divided}
 use Rattle.cpu12_parts.specs.{Laws.addresses}
 use Rattle.point_slope.specs.{Tables.grade_under}
@@ -28,7 +28,7 @@ divided_is flags r n en nz small =
 
 -- an instruction that goes straight on, with what it reads and writes
 pub straight : (c : Ctx) (s : State) (p : ℕ) (i : Instr) → Live c s → s.regs.pc ≡ p → Here c p i → is_straight i ≡ true
-    → Each (Reads c.memory_map) (read_by (act_of c.flags i s.regs) s.mem)
+    → Each (Reads c.memory_map) (read_by (plain_act c.flags i s.regs) s.mem)
     → Each (Writes c.memory_map) (addresses (effect c.flags i s.regs s.mem).writes)
     → Next c s (after_plain c.flags i s) (p + length (encode_of i))
 straight c s p i l ep h st reads writes =

@@ -3,7 +3,7 @@ use Rattle.eval_code.proofs.Words.{[], ◌+◌, ◌<◌, ◌^◌, ◌∙◌, ◌
 use Rattle.eval_code.proofs.Words.{arith, Bool, decode_at, Each, FitsRegs, inl, inr, Instr}
 use Rattle.eval_code.proofs.Words.{interrupt_masks, IsApart, length, List, MemoryMap, Ok, Reads, refl, six_from}
 use Rattle.eval_code.proofs.Words.{stack_end, State, StaysFit, subst, true, Writes, ℕ}
-use Rattle.cpu12_isa.specs.{Act.read_by, Code.FitsOperands, Meaning.act_of, Meaning.effect, Meaning.is_plain}
+use Rattle.cpu12_isa.specs.{Act.read_by, Code.FitsOperands, Meaning.effect, Meaning.is_plain, Meaning.plain_act}
 use Rattle.cpu12_isa.specs.{Fits.EncodedIsShort, Plain.StraightGoesOn}
 use Rattle.cpu12_parts.specs.{Laws.addresses, Laws.IsOff, Touching.IsIn, Touching.IsBetween}
 use Rattle.eval_code.specs.{Evaluation.eval_frame, Frames.IsStepIn, Standing.StandsWhere}
@@ -79,7 +79,7 @@ pub record Next (c : Ctx) (s t : State) (q : ℕ) : Type 0 where
 -- a plain instruction of the code that touches what is owned alone
 pub next : (c : Ctx) (s : State) (p q : ℕ) (i : Instr) → Live c s → s.regs.pc ≡ p → Here c p i → is_plain i ≡ true
     → FitsOperands i
-    → Each (Reads c.memory_map) (read_by (act_of c.flags i s.regs) s.mem)
+    → Each (Reads c.memory_map) (read_by (plain_act c.flags i s.regs) s.mem)
     → Each (Writes c.memory_map) (addresses (effect c.flags i s.regs s.mem).writes)
     → (effect c.flags i s.regs s.mem).regs.sp ≡ s.regs.sp
     → interrupt_masks (effect c.flags i s.regs s.mem).regs.ccr ≡ interrupt_masks s.regs.ccr

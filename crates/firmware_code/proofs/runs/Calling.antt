@@ -1,12 +1,13 @@
 -- EVAL called from the code around it, from what it owns.
-use Rattle.firmware_code.proofs.Words.{[], ℕ, ⊎_elim, ◌&&◌, ◌*◌, ◌++◌, ◌+◌, ◌<◌, ◌^◌, ◌∙◌, ◌∷◌, ◌≡◌, ◌≤◌, ◌⊎◌, act_of}
+use Rattle.firmware_code.proofs.Words.{[], ℕ, ⊎_elim, ◌&&◌, ◌*◌, ◌++◌, ◌+◌, ◌<◌, ◌^◌, ◌∙◌, ◌∷◌, ◌≡◌, ◌≤◌, ◌⊎◌}
 use Rattle.firmware_code.proofs.Words.{addresses, after_plain, AgreeFrom, AllShown, ap, ap₂, arith, Block, Bool}
 use Rattle.firmware_code.proofs.Words.{code_bytes, Each, effect, eval_bytes, Execution, false, Free, get_or, has}
 use Rattle.firmware_code.proofs.Words.{HasBytes, HasRoutine, Here, inl, inr, Instr, is_hidden, IsApart, IsInCode}
 use Rattle.firmware_code.proofs.Words.{IsInterruptibleStep, IsShownInstruction, IsShut, IsValid, length, length-append}
-use Rattle.firmware_code.proofs.Words.{List, Live, MemoryMap, min, nat_le, nat_lt, nat_tests, or_parts, plus, read_by}
-use Rattle.firmware_code.proofs.Words.{Reads, refl, Rts, rule_bytes, same_bytes, Setting, singleton_bytes, six_from}
-use Rattle.firmware_code.proofs.Words.{stack_end, State, sym, table_bytes, weight_bytes, Width, Writes}
+use Rattle.firmware_code.proofs.Words.{List, Live, MemoryMap, min, nat_le, nat_lt, nat_tests, or_parts, plain_act}
+use Rattle.firmware_code.proofs.Words.{plus, read_by, Reads, refl, Rts, rule_bytes, same_bytes, Setting}
+use Rattle.firmware_code.proofs.Words.{singleton_bytes, six_from, stack_end, State, sym, table_bytes, weight_bytes}
+use Rattle.firmware_code.proofs.Words.{Width, Writes}
 use Rattle.cpu12_parts.proofs.Algebra.{execution_on, steps_append}
 use Rattle.firmware_code.specs.Calls.{Back, IsCalled}
 use Rattle.eval_code.specs.Evaluation.{HasEval, IsAtEval, IsEvaluated, eval_frame, EvalAnswers}
@@ -98,7 +99,7 @@ shown open_to l flags d s t u a w sp e = by e.instruction
           (
             record {
               step = k.step;
-              reads = reads (read_by (act_of flags p.0 s.regs) s.mem) k.reads;
+              reads = reads (read_by (plain_act flags p.0 s.regs) s.mem) k.reads;
               writes = writes (min s.regs.sp t.regs.sp) (addresses (effect flags p.0 s.regs s.mem).writes) k.writes;
               uncovers = λ at g. inl (ap (λ n. is_hidden open_to n at) (sym e.stack) ∙ g);
             },

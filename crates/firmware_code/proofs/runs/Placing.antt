@@ -4,10 +4,10 @@ use Rattle.firmware_code.proofs.Words.{code_bytes, given_by, Holds, image_memory
 use Rattle.firmware_code.proofs.Words.{length, length-append, List, LowerLaws, MemoryMap, refl, slots_of, StandsBetween}
 use Rattle.firmware_code.proofs.Words.{subst, sym, vector_items, Width}
 use Rattle.rule_layout.specs.Layouts.{IsWithinLimits}
-use Rattle.eval_code.specs.Placed.{BlockIsShort, BlockRises, IsInOrder}
+use Rattle.eval_code.specs.Placed.{BlockIsShort, BlockRises, BlockStands, IsInOrder}
 use Rattle.std.proofs.Common.{All}
 use Rattle.rule_layout.specs.{Layouts.flat_of, Layouts.LayoutLaw}
-use Rattle.eval_code.specs.{Placed.GiveBytes, Placed.BlockStands}
+use Rattle.cpu12_asm.specs.Laws.{GiveBytes}
 use Rattle.std.proofs.lemmas.List.Elements.{All-nil, All-cons, All-append}
 
 -- a memory map has room for the slots of a valid block

@@ -1,11 +1,10 @@
 -- One instruction of the code around EVAL, and where it leads.
-use Rattle.firmware_code.proofs.Words.{[], ℕ, ⊎_elim, ◌&&◌, ◌+◌, ◌-◌, ◌<◌, ◌==◌, ◌∙◌, ◌∷◌, ◌≡◌, ◌≢◌, ◌≤◌, act_of}
-use Rattle.firmware_code.proofs.Words.{addresses, after_plain, AllShown, ap, arith, Bool}
-use Rattle.firmware_code.proofs.Words.{code_room, decode_at, decode_same, Each, effect}
-use Rattle.firmware_code.proofs.Words.{encode_of, false, has, Here, inl, inr, Instr, is_hidden, is_idle}
-use Rattle.firmware_code.proofs.Words.{IsInterruptibleStep, IsShut, length, List, Live, MemoryMap, min}
-use Rattle.firmware_code.proofs.Words.{nat_le, nat_lt, nat_tests, Next, Ok, read_by, refl, Setting, six_from}
-use Rattle.firmware_code.proofs.Words.{stack_end, State, sym, true}
+use Rattle.firmware_code.proofs.Words.{[], ℕ, ⊎_elim, ◌&&◌, ◌+◌, ◌-◌, ◌<◌, ◌==◌, ◌∙◌, ◌∷◌, ◌≡◌, ◌≢◌, ◌≤◌, addresses}
+use Rattle.firmware_code.proofs.Words.{after_plain, AllShown, ap, arith, Bool, code_room, decode_at, decode_same, Each}
+use Rattle.firmware_code.proofs.Words.{effect, encode_of, false, has, Here, inl, inr, Instr, is_hidden, is_idle}
+use Rattle.firmware_code.proofs.Words.{IsInterruptibleStep, IsShut, length, List, Live, MemoryMap, min, nat_le, nat_lt}
+use Rattle.firmware_code.proofs.Words.{nat_tests, Next, Ok, plain_act, read_by, refl, Setting, six_from, stack_end}
+use Rattle.firmware_code.proofs.Words.{State, sym, true}
 use Rattle.firmware_code.specs.Interruptible.{IsSteady}
 use Rattle.cpu12_isa.specs.{Agreement.Uncovers, Code.FitsOperands, Fits.EncodedIsShort, Meaning.is_plain}
 use Rattle.cpu12_isa.specs.{Regions.stack_start}
@@ -75,7 +74,7 @@ writes_shown open_to sp (w ∷ ws) h shut = (low_shown open_to sp w.0 shut.0 h.0
 pub plain_went : (c : Setting) (masked later : Bool) (s : State) (p q : ℕ) (i : Instr) → Lives c.image masked s
     → s.regs.pc ≡ p → c.memory_map.code ≤ p → p + 6 ≤ c.memory_map.code + code_room
     → decode_at c.image p ≡ Ok i → is_plain i ≡ true → FitsOperands i
-    → AllShown (is_hidden c.open_to s.regs.sp) (read_by (act_of c.flags i s.regs) s.mem)
+    → AllShown (is_hidden c.open_to s.regs.sp) (read_by (plain_act c.flags i s.regs) s.mem)
     → AllShown (is_hidden c.open_to (min s.regs.sp (effect c.flags i s.regs s.mem).regs.sp))
     (addresses (effect c.flags i s.regs s.mem).writes)
     → Uncovers (is_hidden c.open_to s.regs.sp) (effect c.flags i s.regs s.mem).writes
@@ -117,7 +116,7 @@ pub busy_next : (c : Setting) (s : State) (p q : ℕ) (i : Instr) → Live c s �
     → s.regs.pc ≡ p
     → c.memory_map.code ≤ p → p + 6 ≤ c.memory_map.code + code_room
     → decode_at c.image p ≡ Ok i → is_plain i ≡ true → FitsOperands i
-    → AllShown (is_hidden c.open_to s.regs.sp) (read_by (act_of c.flags i s.regs) s.mem)
+    → AllShown (is_hidden c.open_to s.regs.sp) (read_by (plain_act c.flags i s.regs) s.mem)
     → AllShown (is_hidden c.open_to (min s.regs.sp (effect c.flags i s.regs s.mem).regs.sp))
     (addresses (effect c.flags i s.regs s.mem).writes)
     → Uncovers (is_hidden c.open_to s.regs.sp) (effect c.flags i s.regs s.mem).writes
@@ -147,7 +146,7 @@ not_at l s p e h = let a : (s.regs.pc == l.wait) ≡ false = grind (arith, nat_t
 -- one that leaves SP, and writes below FREE alone
 pub next : (c : Setting) (s : State) (p q : ℕ) (i : Instr) → Live c s → s.regs.pc ≡ p → Here c p i → is_plain i ≡ true
     → FitsOperands i
-    → AllShown (is_hidden c.open_to s.regs.sp) (read_by (act_of c.flags i s.regs) s.mem)
+    → AllShown (is_hidden c.open_to s.regs.sp) (read_by (plain_act c.flags i s.regs) s.mem)
     → WriteBelow 0x1800 (effect c.flags i s.regs s.mem).writes
     → AllShown c.open_to (addresses (effect c.flags i s.regs s.mem).writes)
     → (effect c.flags i s.regs s.mem).regs.sp ≡ s.regs.sp

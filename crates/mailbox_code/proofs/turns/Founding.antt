@@ -7,8 +7,7 @@ use Rattle.mailbox_code.proofs.Words.{Width, zero}
 use Rattle.eval_code.specs.Placed.{BlockIsShort, BlockRises, IsInOrder}
 use Rattle.eval_code.proofs.Algebra.{bytes_back, bytes_front, length-code_bytes, code_size, code_size-append}
 use Rattle.eval_code.proofs.Algebra.{fit_append, stands_back}
-use Rattle.eval_code.specs.Code.{code_bytes, FitCode}
-use Rattle.cpu12_isa.specs.Code.{encode_of}
+use Rattle.cpu12_isa.specs.Code.{code_bytes, encode_of, FitCode}
 use Rattle.firmware_code.specs.Calls.{IsInCode}
 use Rattle.firmware_code.specs.Frames.{IsStarted, start_code}
 use Rattle.cpu12_isa.specs.declared.instr.Instr.TheVariants.{Rts}

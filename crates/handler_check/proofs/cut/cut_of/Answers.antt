@@ -1,4 +1,4 @@
-use Rattle.handler_check.proofs.Words.{[], ◌++◌, ◌+◌, ◌<◌, ◌∷◌, ◌≡◌, AllFit, ap, arith, code_bytes, code_end, HasCode}
+use Rattle.handler_check.proofs.Words.{[], ◌++◌, ◌+◌, ◌<◌, ◌∷◌, ◌≡◌, ap, arith, code_bytes, code_end, FitCode, HasCode}
 use Rattle.handler_check.proofs.Words.{Instr, length, length-set, List, set, size_of, StandsAt, subst, sym, true, ℕ}
 use Rattle.handler_check.proofs.Places.{bytes-push, fits-push, code-push}
 use Rattle.handler_check.proofs.Tables.{Table, table_push, table_trap}
@@ -24,7 +24,7 @@ loop-at-preserved g c =
     record {
       place = omega (arith, b, z, n);
       within = c.in-Some.ensures.within;
-      fits = subst AllFit (sym e) f;
+      fits = subst FitCode (sym e) f;
       stands = subst (λ (l : List Instr). HasCode l (g.M.Mem.bytes c.args.m.now)) (sym e) h;
       size = omega (arith, k);
       table = subst (λ (l : List Instr). Table l (set c.loop-at.firsts.items c.from-in-loop-at.result true)) (sym e) t;

@@ -1,4 +1,4 @@
-use Rattle.std.proofs.Common.{◌≡◌, ◌≤◌, ◌-◌}
+use Rattle.std.proofs.Common.{◌≤◌, ◌-◌}
 use Rattle.cpu12_emul.specs.{Run.StepsTo, Step.SameMachine}
 use Rattle.cpu12_emul.proofs.machine.Machine.run.Given as goal
 
