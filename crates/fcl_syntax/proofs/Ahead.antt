@@ -9,7 +9,7 @@ use Rattle.fcl_syntax.specs.Annotations.{Sym, tokens_of, plain, annotated}
 use Rattle.fcl_syntax.specs.Readers.{◌>>=◌, fault_at, starts, one_at}
 use Rattle.fcl_syntax.proofs.Parser.{disjoint, Stops, Starts, first_annotation, answer, Stands, Fails, Parser}
 use Rattle.fcl_syntax.proofs.AnnotatedTexts.{bind_ok, bind_err, ok_is}
-use Rattle.fcl_syntax.proofs.{Seq.Shows-in, Seq.Viable-in, Dead.unless}
+use Rattle.fcl_syntax.proofs.{Seq.Shows-in, Seq.Viable-in, Dead.unless, Dead.unless_ok}
 use Rattle.fcl_syntax.proofs.Small.{Single, one_text, one_stands, one_fails, starts-not, starts-same}
 
 pub record Ahead (Y : Type 0) : Type 0 where
@@ -41,11 +41,6 @@ module _ {A B Y : Type 0} (c : Single A) (d : Ahead Y) (q : Parser B) (apart : d
       → Starts c.among (tokens_of (ahead_text c d q t) ++ rest)
   ahead_begins (inl t) rest = c.classes t.0
   ahead_begins (inr t) rest = c.classes t.0
-
-  unless_ok : {T : Type 0} (b : Bool) (e : Fault) (r : Result T Fault) (y : T) → unless b e r ≡ Ok y
-      → (b ≡ false) × (r ≡ Ok y)
-  unless_ok true e r y h = absurd cc
-  unless_ok false e r y h = (refl, h)
 
   pub ahead_stands : (ts : List Token) (t : (A × B) ⊎ (A × Y)) (rest : List Token) → ahead_read c d q ts ≡ Ok (t, rest)
       → Stands (ahead_text c d q) q.goes ts t rest

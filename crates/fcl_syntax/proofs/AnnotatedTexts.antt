@@ -1,6 +1,6 @@
 -- Laws of texts with annotations, and of sequences.
 use Rattle.std.proofs.Common.{◌≡◌, ℕ, suc, ◌+◌, Bool, true, false, cond, eqb, List, [], ◌∷◌, ◌++◌, length, Option, Some}
-use Rattle.std.proofs.Common.{None, Result, Ok, Err, refl, ap, subst, arith, inl, inr, ◌⊎◌}
+use Rattle.std.proofs.Common.{None, Result, Ok, Err, refl, sym, ap, subst, ◌∙◌, append_assoc, arith, inl, inr, ◌⊎◌}
 use Rattle.std.proofs.lemmas.Bool.{eqb-true}
 use Rattle.std.proofs.lemmas.List.{length-append}
 use Rattle.fcl_tokens.specs.declared.token.Token.{Token}
@@ -8,7 +8,7 @@ use Rattle.fcl_syntax.specs.declared.{fault.Fault.Fault, fault.Kind.Kind}
 use Rattle.fcl_syntax.specs.{TokenClasses.class_of, TokenClasses.mem, Readers.◌>>=◌}
 use Rattle.fcl_syntax.specs.Annotations.{Sym, tokens_of, IsClean}
 use Rattle.fcl_syntax.specs.First.{looks_on, SameNext, SameHead}
-use Rattle.fcl_syntax.proofs.Parser.{disjoint, Stops, Starts, annotation_at, first_annotation, or_else}
+use Rattle.fcl_syntax.proofs.Parser.{disjoint, Stops, Starts, annotation_at, first_annotation, or_else, answer, Parser}
 
 pub bind_ok : {A B : Type 0} (r : Result A Fault) (f : A → Result B Fault) (y : B) → (r >>= f) ≡ Ok y
     → (x : A) × (r ≡ Ok x) × (f x ≡ Ok y)
@@ -27,9 +27,28 @@ done x = Ok x
 pub ok_is : {A : Type 0} (x y : A) → done x ≡ done y → x ≡ y
 ok_is x y e = cc
 
+pub not_both : {A E : Type 0} (r : Result A E) (a : A) (e : E) → r ≡ Ok a → r ≡ Err e → ⊥
+not_both (Ok x) a e p q = cc
+not_both (Err c) a e p q = cc
+
+pub same_err : {A E : Type 0} (r : Result A E) (d e : E) → r ≡ Err d → r ≡ Err e → d ≡ e
+same_err (Ok x) d e p q = absurd cc
+same_err (Err c) d e p q = cc
+
 pub tokens_of-append : (a b : List Sym) → tokens_of (a ++ b) ≡ tokens_of a ++ tokens_of b
 tokens_of-append [] b = refl
 tokens_of-append (s ∷ a) b = ap (λ (l : List Token). s.token ∷ l) (tokens_of-append a b)
+
+-- two texts before a rest, as the first before the second and the rest
+pub tokens_of-append-rest : (a b : List Sym) (rest : List Token)
+    → tokens_of (a ++ b) ++ rest ≡ tokens_of a ++ (tokens_of b ++ rest)
+tokens_of-append-rest a b rest =
+    ap (λ (l : List Token). l ++ rest) (tokens_of-append a b) ∙ append_assoc (tokens_of a) (tokens_of b) rest
+
+pub parts_joined : (a b : List Sym) (rest : List Token) {ts between : List Token} → ts ≡ tokens_of a ++ between
+    → between ≡ tokens_of b ++ rest → ts ≡ tokens_of (a ++ b) ++ rest
+parts_joined a b rest first second =
+    first ∙ ap (λ (l : List Token). tokens_of a ++ l) second ∙ sym (tokens_of-append-rest a b rest)
 
 pub length-tokens : (a : List Sym) → length (tokens_of a) ≡ length a
 length-tokens [] = refl
@@ -38,6 +57,14 @@ length-tokens (s ∷ a) = ap suc (length-tokens a)
 pub IsClean-append : (a b : List Sym) → IsClean a → IsClean b → IsClean (a ++ b)
 IsClean-append [] b p q = q
 IsClean-append (s ∷ a) b p q = (p.0, IsClean-append a b p.1 q)
+
+pub clean_front : (a b : List Sym) → IsClean (a ++ b) → IsClean a
+clean_front [] b h = tt
+clean_front (s ∷ a) b h = (h.0, clean_front a b h.1)
+
+pub clean_back : (a b : List Sym) → IsClean (a ++ b) → IsClean b
+clean_back [] b h = h
+clean_back (s ∷ a) b h = clean_back a b h.1
 
 annotation_at-or_else : (m : Option Kind) (n : ℕ) (o q : Option Fault)
     → annotation_at m n (or_else o q) ≡ or_else (annotation_at m n o) q
@@ -53,9 +80,24 @@ first_annotation-append (s ∷ a) b n =
     (annotation_at-or_else s.annotation (suc (length a + (length b + n))) (first_annotation a (length b + n))
     (first_annotation b n))
 
+pub first_annotation-append-rest : (a b : List Sym) (rest : List Token)
+    → first_annotation (a ++ b) (length rest)
+    ≡ or_else (first_annotation a (length (tokens_of b ++ rest))) (first_annotation b (length rest))
+first_annotation-append-rest a b rest =
+    let len : length b + length rest ≡ length (tokens_of b ++ rest) =
+    omega (arith, length-append (tokens_of b) rest, length-tokens b) in
+    first_annotation-append a b (length rest)
+    ∙ ap (λ (n : ℕ). or_else (first_annotation a n) (first_annotation b (length rest))) len
+
 pub first_annotation-clean : (a : List Sym) (n : ℕ) → IsClean a → first_annotation a n ≡ None
 first_annotation-clean [] n h = refl
 first_annotation-clean (s ∷ a) n h = rw (h.0) (first_annotation-clean a n h.1)
+
+-- what reads a text answers its tree, where nothing in it is refused
+pub clean_read : {A : Type 0} (p : Parser A) (a : A) (rest : List Token) → IsClean (p.text a) → Stops p.goes rest
+    → p.read (tokens_of (p.text a) ++ rest) ≡ Ok (a, rest)
+clean_read p a rest clean stops = p.again a rest stops
+    ∙ ap (λ (m : Option Fault). answer m a rest) (first_annotation-clean (p.text a) (length rest) clean)
 
 -- ---- sets
 

@@ -73,6 +73,11 @@ pub record Dead (X : Type 0) : Type 0 where
 abbrev pub unless : {A : Type 0} → Bool → Fault → Result A Fault → Result A Fault
 unless b e r = cond_read b (Err e) r
 
+pub unless_ok : {A : Type 0} (b : Bool) (e : Fault) (r : Result A Fault) (y : A) → unless b e r ≡ Ok y
+    → (b ≡ false) × (r ≡ Ok y)
+unless_ok true e r y h = absurd cc
+unless_ok false e r y h = (refl, h)
+
 pub to_shows : {T : Type 0} (text : T → List Sym) (k : Kind) (front bad : List Token) → Shown text k front bad
     → Shows text k front bad
 to_shows text Expected front bad s = tt
@@ -98,16 +103,11 @@ module _ {X A : Type 0} (d : Dead X) (p : Parser A) (apart : disjoint d.among p.
       subst (λ (l : List Sym). Starts first (tokens_of l ++ rest)) (sym (d.is x)) (first_dead (d.head x) (d.classes x))
   dead_begins (inr a) rest = widen first p.first (tokens_of (p.text a) ++ rest) first_right (p.begins a rest)
 
-  unless_ok : (b : Bool) (e : Fault) (r : Result ((X ⊎ A) × List Token) Fault) (y : (X ⊎ A) × List Token)
-      → unless b e r ≡ Ok y → r ≡ Ok y
-  unless_ok true e r y h = absurd cc
-  unless_ok false e r y h = h
-
   pub dead_stands : (ts : List Token) (t : X ⊎ A) (rest : List Token) → dead_read d p ts ≡ Ok (t, rest)
       → Stands (dead_text d p) p.goes ts t rest
   dead_stands ts t rest e =
       seen_stands p (λ a. inr a) (dead_text d p) (λ a. refl) ts t rest
-      (unless_ok (starts d.among ts) (fault_at d.kind (length ts)) (to_right (p.read ts)) (t, rest) e)
+      (unless_ok (starts d.among ts) (fault_at d.kind (length ts)) (to_right (p.read ts)) (t, rest) e).1
 
   pub dead_again : (t : X ⊎ A) (rest : List Token) → Stops p.goes rest
       → dead_read d p (tokens_of (dead_text d p t) ++ rest) ≡ answer

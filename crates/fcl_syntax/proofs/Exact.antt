@@ -12,18 +12,10 @@ use Rattle.fcl_syntax.specs.Readers.{ended, ◌>>=◌, fault_at}
 use Rattle.fcl_syntax.specs.declared.fault.Kind.TheVariants.{Expected, Deep, Unsupported}
 use Rattle.fcl_syntax.proofs.Parser.{Stops, annotation_at, first_annotation, answer, Stands, Viable, Fails, Parser}
 use Rattle.fcl_syntax.proofs.AnnotatedTexts.{bind_ok, bind_err, ok_is, tokens_of-append, length-tokens}
-use Rattle.fcl_syntax.proofs.AnnotatedTexts.{first_annotation-clean}
+use Rattle.fcl_syntax.proofs.AnnotatedTexts.{first_annotation-clean, clean_read, not_both, same_err}
 
 abbrev pub whole : {T : Type 0} → Parser T → List Token → Result T Fault
 whole p ts = p.read ts >>= ended
-
-err_is : {A : Type 0} (r : Result A Fault) (d e : Fault) → r ≡ Err d → r ≡ Err e → d ≡ e
-err_is (Ok x) d e p q = absurd cc
-err_is (Err c) d e p q = cc
-
-not_both : {A : Type 0} (r : Result A Fault) (a : A) (e : Fault) → r ≡ Ok a → r ≡ Err e → ⊥
-not_both (Ok x) a e p q = cc
-not_both (Err c) a e p q = cc
 
 clean_annotation : (m : Option Kind) → m ≡ None → IsPlainAnnotation m
 clean_annotation None e = tt
@@ -181,12 +173,12 @@ module _ {T : Type 0} (p : Parser T) where
           subst (Spells p.text ts) is (record { parts = s.parts ∙ append-nil (tokens_of (p.text u)); clean = s.clean })
       go (u, y ∷ rest) s e = absurd cc
 
+  spells_read : (ts : List Token) (t : T) → Spells p.text ts t → p.read ts ≡ Ok (t, [])
+  spells_read ts t s = ap p.read s.parts ∙ read_text t
+      ∙ ap (λ (o : Option Fault). answer o t []) (first_annotation-clean (p.text t) 0 s.clean)
+
   pub spells_whole : (ts : List Token) (t : T) → Spells p.text ts t → whole p ts ≡ Ok t
-  spells_whole ts t s =
-      let read : p.read ts ≡ Ok (t, []) =
-      ap p.read s.parts ∙ read_text t
-      ∙ ap (λ (o : Option Fault). answer o t []) (first_annotation-clean (p.text t) 0 s.clean) in
-      ap (λ (r : Result (T × List Token) Fault). r >>= ended) read
+  spells_whole ts t s = ap (λ (r : Result (T × List Token) Fault). r >>= ended) (spells_read ts t s)
 
   -- ---- no
 
@@ -198,7 +190,7 @@ module _ {T : Type 0} (p : Parser T) where
       → suc e.left ≤ length b → NoAnnotation p.text f b
   no_annotation_before ts e h f b parts lt k m s =
       let r = refused ts f b k parts s in
-      let is : r.0 ≡ e = err_is (p.read ts) r.0 e r.1 h in
+      let is : r.0 ≡ e = same_err (p.read ts) r.0 e r.1 h in
       elim r.2 [
         | inl a ↦ omega (arith, ap (λ (e : Fault). e.left) is, lt, a)
         | inr b ↦ omega
@@ -210,7 +202,7 @@ module _ {T : Type 0} (p : Parser T) where
       → k ≡ e.kind
   annotation_here ts e h f b parts left k s =
       let r = refused ts f b k parts s in
-      let is : r.0 ≡ e = err_is (p.read ts) r.0 e r.1 h in
+      let is : r.0 ≡ e = same_err (p.read ts) r.0 e r.1 h in
       elim r.2 [
         | inl a ↦ absurd (omega (arith, ap (λ (e : Fault). e.left) is, left, a))
         | inr b ↦ ap
@@ -262,9 +254,7 @@ module _ {T : Type 0} (p : Parser T) where
   no_text_after ts t x rest s v =
       let parts : tokens_of (p.text v.tree) ≡ tokens_of (p.text t) ++ (x ∷ v.more) =
       v.parts ∙ append_assoc (tokens_of (p.text t)) (x ∷ []) v.more in
-      let two : p.read (tokens_of (p.text t) ++ (x ∷ v.more)) ≡ Ok (t, x ∷ v.more) = p.again t (x ∷ v.more) s.stops
-      ∙ ap (λ (o : Option Fault). answer o t (x ∷ v.more))
-      (first_annotation-clean (p.text t) (length (x ∷ v.more)) s.clean) in
+      let two = clean_read p t (x ∷ v.more) s.clean s.stops in
       elim (text_read v.tree (Ok (t, x ∷ v.more)) v.plain (ap p.read parts ∙ two)) [
         | inl a ↦
             (let rests : (x ∷ v.more) ≡ [] = ap (λ (z : T × List Token). z.1) (ok_is (t, x ∷ v.more) (v.tree, []) a) in
@@ -344,12 +334,10 @@ module _ {T : Type 0} (p : Parser T) where
   pub fault_not_text : (ts : List Token) (e : Fault) (t : T) → FirstFault p.text ts e → Spells p.text ts t → ⊥
   fault_not_text ts e t f s = go e.kind f.here f.bad refl
     where
-      ok : p.read ts ≡ Ok (t, [])
-      ok = ap p.read s.parts ∙ read_text t
-          ∙ ap (λ (o : Option Fault). answer o t []) (first_annotation-clean (p.text t) 0 s.clean)
-
       annotated_no : (k : Kind) → Shown p.text k f.front f.bad → ⊥
-      annotated_no k h = let r = refused ts f.front f.bad k f.parts h in not_both (p.read ts) (t, []) r.0 ok r.1
+      annotated_no k h =
+          let r = refused ts f.front f.bad k f.parts h in
+          not_both (p.read ts) (t, []) r.0 (spells_read ts t s) r.1
 
       go : (k : Kind) → Here p.text k f.front f.bad → (bad : List Token) → f.bad ≡ bad → ⊥
       go Expected h [] b =
@@ -397,7 +385,7 @@ module _ {T : Type 0} (p : Parser T) where
   one_annotation ts d g k j a b =
       let r = refused ts g.front g.bad k g.parts a in
       let s = refused ts g.front g.bad j g.parts b in
-      let is : r.0 ≡ s.0 = err_is (p.read ts) r.0 s.0 r.1 s.1 in
+      let is : r.0 ≡ s.0 = same_err (p.read ts) r.0 s.0 r.1 s.1 in
       let read_err : whole p ts ≡ Err r.0 = ap (λ (x : Result (T × List Token) Fault). x >>= ended) r.1 in
       let f = whole_faults ts r.0 read_err in
       elim r.2 [

@@ -21,7 +21,8 @@ use Rattle.fcl_syntax.specs.{Text.SpellsTree, Text.IsFirstFault, TextReading.rea
 use Rattle.fcl_syntax.specs.View.{view_signed_number, view_declaration, view_variables, view_section, view_part}
 use Rattle.fcl_syntax.specs.View.{view_weight, view_rule, view_rule_item, view_act_word, view_act, view_rule_line}
 use Rattle.fcl_syntax.specs.View.{view_rulebase, view}
-use Rattle.fcl_syntax.proofs.KeptLists.{HasTree, accepted, clean_back, clean_front, each_tree, no_annotation}
+use Rattle.fcl_syntax.proofs.AnnotatedTexts.{clean_back, clean_front}
+use Rattle.fcl_syntax.proofs.KeptLists.{HasTree, accepted, each_tree, no_annotation}
 use Rattle.fcl_syntax.proofs.KeptTerms.{signed_number_tree, part_tree, setting_tree}
 use Rattle.fcl_syntax.proofs.Theorem.{read_faults, read_spells}
 

@@ -1,16 +1,9 @@
 -- Nothing in a clean text is refused, so each list in it is one of the program.
-use Rattle.std.proofs.Common.{◌≡◌, ◌⊎◌, inl, inr, List, [], ◌∷◌, ◌++◌, map, Some, None, refl}
+use Rattle.std.proofs.Common.{◌≡◌, ◌⊎◌, inl, inr, List, [], ◌∷◌, map, Some, None, refl}
 use Rattle.fcl_syntax.specs.{declared.fault.Kind.Kind, Grammar.each, TokenClasses.Among}
 use Rattle.fcl_syntax.specs.Annotations.{IsClean, Sym, or_refused}
 use Rattle.std.specs.Prelude.{ℕ}
-
-pub clean_front : (a b : List Sym) → IsClean (a ++ b) → IsClean a
-clean_front [] b h = tt
-clean_front (s ∷ a) b h = (h.0, clean_front a b h.1)
-
-pub clean_back : (a b : List Sym) → IsClean (a ++ b) → IsClean b
-clean_back [] b h = h
-clean_back (s ∷ a) b h = clean_back a b h.1
+use Rattle.fcl_syntax.proofs.AnnotatedTexts.{clean_back, clean_front}
 
 -- a tree of the program has this view
 abbrev pub HasTree : {A T : Type 0} → (A → T) → T → Type 0

@@ -24,7 +24,8 @@ use Rattle.fcl_syntax.specs.Annotations.{IsClean, Sym, plain, either_text, or_re
 use Rattle.fcl_syntax.specs.View.{view_signed_number, view_coordinate, view_degree, view_point, view_term, view_range}
 use Rattle.fcl_syntax.specs.View.{view_fuzzy_line, view_fuzzify, view_setting, view_singleton, view_value}
 use Rattle.fcl_syntax.specs.View.{view_fallback, view_defuzzy_line, view_defuzzify, view_part}
-use Rattle.fcl_syntax.proofs.KeptLists.{HasTree, accepted, clean_back, clean_front, each_tree, no_annotation}
+use Rattle.fcl_syntax.proofs.AnnotatedTexts.{clean_back, clean_front}
+use Rattle.fcl_syntax.proofs.KeptLists.{HasTree, accepted, each_tree, no_annotation}
 
 -- ---- numbers
 

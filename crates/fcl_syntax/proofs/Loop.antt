@@ -7,8 +7,9 @@ use Rattle.fcl_syntax.specs.declared.fault.Fault.{Fault}
 use Rattle.fcl_syntax.specs.{Annotations.Sym, Annotations.tokens_of, Annotations.IsClean, Grammar.each}
 use Rattle.fcl_syntax.specs.Readers.{◌>>=◌, starts, with_front, turn, loop}
 use Rattle.fcl_syntax.proofs.Parser.{disjoint, Stops, Starts, first_annotation, or_else, answer, Fails, Parser}
-use Rattle.fcl_syntax.proofs.AnnotatedTexts.{bind_ok, bind_err, ok_is, tokens_of-append, length-tokens, IsClean-append}
-use Rattle.fcl_syntax.proofs.AnnotatedTexts.{first_annotation-append, first_annotation-clean, starts-stops}
+use Rattle.fcl_syntax.proofs.AnnotatedTexts.{bind_ok, bind_err, ok_is, tokens_of-append-rest, parts_joined}
+use Rattle.fcl_syntax.proofs.AnnotatedTexts.{IsClean-append, clean_back, clean_front, clean_read, first_annotation-append-rest}
+use Rattle.fcl_syntax.proofs.AnnotatedTexts.{starts-stops}
 use Rattle.fcl_syntax.proofs.Small.{starts-is}
 
 module _ {A : Type 0} (p : Parser A) where
@@ -43,10 +44,6 @@ pub record Ran {A : Type 0} (p : Parser A) (ts : List Token) (items : List A) (r
   pub ends : starts p.first rest ≡ false
   pub stops : Settled p.goes items rest
 
-pub clean_parts : (a b : List Sym) → IsClean (a ++ b) → IsClean a × IsClean b
-clean_parts [] b h = (tt, h)
-clean_parts (s ∷ a) b h = let r = clean_parts a b h.1 in ((h.0, r.0), r.1)
-
 pub record FailsIn {A : Type 0} (p : Parser A) (ts : List Token) (e : Fault) : Type 0 where
   pub before : List A
   pub clean : IsClean (texts p before)
@@ -65,6 +62,15 @@ module _ {A : Type 0} (p : Parser A) (apart : disjoint p.goes p.first ≡ true) 
 
   shorter : (a : A) (rest : List Token) (n : ℕ) → length (tokens_of (p.text a) ++ rest) ≤ suc n → length rest ≤ n
   shorter a rest n h = omega (arith, longer p.first (tokens_of (p.text a)) rest (begins_alone a))
+
+  -- one item has a token at least
+  none_within : (a : A) (items : List A) (rest : List Token) → length (tokens_of (texts p (a ∷ items)) ++ rest) ≤ 0 → ⊥
+  none_within a items rest h = omega (
+    arith,
+    ap length (tokens_of-append-rest (p.text a) (texts p items) rest),
+    longer p.first (tokens_of (p.text a)) (tokens_of (texts p items) ++ rest) (begins_alone a),
+    h,
+  )
 
   with_front_ok : (a : A) (r : Result (List A × List Token) Fault) (items : List A) (rest : List Token)
       → with_front a r ≡ Ok (items, rest) → (bs : List A) ×
@@ -106,9 +112,7 @@ module _ {A : Type 0} (p : Parser A) (apart : disjoint p.goes p.first ≡ true) 
           shorter x.0.0 x.0.1 n (subst (λ (l : List Token). length l ≤ suc n) s.parts len) in
           let r = again x.0.1 y.0 rest len' y.1 in
           let whole : Ran p ts (x.0.0 ∷ y.0) rest = record {
-            parts = s.parts ∙ ap (λ (l : List Token). tokens_of (p.text x.0.0) ++ l) r.parts
-                ∙ sym (append_assoc (tokens_of (p.text x.0.0)) (tokens_of (texts p y.0)) rest)
-                ∙ ap (λ (l : List Token). l ++ rest) (sym (tokens_of-append (p.text x.0.0) (texts p y.0)));
+            parts = parts_joined (p.text x.0.0) (texts p y.0) rest s.parts r.parts;
             clean = IsClean-append (p.text x.0.0) (texts p y.0) s.clean r.clean;
             ends = r.ends;
             stops = settle y.0 x.0.1 rest r.parts s.stops r.stops;
@@ -119,65 +123,41 @@ module _ {A : Type 0} (p : Parser A) (apart : disjoint p.goes p.first ≡ true) 
   rep_ends zero rest h = refl
   rep_ends (suc n) rest h = rw h refl
 
+  pub stops_before : (items : List A) (rest : List Token) → Stops p.goes rest
+      → Stops p.goes (tokens_of (texts p items) ++ rest)
+  stops_before [] rest stops = stops
+  stops_before (b ∷ bs) rest stops =
+      starts-stops p.goes p.first (tokens_of (texts p (b ∷ bs)) ++ rest) apart
+      (subst (Starts p.first) (sym (tokens_of-append-rest (p.text b) (texts p bs) rest))
+      (p.begins b (tokens_of (texts p bs) ++ rest)))
+
   -- the items of a text, and then anything
   pub rep_again : (n : ℕ) (items : List A) (rest : List Token) → length (tokens_of (texts p items) ++ rest) ≤ n
       → starts p.first rest ≡ false
       → Settled p.goes items rest
       → rep p n (tokens_of (texts p items) ++ rest) ≡ answer (first_annotation (texts p items) (length rest)) items rest
   rep_again n [] rest len ends stops = rep_ends n rest ends
-  rep_again zero (a ∷ items) rest len ends stops =
-      let after : List Token = tokens_of (texts p items) ++ rest in
-      let regrouped : tokens_of (texts p (a ∷ items)) ++ rest ≡ tokens_of (p.text a) ++
-      after = ap (λ (l : List Token). l ++ rest) (tokens_of-append (p.text a) (texts p items))
-      ∙ append_assoc (tokens_of (p.text a)) (tokens_of (texts p items)) rest in
-      absurd (omega (arith, ap length regrouped, longer p.first (tokens_of (p.text a)) after (begins_alone a), len))
+  rep_again zero (a ∷ items) rest len ends stops = absurd (none_within a items rest len)
   rep_again (suc n) (a ∷ items) rest len ends stops =
       let after : List Token = tokens_of (texts p items) ++ rest in
-      let regrouped : tokens_of (texts p (a ∷ items)) ++ rest ≡ tokens_of (p.text a) ++
-      after = ap (λ (l : List Token). l ++ rest) (tokens_of-append (p.text a) (texts p items))
-      ∙ append_assoc (tokens_of (p.text a)) (tokens_of (texts p items)) rest in
+      let regrouped = tokens_of-append-rest (p.text a) (texts p items) rest in
       let len' : length after ≤ n = shorter a after n (subst (λ (l : List Token). length l ≤ suc n) regrouped len) in
-      let hp = p.again a after (stops_after items) in
+      let hp = p.again a after (stops_before items rest stops) in
       let hr = rep_again n items rest len' ends (all_settled p.goes items rest stops) in
-      let annotations : first_annotation (texts p (a ∷ items)) (length rest) ≡ or_else
-      (first_annotation (p.text a) (length after))
-      (first_annotation (texts p items) (length rest)) =
-      first_annotation-append (p.text a) (texts p items) (length rest)
-      ∙ ap (λ (n : ℕ). or_else (first_annotation (p.text a) n)
-      (first_annotation (texts p items) (length rest))) (sym (lengths items)) in
       ap (rep p (suc n)) regrouped
       ∙ ap (λ (b : Bool). turn b (p.read (tokens_of (p.text a) ++ after) >>= λ a. with_front a.0 (rep p n a.1))
       (tokens_of (p.text a) ++ after))
       (starts-is p.first (tokens_of (p.text a) ++ after) (p.begins a after))
       ∙ ap (λ (r : Result (A × List Token) Fault). r >>= λ a. with_front a.0 (rep p n a.1)) hp
       ∙ step (first_annotation (p.text a) (length after)) (first_annotation (texts p items) (length rest)) after hr
-      ∙ ap (λ (m : Option Fault). answer m (a ∷ items) rest) (sym annotations)
+      ∙ ap (λ (m : Option Fault). answer m (a ∷ items) rest)
+      (sym (first_annotation-append-rest (p.text a) (texts p items) rest))
     where
-      lengths : (items : List A) → length (tokens_of (texts p items) ++ rest) ≡ length (texts p items) + length rest
-      lengths items = omega (arith, length-append (tokens_of (texts p items)) rest, length-tokens (texts p items))
-
-      stops_after : (items : List A) → Stops p.goes (tokens_of (texts p items) ++ rest)
-      stops_after [] = stops
-      stops_after (b ∷ bs) =
-          starts-stops p.goes p.first (tokens_of (texts p (b ∷ bs)) ++ rest) apart
-          (subst (Starts p.first) (sym (append_assoc (tokens_of (p.text b)) (tokens_of (texts p bs)) rest)
-          ∙ ap (λ (l : List Token). l ++ rest) (sym (tokens_of-append (p.text b) (texts p bs))))
-          (p.begins b (tokens_of (texts p bs) ++ rest)))
-
       step : (m k : Option Fault) (r : List Token) → rep p n r ≡ answer k items rest
           → (answer m a r >>= λ a. with_front a.0 (rep p n a.1)) ≡ answer {T = List A} (or_else m k) (a ∷ items) rest
       step None None r h = rw h refl
       step None (Some e) r h = rw h refl
       step (Some e) k r h = refl
-
-  pub stops_before : (items : List A) (rest : List Token) → Stops p.goes rest
-      → Stops p.goes (tokens_of (texts p items) ++ rest)
-  stops_before [] rest stops = stops
-  stops_before (b ∷ bs) rest stops =
-      starts-stops p.goes p.first (tokens_of (texts p (b ∷ bs)) ++ rest) apart
-      (subst (Starts p.first) (sym (append_assoc (tokens_of (p.text b)) (tokens_of (texts p bs)) rest)
-      ∙ ap (λ (l : List Token). l ++ rest) (sym (tokens_of-append (p.text b) (texts p bs))))
-      (p.begins b (tokens_of (texts p bs) ++ rest)))
 
   -- items, and then what fails
   pub rep_local : (n : ℕ) (items : List A) (rest : List Token) (d : Fault)
@@ -186,23 +166,14 @@ module _ {A : Type 0} (p : Parser A) (apart : disjoint p.goes p.first ≡ true) 
       → rep p n (tokens_of (texts p items) ++ rest) ≡ Err d
   rep_local zero [] rest d len clean begun fails = absurd (let no = starts-nil p.first rest len in cc)
   rep_local (suc n) [] rest d len clean begun fails = rw (begun, fails) refl
-  rep_local zero (a ∷ items) rest d len clean begun fails =
-      let after : List Token = tokens_of (texts p items) ++ rest in
-      let regrouped : tokens_of (texts p (a ∷ items)) ++ rest ≡ tokens_of (p.text a) ++
-      after = ap (λ (l : List Token). l ++ rest) (tokens_of-append (p.text a) (texts p items))
-      ∙ append_assoc (tokens_of (p.text a)) (tokens_of (texts p items)) rest in
-      absurd (omega (arith, ap length regrouped, longer p.first (tokens_of (p.text a)) after (begins_alone a), len))
+  rep_local zero (a ∷ items) rest d len clean begun fails = absurd (none_within a items rest len)
   rep_local (suc n) (a ∷ items) rest d len clean begun fails =
       let after : List Token = tokens_of (texts p items) ++ rest in
-      let regrouped : tokens_of (texts p (a ∷ items)) ++ rest ≡ tokens_of (p.text a) ++
-      after = ap (λ (l : List Token). l ++ rest) (tokens_of-append (p.text a) (texts p items))
-      ∙ append_assoc (tokens_of (p.text a)) (tokens_of (texts p items)) rest in
+      let regrouped = tokens_of-append-rest (p.text a) (texts p items) rest in
       let len' : length after ≤ n = shorter a after n (subst (λ (l : List Token). length l ≤ suc n) regrouped len) in
-      let parts = clean_parts (p.text a) (texts p items) clean in
-      let hp : p.read (tokens_of (p.text a) ++ after) ≡ Ok (a, after) = p.again a after
-      (stops_before items rest (starts-stops p.goes p.first rest apart (starts-Starts rest begun)))
-      ∙ ap (λ (m : Option Fault). answer m a after) (first_annotation-clean (p.text a) (length after) parts.0) in
-      let hr = rep_local n items rest d len' parts.1 begun fails in
+      let hp = clean_read p a after (clean_front (p.text a) (texts p items) clean)
+      (stops_before items rest (starts-stops p.goes p.first rest apart (starts-Starts rest begun))) in
+      let hr = rep_local n items rest d len' (clean_back (p.text a) (texts p items) clean) begun fails in
       ap (rep p (suc n)) regrouped
       ∙ ap (λ (b : Bool). turn b (p.read (tokens_of (p.text a) ++ after) >>= λ a. with_front a.0 (rep p n a.1))
       (tokens_of (p.text a) ++ after))
@@ -229,9 +200,7 @@ module _ {A : Type 0} (p : Parser A) (apart : disjoint p.goes p.first ≡ true) 
             before = a ∷ f.before;
             clean = IsClean-append (p.text a) (texts p f.before) s.clean f.clean;
             ts' = f.ts';
-            parts = s.parts ∙ ap (λ (l : List Token). tokens_of (p.text a) ++ l) f.parts
-                ∙ sym (append_assoc (tokens_of (p.text a)) (tokens_of (texts p f.before)) f.ts')
-                ∙ ap (λ (l : List Token). l ++ f.ts') (sym (tokens_of-append (p.text a) (texts p f.before)));
+            parts = parts_joined (p.text a) (texts p f.before) f.ts' s.parts f.parts;
             begun = f.begun;
             inner = f.inner;
           }

@@ -1,15 +1,16 @@
 -- P {Q} and {P} Q as parsers.
 use Rattle.std.proofs.Common.{◌≡◌, ℕ, ◌+◌, Bool, true, false, cond, eqb, List, [], ◌∷◌, ◌++◌, length, Option, Some}
 use Rattle.std.proofs.Common.{None, Result, Ok, Err, refl, sym, ap, subst, ◌∙◌, append_assoc, arith, inl, inr}
-use Rattle.std.proofs.lemmas.List.{append-nil, length-append}
+use Rattle.std.proofs.lemmas.List.{append-nil}
 use Rattle.fcl_tokens.specs.declared.token.Token.{Token}
 use Rattle.fcl_syntax.specs.declared.{fault.Fault.Fault, fault.Kind.Kind}
 use Rattle.fcl_syntax.specs.{TokenClasses.class_of, TokenClasses.mem, First.SameHead}
 use Rattle.fcl_syntax.specs.Annotations.{Sym, tokens_of, IsClean}
 use Rattle.fcl_syntax.specs.Readers.{◌>>=◌, fault_at, starts}
 use Rattle.fcl_syntax.proofs.Parser.{disjoint, Stops, Starts, first_annotation, or_else, answer, Stands, Fails, Parser}
-use Rattle.fcl_syntax.proofs.AnnotatedTexts.{bind_ok, bind_err, ok_is, tokens_of-append, length-tokens, IsClean-append}
-use Rattle.fcl_syntax.proofs.AnnotatedTexts.{first_annotation-append, first_annotation-clean, starts-stops, Stops-same}
+use Rattle.fcl_syntax.proofs.AnnotatedTexts.{bind_ok, bind_err, ok_is, tokens_of-append-rest, parts_joined}
+use Rattle.fcl_syntax.proofs.AnnotatedTexts.{IsClean-append, first_annotation-append-rest, first_annotation-clean, clean_read}
+use Rattle.fcl_syntax.proofs.AnnotatedTexts.{starts-stops, Stops-same}
 use Rattle.fcl_syntax.proofs.{Seq.Shows-in, Seq.Viable-in, Small.starts-not, Small.starts-same, Small.widen}
 use Rattle.fcl_syntax.proofs.Loop.{texts, rep, Settled, all_settled, Ran, FailsIn, rep_runs, rep_again, rep_local}
 use Rattle.fcl_syntax.proofs.Loop.{rep_fails, stops_before, starts-Starts}
@@ -52,8 +53,7 @@ module _ {A B : Type 0} (p : Parser A) (q : Parser B) (apart : disjoint q.goes q
     (same_goes : p.goes ≡ q.goes) where
   pub then_begins : (t : A × List B) (rest : List Token) → Starts p.first (tokens_of (then_text p q t) ++ rest)
   then_begins t rest =
-      subst (Starts p.first) (sym (append_assoc (tokens_of (p.text t.0)) (tokens_of (texts q t.1)) rest)
-      ∙ sym (ap (λ (l : List Token). l ++ rest) (tokens_of-append (p.text t.0) (texts q t.1))))
+      subst (Starts p.first) (sym (tokens_of-append-rest (p.text t.0) (texts q t.1) rest))
       (p.begins t.0 (tokens_of (texts q t.1) ++ rest))
 
   settled_stops : (items : List B) (ts rest : List Token) → ts ≡ tokens_of (texts q items) ++ rest → Stops p.goes ts
@@ -71,9 +71,7 @@ module _ {A B : Type 0} (p : Parser A) (q : Parser B) (apart : disjoint q.goes q
       let r = rep_runs q apart (length x.0.1) x.0.1 y.0.0 y.0.1 (omega arith) y.1 in
       let made : (A × List B) × List Token = ((x.0.0, y.0.0), y.0.1) in
       let whole : Stands (then_text p q) (q.first ++ q.goes) ts made.0 made.1 = record {
-        parts = s.parts ∙ ap (λ (l : List Token). tokens_of (p.text x.0.0) ++ l) r.parts
-            ∙ sym (append_assoc (tokens_of (p.text x.0.0)) (tokens_of (texts q y.0.0)) y.0.1)
-            ∙ ap (λ (l : List Token). l ++ y.0.1) (sym (tokens_of-append (p.text x.0.0) (texts q y.0.0)));
+        parts = parts_joined (p.text x.0.0) (texts q y.0.0) y.0.1 s.parts r.parts;
         clean = IsClean-append (p.text x.0.0) (texts q y.0.0) s.clean r.clean;
         stops = Stops-both q.first q.goes y.0.1 r.ends (settled_stops y.0.0 x.0.1 y.0.1 r.parts s.stops r.stops);
       } in
@@ -93,24 +91,14 @@ module _ {A B : Type 0} (p : Parser A) (q : Parser B) (apart : disjoint q.goes q
   then_again t rest stops =
       let both = Stops-parts q.first q.goes rest stops in
       let after : List Token = tokens_of (texts q t.1) ++ rest in
-      let regrouped : tokens_of (then_text p q t) ++ rest ≡ tokens_of (p.text t.0) ++
-      after = ap (λ (l : List Token). l ++ rest) (tokens_of-append (p.text t.0) (texts q t.1))
-      ∙ append_assoc (tokens_of (p.text t.0)) (tokens_of (texts q t.1)) rest in
       let hp = p.again t.0 after
       (subst (λ (g : List ℕ). Stops g after) (sym same_goes) (stops_before q apart t.1 rest both.1)) in
       let hr = rep_again q apart (length after) t.1 rest (omega arith) both.0 (all_settled q.goes t.1 rest both.1) in
-      let len : length after ≡ length (texts q t.1) + length rest =
-      omega (arith, length-append (tokens_of (texts q t.1)) rest, length-tokens (texts q t.1)) in
-      let annotations : first_annotation (then_text p q t) (length rest) ≡ or_else
-      (first_annotation (p.text t.0) (length after))
-      (first_annotation (texts q t.1) (length rest)) = first_annotation-append (p.text t.0) (texts q t.1) (length rest)
-      ∙ ap (λ (n : ℕ). or_else (first_annotation (p.text t.0) n) (first_annotation (texts q t.1) (length rest)))
-      (sym len) in
-      ap (then_read p q) regrouped
+      ap (then_read p q) (tokens_of-append-rest (p.text t.0) (texts q t.1) rest)
       ∙ ap (λ (r : Result (A × List Token) Fault). r >>= λ a. rep q (length a.1) a.1 >>= λ r. Ok ((a.0, r.0), r.1)) hp
       ∙ then_step (first_annotation (p.text t.0) (length after)) (first_annotation (texts q t.1) (length rest)) t.0 t.1
       after rest hr
-      ∙ ap (λ (m : Option Fault). answer m t rest) (sym annotations)
+      ∙ ap (λ (m : Option Fault). answer m t rest) (sym (first_annotation-append-rest (p.text t.0) (texts q t.1) rest))
 
   then_first : (ts : List Token) (e : Fault) → Fails p.text p.read ts e → Fails (then_text p q) (then_read p q) ts e
   then_first ts e f = record {
@@ -140,10 +128,8 @@ module _ {A B : Type 0} (p : Parser A) (q : Parser B) (apart : disjoint q.goes q
       record {
         front = tokens_of head ++ f.front;
         bad = f.bad;
-        parts = s.parts ∙ ap (λ (l : List Token). tokens_of (p.text a) ++ l)
+        parts = parts_joined (p.text a) (texts q g.before) (f.front ++ f.bad) s.parts
             (g.parts ∙ ap (λ (l : List Token). tokens_of (texts q g.before) ++ l) f.parts)
-            ∙ sym (append_assoc (tokens_of (p.text a)) (tokens_of (texts q g.before)) (f.front ++ f.bad))
-            ∙ ap (λ (l : List Token). l ++ (f.front ++ f.bad)) (sym (tokens_of-append (p.text a) (texts q g.before)))
             ∙ sym (append_assoc (tokens_of head) f.front f.bad);
         left = f.left;
         viable = Viable-in q.text (then_text p q) f.front head (λ b. (a, g.before ++ b ∷ [])) (λ b. [])
@@ -154,22 +140,17 @@ module _ {A B : Type 0} (p : Parser A) (q : Parser B) (apart : disjoint q.goes q
             let after : List Token = tokens_of (texts q g.before) ++ (f.front ++ b) in
             let regrouped : (tokens_of head ++ f.front) ++ b ≡ tokens_of (p.text a) ++ after =
             append_assoc (tokens_of head) f.front b
-            ∙ ap (λ (l : List Token). l ++ (f.front ++ b)) (tokens_of-append (p.text a) (texts q g.before))
-            ∙ append_assoc (tokens_of (p.text a)) (tokens_of (texts q g.before)) (f.front ++ b) in
+            ∙ tokens_of-append-rest (p.text a) (texts q g.before) (f.front ++ b) in
             let begun : starts q.first (f.front ++ b) ≡ true = starts-same q.first e.kind f.front f.bad b same
             ∙ ap (starts q.first) (sym f.parts) ∙ g.begun in
             let stops : Stops p.goes after = subst (λ (g : List ℕ). Stops g after) (sym same_goes)
             (stops_before q apart g.before (f.front ++ b) (starts-stops q.goes q.first (f.front ++ b) apart
             (starts-Starts q apart (f.front ++ b) begun))) in
-            let hp : p.read (tokens_of (p.text a) ++ after) ≡ Ok (a, after) =
-            p.again a after stops
-            ∙ ap (λ (m : Option Fault). answer m a after)
-            (first_annotation-clean (p.text a) (length after) s.clean) in
             let hr = rep_local q apart (length after) g.before (f.front ++ b) (fault_at e.kind (length b))
             (omega arith) g.clean begun (f.local b same) in
             ap (then_read p q) regrouped
             ∙ ap (λ (r : Result (A × List Token) Fault). r >>= λ a. rep q (length a.1) a.1 >>= λ r. Ok
-            ((a.0, r.0), r.1)) hp
+            ((a.0, r.0), r.1)) (clean_read p a after s.clean stops)
             ∙ ap (λ (r : Result (List B × List Token) Fault). r >>= λ r. Ok ((a, r.0), r.1)) hr;
       }
 
@@ -221,8 +202,7 @@ module _ {A B : Type 0} (p : Parser A) (q : Parser B) (apart : disjoint p.goes p
           let e : tokens_of (many_text p q (a ∷ items, t.1)) ++ rest ≡ tokens_of (p.text a)
           ++ (tokens_of (texts p items ++ q.text t.1) ++ rest) =
           ap (λ (l : List Sym). tokens_of l ++ rest) (append_assoc (p.text a) (texts p items) (q.text t.1))
-          ∙ ap (λ (l : List Token). l ++ rest) (tokens_of-append (p.text a) (texts p items ++ q.text t.1))
-          ∙ append_assoc (tokens_of (p.text a)) (tokens_of (texts p items ++ q.text t.1)) rest in
+          ∙ tokens_of-append-rest (p.text a) (texts p items ++ q.text t.1) rest in
           subst (Starts first) (sym e)
           (widen first p.first
           (tokens_of (p.text a) ++ (tokens_of (texts p items ++ q.text t.1) ++ rest)) first_item
@@ -237,9 +217,7 @@ module _ {A B : Type 0} (p : Parser A) (q : Parser B) (apart : disjoint p.goes p
       let s = q.stands x.0.1 y.0.0 y.0.1 y.1 in
       let made : (List A × B) × List Token = ((x.0.0, y.0.0), y.0.1) in
       let whole : Stands (many_text p q) q.goes ts made.0 made.1 = record {
-        parts = r.parts ∙ ap (λ (l : List Token). tokens_of (texts p x.0.0) ++ l) s.parts
-            ∙ sym (append_assoc (tokens_of (texts p x.0.0)) (tokens_of (q.text y.0.0)) y.0.1)
-            ∙ ap (λ (l : List Token). l ++ y.0.1) (sym (tokens_of-append (texts p x.0.0) (q.text y.0.0)));
+        parts = parts_joined (texts p x.0.0) (q.text y.0.0) y.0.1 r.parts s.parts;
         clean = IsClean-append (texts p x.0.0) (q.text y.0.0) r.clean s.clean;
         stops = s.stops;
       } in
@@ -258,26 +236,16 @@ module _ {A B : Type 0} (p : Parser A) (q : Parser B) (apart : disjoint p.goes p
       (first_annotation (many_text p q t) (length rest)) t rest
   many_again t rest stops =
       let after : List Token = tokens_of (q.text t.1) ++ rest in
-      let regrouped : tokens_of (many_text p q t) ++ rest ≡ tokens_of (texts p t.0) ++
-      after = ap (λ (l : List Token). l ++ rest) (tokens_of-append (texts p t.0) (q.text t.1))
-      ∙ append_assoc (tokens_of (texts p t.0)) (tokens_of (q.text t.1)) rest in
       let begins = q.begins t.1 rest in
       let hr = rep_again p apart (length (tokens_of (texts p t.0) ++ after)) t.0 after (omega arith)
       (starts-not p.first q.first after apart_first begins)
       (all_settled p.goes t.0 after (starts-stops p.goes q.first after apart_end begins)) in
       let hq = q.again t.1 rest stops in
-      let len : length after ≡ length (q.text t.1) + length rest =
-      omega (arith, length-append (tokens_of (q.text t.1)) rest, length-tokens (q.text t.1)) in
-      let annotations : first_annotation (many_text p q t) (length rest) ≡ or_else
-      (first_annotation (texts p t.0) (length after))
-      (first_annotation (q.text t.1) (length rest)) = first_annotation-append (texts p t.0) (q.text t.1) (length rest)
-      ∙ ap (λ (n : ℕ). or_else (first_annotation (texts p t.0) n) (first_annotation (q.text t.1) (length rest)))
-      (sym len) in
-      ap (many_read p q) regrouped
+      ap (many_read p q) (tokens_of-append-rest (texts p t.0) (q.text t.1) rest)
       ∙ ap (λ (r : Result (List A × List Token) Fault). r >>= λ r. q.read r.1 >>= λ b. Ok ((r.0, b.0), b.1)) hr
       ∙ many_step (first_annotation (texts p t.0) (length after)) (first_annotation (q.text t.1) (length rest)) t.0 t.1
       after rest hq
-      ∙ ap (λ (m : Option Fault). answer m t rest) (sym annotations)
+      ∙ ap (λ (m : Option Fault). answer m t rest) (sym (first_annotation-append-rest (texts p t.0) (q.text t.1) rest))
 
   item_more : (before : List A) (a : A)
       → many_text p q (before ++ a ∷ [], q.some) ≡ texts p before ++ (p.text a ++ q.text q.some)

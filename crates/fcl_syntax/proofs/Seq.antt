@@ -1,7 +1,7 @@
 -- One parser after another.
 use Rattle.std.proofs.Common.{◌≡◌, ℕ, ◌+◌, true, List, [], ◌∷◌, ◌++◌, length, Option, Some, None, Result, Ok, Err, refl}
-use Rattle.std.proofs.Common.{sym, ap, subst, ◌∙◌, append_assoc, arith, inl, inr}
-use Rattle.std.proofs.lemmas.List.{append-nil, length-append}
+use Rattle.std.proofs.Common.{sym, ap, subst, ◌∙◌, append_assoc, inl, inr}
+use Rattle.std.proofs.lemmas.List.{append-nil}
 use Rattle.fcl_tokens.specs.declared.token.Token.{Token}
 use Rattle.fcl_syntax.specs.declared.{fault.Fault.Fault, fault.Kind.Kind}
 use Rattle.fcl_syntax.specs.declared.fault.Kind.TheVariants.{Expected, Deep, Unsupported}
@@ -9,8 +9,8 @@ use Rattle.fcl_syntax.specs.Annotations.{Sym, tokens_of, IsClean, annotated}
 use Rattle.fcl_syntax.specs.{First.SameHead, First.Shown, Readers.◌>>=◌}
 use Rattle.fcl_syntax.proofs.Parser.{disjoint, Stops, Starts, first_annotation, or_else, answer, Stands, Viable, Shows}
 use Rattle.fcl_syntax.proofs.Parser.{Fails, Parser}
-use Rattle.fcl_syntax.proofs.AnnotatedTexts.{bind_ok, bind_err, ok_is, tokens_of-append, length-tokens}
-use Rattle.fcl_syntax.proofs.AnnotatedTexts.{IsClean-append, first_annotation-append, first_annotation-clean}
+use Rattle.fcl_syntax.proofs.AnnotatedTexts.{bind_ok, bind_err, ok_is, tokens_of-append, tokens_of-append-rest}
+use Rattle.fcl_syntax.proofs.AnnotatedTexts.{parts_joined, IsClean-append, first_annotation-append-rest, clean_read}
 use Rattle.fcl_syntax.proofs.AnnotatedTexts.{starts-stops, Stops-same, SameHead-append}
 
 -- what is shown of a part is shown of a whole whose text begins and goes on with others
@@ -63,8 +63,7 @@ module _ {A B : Type 0} (p : Parser A) (q : Parser B) where
 
 module _ {A B : Type 0} (p : Parser A) (q : Parser B) (apart : disjoint p.goes q.first ≡ true) where
   pub seq_begins : (t : A × B) (rest : List Token) → Starts p.first (tokens_of (seq_text p q t) ++ rest)
-  seq_begins t rest = subst (Starts p.first) (sym (append_assoc (tokens_of (p.text t.0)) (tokens_of (q.text t.1)) rest)
-      ∙ sym (ap (λ (l : List Token). l ++ rest) (tokens_of-append (p.text t.0) (q.text t.1))))
+  seq_begins t rest = subst (Starts p.first) (sym (tokens_of-append-rest (p.text t.0) (q.text t.1) rest))
       (p.begins t.0 (tokens_of (q.text t.1) ++ rest))
 
   pub seq_stands : (ts : List Token) (t : A × B) (rest : List Token) → seq_read p q ts ≡ Ok (t, rest)
@@ -76,9 +75,7 @@ module _ {A B : Type 0} (p : Parser A) (q : Parser B) (apart : disjoint p.goes q
       let sq = q.stands x.0.1 y.0.0 y.0.1 y.1 in
       let made : (A × B) × List Token = ((x.0.0, y.0.0), y.0.1) in
       let whole : Stands (seq_text p q) q.goes ts made.0 made.1 = record {
-        parts = sp.parts ∙ ap (λ (l : List Token). tokens_of (p.text x.0.0) ++ l) sq.parts
-            ∙ sym (append_assoc (tokens_of (p.text x.0.0)) (tokens_of (q.text y.0.0)) y.0.1)
-            ∙ ap (λ (l : List Token). l ++ y.0.1) (sym (tokens_of-append (p.text x.0.0) (q.text y.0.0)));
+        parts = parts_joined (p.text x.0.0) (q.text y.0.0) y.0.1 sp.parts sq.parts;
         clean = IsClean-append (p.text x.0.0) (q.text y.0.0) sp.clean sq.clean;
         stops = sq.stops;
       } in
@@ -95,23 +92,13 @@ module _ {A B : Type 0} (p : Parser A) (q : Parser B) (apart : disjoint p.goes q
       (first_annotation (seq_text p q t) (length rest)) t rest
   seq_again t rest stops =
       let after : List Token = tokens_of (q.text t.1) ++ rest in
-      let regrouped : tokens_of (seq_text p q t) ++ rest ≡ tokens_of (p.text t.0) ++
-      after = ap (λ (l : List Token). l ++ rest) (tokens_of-append (p.text t.0) (q.text t.1))
-      ∙ append_assoc (tokens_of (p.text t.0)) (tokens_of (q.text t.1)) rest in
       let hp = p.again t.0 after (starts-stops p.goes q.first after apart (q.begins t.1 rest)) in
       let hq = q.again t.1 rest stops in
-      let len : length after ≡ length (q.text t.1) + length rest =
-      omega (arith, length-append (tokens_of (q.text t.1)) rest, length-tokens (q.text t.1)) in
-      let annotations : first_annotation (seq_text p q t) (length rest) ≡ or_else
-      (first_annotation (p.text t.0) (length after))
-      (first_annotation (q.text t.1) (length rest)) = first_annotation-append (p.text t.0) (q.text t.1) (length rest)
-      ∙ ap (λ (n : ℕ). or_else (first_annotation (p.text t.0) n) (first_annotation (q.text t.1) (length rest)))
-      (sym len) in
-      ap (seq_read p q) regrouped
+      ap (seq_read p q) (tokens_of-append-rest (p.text t.0) (q.text t.1) rest)
       ∙ ap (λ (r : Result (A × List Token) Fault). r >>= λ a. q.read a.1 >>= λ b. Ok ((a.0, b.0), b.1)) hp
       ∙ step (first_annotation (p.text t.0) (length after)) (first_annotation (q.text t.1) (length rest)) t.0 t.1
       after rest hq
-      ∙ ap (λ (m : Option Fault). answer m t rest) (sym annotations)
+      ∙ ap (λ (m : Option Fault). answer m t rest) (sym (first_annotation-append-rest (p.text t.0) (q.text t.1) rest))
 
   pub fails_first : (ts : List Token) (e : Fault) → Fails p.text p.read ts e → Fails (seq_text p q) (seq_read p q) ts e
   fails_first ts e f = record {
@@ -143,11 +130,9 @@ module _ {A B : Type 0} (p : Parser A) (q : Parser B) (apart : disjoint p.goes q
     local = λ b same.
         let stops : Stops p.goes (f.front ++ b) =
         Stops-same e.kind p.goes f.front f.bad b same (subst (Stops p.goes) f.parts s.stops) in
-        let hp : p.read (tokens_of (p.text a) ++ (f.front ++ b)) ≡ Ok (a, f.front ++ b) = p.again a (f.front ++ b) stops
-        ∙ ap (λ (m : Option Fault). answer m a (f.front ++ b))
-        (first_annotation-clean (p.text a) (length (f.front ++ b)) s.clean) in
         ap (seq_read p q) (append_assoc (tokens_of (p.text a)) f.front b)
-        ∙ ap (λ (r : Result (A × List Token) Fault). r >>= λ a. q.read a.1 >>= λ b. Ok ((a.0, b.0), b.1)) hp
+        ∙ ap (λ (r : Result (A × List Token) Fault). r >>= λ a. q.read a.1 >>= λ b. Ok ((a.0, b.0), b.1))
+        (clean_read p a (f.front ++ b) s.clean stops)
         ∙ ap (λ (r : Result (B × List Token) Fault). r >>= λ b. Ok ((a, b.0), b.1)) (f.local b same);
   }
 

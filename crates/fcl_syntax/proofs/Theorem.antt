@@ -21,6 +21,7 @@ use Rattle.fcl_syntax.specs.TextReading.{of_kind, token_fault, grammar_fault, pl
 use Rattle.fcl_syntax.specs.TextReading.{read_text, Reads}
 use Rattle.fcl_syntax.specs.{Parsed.GivesTree, Parsed.GivesFault, Grammar.TBlock, Grammar.block_text, Reading.all_of}
 use Rattle.fcl_syntax.specs.{Readings.FirstFaultsAreOne, Readings.TreesAreOne, View.view}
+use Rattle.fcl_syntax.proofs.AnnotatedTexts.{not_both, same_err}
 use Rattle.fcl_syntax.proofs.{OneTree.one_tree, RuleParsers.block_parser}
 use Rattle.fcl_syntax.proofs.Exact.{whole, whole_spells, spells_whole, whole_faults, faults_whole}
 
@@ -45,14 +46,6 @@ faults_all ts e f = all_is ts ∙ faults_whole block_parser ts e f
 same_ok : {A E : Type 0} (r : Result A E) (a b : A) → r ≡ Ok a → r ≡ Ok b → a ≡ b
 same_ok (Ok x) a b p q = cc
 same_ok (Err e) a b p q = absurd cc
-
-not_both : {A E : Type 0} (r : Result A E) (a : A) (e : E) → r ≡ Ok a → r ≡ Err e → ⊥
-not_both (Ok x) a e p q = cc
-not_both (Err c) a e p q = cc
-
-same_err : {A E : Type 0} (r : Result A E) (d e : E) → r ≡ Err d → r ≡ Err e → d ≡ e
-same_err (Ok x) d e p q = absurd cc
-same_err (Err c) d e p q = cc
 
 -- each token has its place
 same_len : (at : ℕ) (lexemes : List Lexeme)
