@@ -9,7 +9,7 @@ use Rattle.fcl_syntax.specs.Annotations.{Sym, tokens_of, plain, annotated}
 use Rattle.fcl_syntax.specs.Readers.{◌>>=◌, fault_at, starts, one_at}
 use Rattle.fcl_syntax.proofs.Parser.{disjoint, Stops, Starts, first_annotation, answer, Stands, Fails, Parser}
 use Rattle.fcl_syntax.proofs.AnnotatedTexts.{bind_ok, bind_err, ok_is}
-use Rattle.fcl_syntax.proofs.{Seq.Shows-in, Seq.Viable-in, Dead.unless, Dead.unless_ok}
+use Rattle.fcl_syntax.proofs.{Seq.Fails-in, Dead.unless, Dead.unless_ok}
 use Rattle.fcl_syntax.proofs.Small.{Single, one_text, one_stands, one_fails, starts-not, starts-same}
 
 pub record Ahead (Y : Type 0) : Type 0 where
@@ -88,17 +88,9 @@ module _ {A B Y : Type 0} (c : Single A) (d : Ahead Y) (q : Parser B) (apart : d
 
   ahead_first : (ts : List Token) (e : Fault) → Fails (one_text c) (one_at c.want) ts e
       → Fails (ahead_text c d q) (ahead_read c d q) ts e
-  ahead_first ts e f = record {
-    front = f.front;
-    bad = f.bad;
-    parts = f.parts;
-    left = f.left;
-    viable = Viable-in (one_text c) (ahead_text c d q) f.front [] (λ a. inl (a, q.some)) (λ a. q.text q.some)
-        (λ a. refl) tt (λ a. q.some_clean) f.viable;
-    shows = Shows-in (one_text c) (ahead_text c d q) e.kind f.front f.bad [] (λ a. inl (a, q.some)) (λ a. q.text q.some)
-        (λ a. refl) f.shows;
-    local = λ b same. ap (λ (r : Result (A × List Token) Fault). r >>= ahead_rest c d q) (f.local b same);
-  }
+  ahead_first ts e f = Fails-in (one_text c) (ahead_text c d q) (ahead_read c d q) ts e [] (λ a. inl (a, q.some))
+      (λ a. q.text q.some) (λ a. refl) tt (λ a. q.some_clean) f refl (λ b same.
+      ap (λ (r : Result (A × List Token) Fault). r >>= ahead_rest c d q) (f.local b same))
 
   ahead_here : (a : A) (rest : List Token) → starts d.among rest ≡ true
       → Fails (ahead_text c d q) (ahead_read c d q) (c.make a ∷ rest)
@@ -143,22 +135,15 @@ module _ {A B Y : Type 0} (c : Single A) (d : Ahead Y) (q : Parser B) (apart : d
   ahead_second : (ts : List Token) (e : Fault) (a : A) (rest : List Token) → Stands (one_text c) [] ts a rest
       → starts d.among rest ≡ false
       → Fails q.text q.read rest e → Fails (ahead_text c d q) (ahead_read c d q) ts e
-  ahead_second ts e a rest s not_so f = record {
-    front = c.make a ∷ f.front;
-    bad = f.bad;
-    parts = s.parts ∙ ap (λ (l : List Token). c.make a ∷ l) f.parts;
-    left = f.left;
-    viable = Viable-in q.text (ahead_text c d q) f.front (plain (c.make a) ∷ []) (λ b. inl (a, b)) (λ b. [])
-        (λ b. ap (λ (l : List Sym). plain (c.make a) ∷ l) (sym (append-nil (q.text b)))) (refl, tt) (λ b. tt) f.viable;
-    shows = Shows-in q.text (ahead_text c d q) e.kind f.front f.bad (plain (c.make a) ∷ []) (λ b. inl (a, b)) (λ b. [])
-        (λ b. ap (λ (l : List Sym). plain (c.make a) ∷ l) (sym (append-nil (q.text b)))) f.shows;
-    local = λ b same.
-        let after : List Token = f.front ++ b in
-        ap (λ (r : Result (A × List Token) Fault). r >>= ahead_rest c d q) (read_one a after)
-        ∙ ap (λ (t : Bool). unless t (fault_at refused (suc (length after))) (to_inl {Y = Y} a (q.read after)))
-        (starts-same d.among e.kind f.front f.bad b same ∙ ap (starts d.among) (sym f.parts) ∙ not_so)
-        ∙ ap (λ (r : Result (B × List Token) Fault). to_inl {Y = Y} a r) (f.local b same);
-  }
+  ahead_second ts e a rest s not_so f = Fails-in q.text (ahead_text c d q) (ahead_read c d q) ts e
+      (plain (c.make a) ∷ []) (λ b. inl (a, b)) (λ b. [])
+      (λ b. ap (λ (l : List Sym). plain (c.make a) ∷ l) (sym (append-nil (q.text b)))) (refl, tt) (λ b. tt) f s.parts
+      (λ b same.
+      let after : List Token = f.front ++ b in
+      ap (λ (r : Result (A × List Token) Fault). r >>= ahead_rest c d q) (read_one a after)
+      ∙ ap (λ (t : Bool). unless t (fault_at refused (suc (length after))) (to_inl {Y = Y} a (q.read after)))
+      (starts-same d.among e.kind f.front f.bad b same ∙ ap (starts d.among) (sym f.parts) ∙ not_so)
+      ∙ ap (λ (r : Result (B × List Token) Fault). to_inl {Y = Y} a r) (f.local b same))
 
   inner_err : (r : Result (B × List Token) Fault) (a : A) (e : Fault) → to_inl {Y = Y} a r ≡ Err e → r ≡ Err e
   inner_err (Ok x) a e h = absurd cc

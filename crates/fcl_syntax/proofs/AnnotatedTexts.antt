@@ -99,6 +99,14 @@ pub clean_read : {A : Type 0} (p : Parser A) (a : A) (rest : List Token) → IsC
 clean_read p a rest clean stops = p.again a rest stops
     ∙ ap (λ (m : Option Fault). answer m a rest) (first_annotation-clean (p.text a) (length rest) clean)
 
+-- one reader behind another, by what each answers
+pub answer-bind : {A B T : Type 0} (read : List Token → Result (B × List Token) Fault) (make : A → B → T)
+    (m n : Option Fault) (a : A) (b : B) (ts rest : List Token) → read ts ≡ answer n b rest
+    → (answer m a ts >>= λ x. read x.1 >>= λ y. Ok (make x.0 y.0, y.1)) ≡ answer (or_else m n) (make a b) rest
+answer-bind read make None None a b ts rest h = rw h refl
+answer-bind read make None (Some e) a b ts rest h = rw h refl
+answer-bind read make (Some e) n a b ts rest h = refl
+
 -- ---- sets
 
 cond_false : (b c : Bool) → cond b false c ≡ true → (b ≡ false) × (c ≡ true)

@@ -1,15 +1,15 @@
 -- Repetitions: P {Q}, and {P} Q.
-use Rattle.std.proofs.Common.{◌≡◌, ℕ, zero, suc, ◌+◌, ◌≤◌, Bool, true, false, List, [], ◌∷◌, ◌++◌, length, Option, Some}
-use Rattle.std.proofs.Common.{None, Result, Ok, Err, refl, sym, ap, subst, ◌∙◌, append_assoc, arith, inl, inr}
+use Rattle.std.proofs.Common.{◌≡◌, ℕ, zero, suc, ◌≤◌, Bool, true, false, List, [], ◌∷◌, ◌++◌, length, Option}
+use Rattle.std.proofs.Common.{Result, Ok, Err, refl, sym, ap, subst, ◌∙◌, arith, inl, inr}
 use Rattle.std.proofs.lemmas.List.{append-nil, length-append}
 use Rattle.fcl_tokens.specs.declared.token.Token.{Token}
 use Rattle.fcl_syntax.specs.declared.fault.Fault.{Fault}
 use Rattle.fcl_syntax.specs.{Annotations.Sym, Annotations.tokens_of, Annotations.IsClean, Grammar.each}
 use Rattle.fcl_syntax.specs.Readers.{◌>>=◌, starts, with_front, turn, loop}
-use Rattle.fcl_syntax.proofs.Parser.{disjoint, Stops, Starts, first_annotation, or_else, answer, Fails, Parser}
+use Rattle.fcl_syntax.proofs.Parser.{disjoint, Stops, Starts, first_annotation, answer, Fails, Parser}
 use Rattle.fcl_syntax.proofs.AnnotatedTexts.{bind_ok, bind_err, ok_is, tokens_of-append-rest, parts_joined}
-use Rattle.fcl_syntax.proofs.AnnotatedTexts.{IsClean-append, clean_back, clean_front, clean_read, first_annotation-append-rest}
-use Rattle.fcl_syntax.proofs.AnnotatedTexts.{starts-stops}
+use Rattle.fcl_syntax.proofs.AnnotatedTexts.{IsClean-append, clean_back, clean_front, clean_read}
+use Rattle.fcl_syntax.proofs.AnnotatedTexts.{first_annotation-append-rest, answer-bind, starts-stops}
 use Rattle.fcl_syntax.proofs.Small.{starts-is}
 
 module _ {A : Type 0} (p : Parser A) where
@@ -149,15 +149,10 @@ module _ {A : Type 0} (p : Parser A) (apart : disjoint p.goes p.first ≡ true) 
       (tokens_of (p.text a) ++ after))
       (starts-is p.first (tokens_of (p.text a) ++ after) (p.begins a after))
       ∙ ap (λ (r : Result (A × List Token) Fault). r >>= λ a. with_front a.0 (rep p n a.1)) hp
-      ∙ step (first_annotation (p.text a) (length after)) (first_annotation (texts p items) (length rest)) after hr
+      ∙ answer-bind (rep p n) (λ a items. a ∷ items) (first_annotation (p.text a) (length after))
+      (first_annotation (texts p items) (length rest)) a items after rest hr
       ∙ ap (λ (m : Option Fault). answer m (a ∷ items) rest)
       (sym (first_annotation-append-rest (p.text a) (texts p items) rest))
-    where
-      step : (m k : Option Fault) (r : List Token) → rep p n r ≡ answer k items rest
-          → (answer m a r >>= λ a. with_front a.0 (rep p n a.1)) ≡ answer {T = List A} (or_else m k) (a ∷ items) rest
-      step None None r h = rw h refl
-      step None (Some e) r h = rw h refl
-      step (Some e) k r h = refl
 
   -- items, and then what fails
   pub rep_local : (n : ℕ) (items : List A) (rest : List Token) (d : Fault)

@@ -1,17 +1,17 @@
 -- P {Q} and {P} Q as parsers.
-use Rattle.std.proofs.Common.{◌≡◌, ℕ, ◌+◌, Bool, true, false, cond, eqb, List, [], ◌∷◌, ◌++◌, length, Option, Some}
-use Rattle.std.proofs.Common.{None, Result, Ok, Err, refl, sym, ap, subst, ◌∙◌, append_assoc, arith, inl, inr}
+use Rattle.std.proofs.Common.{◌≡◌, ℕ, Bool, true, false, cond, eqb, List, [], ◌∷◌, ◌++◌, length, Option}
+use Rattle.std.proofs.Common.{Result, Ok, Err, refl, sym, ap, subst, ◌∙◌, append_assoc, arith, inl, inr}
 use Rattle.std.proofs.lemmas.List.{append-nil}
 use Rattle.fcl_tokens.specs.declared.token.Token.{Token}
 use Rattle.fcl_syntax.specs.declared.{fault.Fault.Fault, fault.Kind.Kind}
 use Rattle.fcl_syntax.specs.{TokenClasses.class_of, TokenClasses.mem, First.SameHead}
-use Rattle.fcl_syntax.specs.Annotations.{Sym, tokens_of, IsClean}
+use Rattle.fcl_syntax.specs.Annotations.{Sym, tokens_of}
 use Rattle.fcl_syntax.specs.Readers.{◌>>=◌, fault_at, starts}
-use Rattle.fcl_syntax.proofs.Parser.{disjoint, Stops, Starts, first_annotation, or_else, answer, Stands, Fails, Parser}
+use Rattle.fcl_syntax.proofs.Parser.{disjoint, Stops, Starts, first_annotation, answer, Stands, Fails, Parser}
 use Rattle.fcl_syntax.proofs.AnnotatedTexts.{bind_ok, bind_err, ok_is, tokens_of-append-rest, parts_joined}
-use Rattle.fcl_syntax.proofs.AnnotatedTexts.{IsClean-append, first_annotation-append-rest, first_annotation-clean, clean_read}
-use Rattle.fcl_syntax.proofs.AnnotatedTexts.{starts-stops, Stops-same}
-use Rattle.fcl_syntax.proofs.{Seq.Shows-in, Seq.Viable-in, Small.starts-not, Small.starts-same, Small.widen}
+use Rattle.fcl_syntax.proofs.AnnotatedTexts.{IsClean-append, first_annotation-append-rest, first_annotation-clean}
+use Rattle.fcl_syntax.proofs.AnnotatedTexts.{clean_read, answer-bind, starts-stops, Stops-same}
+use Rattle.fcl_syntax.proofs.{Seq.Fails-in, Small.starts-not, Small.starts-same, Small.widen}
 use Rattle.fcl_syntax.proofs.Loop.{texts, rep, Settled, all_settled, Ran, FailsIn, rep_runs, rep_again, rep_local}
 use Rattle.fcl_syntax.proofs.Loop.{rep_fails, stops_before, starts-Starts}
 
@@ -75,15 +75,8 @@ module _ {A B : Type 0} (p : Parser A) (q : Parser B) (apart : disjoint q.goes q
         clean = IsClean-append (p.text x.0.0) (texts q y.0.0) s.clean r.clean;
         stops = Stops-both q.first q.goes y.0.1 r.ends (settled_stops y.0.0 x.0.1 y.0.1 r.parts s.stops r.stops);
       } in
-      subst (λ (z : (A × List B) × List Token). Stands (then_text p q) (q.first ++ q.goes) ts z.0 z.1)
+      subst (λ (z : (A × List B) × List Token). Stands (then_text p q) (q.first ++ q.goes) ts z.0 z.1) {x = made}
       (ok_is made (t, rest) y.2) whole
-
-  then_step : (m n : Option Fault) (a : A) (bs : List B) (r rest : List Token) → rep q (length r) r ≡ answer n bs rest
-      → (answer m a r >>= λ a. rep q (length a.1) a.1 >>= λ r. Ok ((a.0, r.0), r.1)) ≡ answer {T = A × List B}
-      (or_else m n) (a, bs) rest
-  then_step None None a b r rest h = rw h refl
-  then_step None (Some e) a b r rest h = rw h refl
-  then_step (Some e) n a b r rest h = refl
 
   pub then_again : (t : A × List B) (rest : List Token) → Stops (q.first ++ q.goes) rest
       → then_read p q (tokens_of (then_text p q t) ++ rest) ≡ answer
@@ -96,22 +89,15 @@ module _ {A B : Type 0} (p : Parser A) (q : Parser B) (apart : disjoint q.goes q
       let hr = rep_again q apart (length after) t.1 rest (omega arith) both.0 (all_settled q.goes t.1 rest both.1) in
       ap (then_read p q) (tokens_of-append-rest (p.text t.0) (texts q t.1) rest)
       ∙ ap (λ (r : Result (A × List Token) Fault). r >>= λ a. rep q (length a.1) a.1 >>= λ r. Ok ((a.0, r.0), r.1)) hp
-      ∙ then_step (first_annotation (p.text t.0) (length after)) (first_annotation (texts q t.1) (length rest)) t.0 t.1
-      after rest hr
+      ∙ answer-bind (λ ts. rep q (length ts) ts) (λ a items. (a, items)) (first_annotation (p.text t.0) (length after))
+      (first_annotation (texts q t.1) (length rest)) t.0 t.1 after rest hr
       ∙ ap (λ (m : Option Fault). answer m t rest) (sym (first_annotation-append-rest (p.text t.0) (texts q t.1) rest))
 
   then_first : (ts : List Token) (e : Fault) → Fails p.text p.read ts e → Fails (then_text p q) (then_read p q) ts e
-  then_first ts e f = record {
-    front = f.front;
-    bad = f.bad;
-    parts = f.parts;
-    left = f.left;
-    viable = Viable-in p.text (then_text p q) f.front [] (λ a. (a, [])) (λ a. []) (λ a. refl) tt (λ a. tt) f.viable;
-    shows = Shows-in p.text (then_text p q) e.kind f.front f.bad [] (λ a. (a, [])) (λ a. []) (λ a. refl) f.shows;
-    local = λ b same. ap
-        (λ (r : Result (A × List Token) Fault). r >>= λ a. rep q (length a.1) a.1 >>= λ r. Ok ((a.0, r.0), r.1))
-        (f.local b same);
-  }
+  then_first ts e f = Fails-in p.text (then_text p q) (then_read p q) ts e [] (λ a. (a, [])) (λ a. []) (λ a. refl) tt
+      (λ a. tt) f refl (λ b same.
+      ap (λ (r : Result (A × List Token) Fault). r >>= λ a. rep q (length a.1) a.1 >>= λ r. Ok ((a.0, r.0), r.1))
+      (f.local b same))
 
   one_more : (a : A) (before : List B) (b : B)
       → then_text p q (a, before ++ b ∷ []) ≡ (p.text a ++ texts q before) ++ (q.text b ++ [])
@@ -124,35 +110,21 @@ module _ {A B : Type 0} (p : Parser A) (q : Parser B) (apart : disjoint q.goes q
   then_more ts e a rest s g =
       let f = g.inner in
       let head : List Sym = p.text a ++ texts q g.before in
-      let head_clean : IsClean head = IsClean-append (p.text a) (texts q g.before) s.clean g.clean in
-      record {
-        front = tokens_of head ++ f.front;
-        bad = f.bad;
-        parts = parts_joined (p.text a) (texts q g.before) (f.front ++ f.bad) s.parts
-            (g.parts ∙ ap (λ (l : List Token). tokens_of (texts q g.before) ++ l) f.parts)
-            ∙ sym (append_assoc (tokens_of head) f.front f.bad);
-        left = f.left;
-        viable = Viable-in q.text (then_text p q) f.front head (λ b. (a, g.before ++ b ∷ [])) (λ b. [])
-            (one_more a g.before) head_clean (λ b. tt) f.viable;
-        shows = Shows-in q.text (then_text p q) e.kind f.front f.bad head (λ b. (a, g.before ++ b ∷ [])) (λ b. [])
-            (one_more a g.before) f.shows;
-        local = λ b same.
-            let after : List Token = tokens_of (texts q g.before) ++ (f.front ++ b) in
-            let regrouped : (tokens_of head ++ f.front) ++ b ≡ tokens_of (p.text a) ++ after =
-            append_assoc (tokens_of head) f.front b
-            ∙ tokens_of-append-rest (p.text a) (texts q g.before) (f.front ++ b) in
-            let begun : starts q.first (f.front ++ b) ≡ true = starts-same q.first e.kind f.front f.bad b same
-            ∙ ap (starts q.first) (sym f.parts) ∙ g.begun in
-            let stops : Stops p.goes after = subst (λ (g : List ℕ). Stops g after) (sym same_goes)
-            (stops_before q apart g.before (f.front ++ b) (starts-stops q.goes q.first (f.front ++ b) apart
-            (starts-Starts q apart (f.front ++ b) begun))) in
-            let hr = rep_local q apart (length after) g.before (f.front ++ b) (fault_at e.kind (length b))
-            (omega arith) g.clean begun (f.local b same) in
-            ap (then_read p q) regrouped
-            ∙ ap (λ (r : Result (A × List Token) Fault). r >>= λ a. rep q (length a.1) a.1 >>= λ r. Ok
-            ((a.0, r.0), r.1)) (clean_read p a after s.clean stops)
-            ∙ ap (λ (r : Result (List B × List Token) Fault). r >>= λ r. Ok ((a, r.0), r.1)) hr;
-      }
+      Fails-in q.text (then_text p q) (then_read p q) ts e head (λ b. (a, g.before ++ b ∷ [])) (λ b. [])
+      (one_more a g.before) (IsClean-append (p.text a) (texts q g.before) s.clean g.clean) (λ b. tt) f
+      (parts_joined (p.text a) (texts q g.before) g.ts' s.parts g.parts) (λ b same.
+      let after : List Token = tokens_of (texts q g.before) ++ (f.front ++ b) in
+      let begun : starts q.first (f.front ++ b) ≡ true = starts-same q.first e.kind f.front f.bad b same
+      ∙ ap (starts q.first) (sym f.parts) ∙ g.begun in
+      let stops : Stops p.goes after = subst (λ (g : List ℕ). Stops g after) (sym same_goes)
+      (stops_before q apart g.before (f.front ++ b) (starts-stops q.goes q.first (f.front ++ b) apart
+      (starts-Starts q apart (f.front ++ b) begun))) in
+      let hr = rep_local q apart (length after) g.before (f.front ++ b) (fault_at e.kind (length b))
+      (omega arith) g.clean begun (f.local b same) in
+      ap (then_read p q) (tokens_of-append-rest (p.text a) (texts q g.before) (f.front ++ b))
+      ∙ ap (λ (r : Result (A × List Token) Fault). r >>= λ a. rep q (length a.1) a.1 >>= λ r. Ok ((a.0, r.0), r.1))
+      (clean_read p a after s.clean stops)
+      ∙ ap (λ (r : Result (List B × List Token) Fault). r >>= λ r. Ok ((a, r.0), r.1)) hr)
 
   pub then_fails : (ts : List Token) (e : Fault) → then_read p q ts ≡ Err e → Fails (then_text p q) (then_read p q) ts e
   then_fails ts e h =
@@ -224,13 +196,6 @@ module _ {A B : Type 0} (p : Parser A) (q : Parser B) (apart : disjoint p.goes p
       subst (λ (z : (List A × B) × List Token). Stands (many_text p q) q.goes ts z.0 z.1)
       (ok_is made (t, rest) y.2) whole
 
-  many_step : (m n : Option Fault) (items : List A) (b : B) (r rest : List Token) → q.read r ≡ answer n b rest
-      → (answer m items r >>= λ r. q.read r.1 >>= λ b. Ok ((r.0, b.0), b.1)) ≡ answer {T = List A × B} (or_else m n)
-      (items, b) rest
-  many_step None None a b r rest h = rw h refl
-  many_step None (Some e) a b r rest h = rw h refl
-  many_step (Some e) n a b r rest h = refl
-
   pub many_again : (t : List A × B) (rest : List Token) → Stops q.goes rest
       → many_read p q (tokens_of (many_text p q t) ++ rest) ≡ answer
       (first_annotation (many_text p q t) (length rest)) t rest
@@ -243,8 +208,8 @@ module _ {A B : Type 0} (p : Parser A) (q : Parser B) (apart : disjoint p.goes p
       let hq = q.again t.1 rest stops in
       ap (many_read p q) (tokens_of-append-rest (texts p t.0) (q.text t.1) rest)
       ∙ ap (λ (r : Result (List A × List Token) Fault). r >>= λ r. q.read r.1 >>= λ b. Ok ((r.0, b.0), b.1)) hr
-      ∙ many_step (first_annotation (texts p t.0) (length after)) (first_annotation (q.text t.1) (length rest)) t.0 t.1
-      after rest hq
+      ∙ answer-bind q.read (λ items b. (items, b)) (first_annotation (texts p t.0) (length after))
+      (first_annotation (q.text t.1) (length rest)) t.0 t.1 after rest hq
       ∙ ap (λ (m : Option Fault). answer m t rest) (sym (first_annotation-append-rest (texts p t.0) (q.text t.1) rest))
 
   item_more : (before : List A) (a : A)
@@ -256,59 +221,32 @@ module _ {A B : Type 0} (p : Parser A) (q : Parser B) (apart : disjoint p.goes p
   many_item : (ts : List Token) (e : Fault) → FailsIn p ts e → Fails (many_text p q) (many_read p q) ts e
   many_item ts e g =
       let f = g.inner in
-      record {
-        front = tokens_of (texts p g.before) ++ f.front;
-        bad = f.bad;
-        parts = g.parts ∙ ap (λ (l : List Token). tokens_of (texts p g.before) ++ l) f.parts
-            ∙ sym (append_assoc (tokens_of (texts p g.before)) f.front f.bad);
-        left = f.left;
-        viable = Viable-in p.text (many_text p q) f.front (texts p g.before) (λ a. (g.before ++ a ∷ [], q.some))
-            (λ a. q.text q.some)
-            (item_more g.before) g.clean (λ a. q.some_clean) f.viable;
-        shows = Shows-in p.text (many_text p q) e.kind f.front f.bad (texts p g.before)
-            (λ a. (g.before ++ a ∷ [], q.some)) (λ a. q.text q.some)
-            (item_more g.before) f.shows;
-        local = λ b same.
-            let begun : starts p.first (f.front ++ b) ≡ true = starts-same p.first e.kind f.front f.bad b same
-            ∙ ap (starts p.first) (sym f.parts) ∙ g.begun in
-            let hr = rep_local p apart (length (tokens_of (texts p g.before) ++ (f.front ++ b))) g.before (f.front ++ b)
-            (fault_at e.kind (length b))
-            (omega arith) g.clean begun (f.local b same) in
-            ap (many_read p q) (append_assoc (tokens_of (texts p g.before)) f.front b)
-            ∙ ap (λ (r : Result (List A × List Token) Fault). r >>= λ r. q.read r.1 >>= λ b. Ok ((r.0, b.0), b.1)) hr;
-      }
+      Fails-in p.text (many_text p q) (many_read p q) ts e (texts p g.before) (λ a. (g.before ++ a ∷ [], q.some))
+      (λ a. q.text q.some) (item_more g.before) g.clean (λ a. q.some_clean) f g.parts (λ b same.
+      let begun : starts p.first (f.front ++ b) ≡ true = starts-same p.first e.kind f.front f.bad b same
+      ∙ ap (starts p.first) (sym f.parts) ∙ g.begun in
+      ap (λ (r : Result (List A × List Token) Fault). r >>= λ r. q.read r.1 >>= λ b. Ok ((r.0, b.0), b.1))
+      (rep_local p apart (length (tokens_of (texts p g.before) ++ (f.front ++ b))) g.before (f.front ++ b)
+      (fault_at e.kind (length b)) (omega arith) g.clean begun (f.local b same)))
 
   many_end : (ts : List Token) (e : Fault) (items : List A) (rest : List Token) → Ran p ts items rest
       → Fails q.text q.read rest e
       → Fails (many_text p q) (many_read p q) ts e
-  many_end ts e items rest r f =
-      let whole : (b : B) → many_text p q (items, b) ≡ texts p items ++ (q.text b ++ []) =
-      λ b. ap (λ (l : List Sym). texts p items ++ l) (sym (append-nil (q.text b))) in
-      record {
-        front = tokens_of (texts p items) ++ f.front;
-        bad = f.bad;
-        parts = r.parts ∙ ap (λ (l : List Token). tokens_of (texts p items) ++ l) f.parts
-            ∙ sym (append_assoc (tokens_of (texts p items)) f.front f.bad);
-        left = f.left;
-        viable = Viable-in q.text (many_text p q) f.front (texts p items) (λ b. (items, b)) (λ b. []) whole r.clean
-            (λ b. tt) f.viable;
-        shows = Shows-in q.text (many_text p q) e.kind f.front f.bad (texts p items) (λ b. (items, b))
-            (λ b. []) whole f.shows;
-        local = λ b same.
-            let after : List Token = f.front ++ b in
-            let ends : starts p.first after ≡ false = starts-same p.first e.kind f.front f.bad b same
-            ∙ ap (starts p.first) (sym f.parts) ∙ r.ends in
-            let settled : Settled p.goes items after =
-            Settled-same items e.kind f.front f.bad b same (subst (Settled p.goes items) f.parts r.stops) in
-            let hr : rep p (length (tokens_of (texts p items) ++ after)) (tokens_of (texts p items) ++ after) ≡ Ok
-            (items, after) =
-            rep_again p apart (length (tokens_of (texts p items) ++ after)) items after (omega arith) ends settled
-            ∙ ap (λ (m : Option Fault). answer m items after)
-            (first_annotation-clean (texts p items) (length after) r.clean) in
-            ap (many_read p q) (append_assoc (tokens_of (texts p items)) f.front b)
-            ∙ ap (λ (r : Result (List A × List Token) Fault). r >>= λ r. q.read r.1 >>= λ b. Ok ((r.0, b.0), b.1)) hr
-            ∙ ap (λ (r : Result (B × List Token) Fault). r >>= λ b. Ok ((items, b.0), b.1)) (f.local b same);
-      }
+  many_end ts e items rest r f = Fails-in q.text (many_text p q) (many_read p q) ts e (texts p items)
+      (λ b. (items, b)) (λ b. []) (λ b. ap (λ (l : List Sym). texts p items ++ l) (sym (append-nil (q.text b)))) r.clean
+      (λ b. tt) f r.parts (λ b same.
+      let after : List Token = f.front ++ b in
+      let ends : starts p.first after ≡ false = starts-same p.first e.kind f.front f.bad b same
+      ∙ ap (starts p.first) (sym f.parts) ∙ r.ends in
+      let settled : Settled p.goes items after =
+      Settled-same items e.kind f.front f.bad b same (subst (Settled p.goes items) f.parts r.stops) in
+      let hr : rep p (length (tokens_of (texts p items) ++ after)) (tokens_of (texts p items) ++ after) ≡ Ok
+      (items, after) =
+      rep_again p apart (length (tokens_of (texts p items) ++ after)) items after (omega arith) ends settled
+      ∙ ap (λ (m : Option Fault). answer m items after) (first_annotation-clean (texts p items) (length after) r.clean)
+      in
+      ap (λ (r : Result (List A × List Token) Fault). r >>= λ r. q.read r.1 >>= λ b. Ok ((r.0, b.0), b.1)) hr
+      ∙ ap (λ (r : Result (B × List Token) Fault). r >>= λ b. Ok ((items, b.0), b.1)) (f.local b same))
     where
       Settled-same : (items : List A) (k : Kind) (front bad b : List Token) → SameHead k bad b
           → Settled p.goes items (front ++ bad)

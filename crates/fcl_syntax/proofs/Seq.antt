@@ -1,17 +1,17 @@
 -- One parser after another.
-use Rattle.std.proofs.Common.{◌≡◌, ℕ, ◌+◌, true, List, [], ◌∷◌, ◌++◌, length, Option, Some, None, Result, Ok, Err, refl}
+use Rattle.std.proofs.Common.{◌≡◌, true, List, [], ◌∷◌, ◌++◌, length, Option, Result, Ok, Err, refl}
 use Rattle.std.proofs.Common.{sym, ap, subst, ◌∙◌, append_assoc, inl, inr}
 use Rattle.std.proofs.lemmas.List.{append-nil}
 use Rattle.fcl_tokens.specs.declared.token.Token.{Token}
 use Rattle.fcl_syntax.specs.declared.{fault.Fault.Fault, fault.Kind.Kind}
 use Rattle.fcl_syntax.specs.declared.fault.Kind.TheVariants.{Expected, Deep, Unsupported}
 use Rattle.fcl_syntax.specs.Annotations.{Sym, tokens_of, IsClean, annotated}
-use Rattle.fcl_syntax.specs.{First.SameHead, First.Shown, Readers.◌>>=◌}
-use Rattle.fcl_syntax.proofs.Parser.{disjoint, Stops, Starts, first_annotation, or_else, answer, Stands, Viable, Shows}
+use Rattle.fcl_syntax.specs.{First.SameHead, First.Shown, Readers.◌>>=◌, Readers.fault_at}
+use Rattle.fcl_syntax.proofs.Parser.{disjoint, Stops, Starts, first_annotation, answer, Stands, Viable, Shows}
 use Rattle.fcl_syntax.proofs.Parser.{Fails, Parser}
 use Rattle.fcl_syntax.proofs.AnnotatedTexts.{bind_ok, bind_err, ok_is, tokens_of-append, tokens_of-append-rest}
 use Rattle.fcl_syntax.proofs.AnnotatedTexts.{parts_joined, IsClean-append, first_annotation-append-rest, clean_read}
-use Rattle.fcl_syntax.proofs.AnnotatedTexts.{starts-stops, Stops-same, SameHead-append}
+use Rattle.fcl_syntax.proofs.AnnotatedTexts.{answer-bind, starts-stops, Stops-same, SameHead-append}
 
 -- what is shown of a part is shown of a whole whose text begins and goes on with others
 pub Shown-in : {A B : Type 0} (ta : A → List Sym) (tb : B → List Sym) (k : Kind) (front bad : List Token)
@@ -54,6 +54,26 @@ Viable-in ta tb front head b tail is ch ct v = record {
       ∙ sym (append_assoc (tokens_of head) front (v.more ++ tokens_of (tail v.tree)));
 }
 
+-- where a part fails, so does a whole whose text begins and goes on with others
+pub Fails-in : {A B : Type 0} (ta : A → List Sym) (tb : B → List Sym) {ra : List Token → Result (A × List Token) Fault}
+    (rb : List Token → Result (B × List Token) Fault) {ts : List Token} (whole : List Token) (e : Fault)
+    (head : List Sym) (b : A → B) (tail : A → List Sym)
+    → ((a : A) → tb (b a) ≡ head ++ (ta a ++ tail a)) → IsClean head → ((a : A) → IsClean (tail a))
+    → (f : Fails ta ra ts e) → whole ≡ tokens_of head ++ ts
+    → ((l : List Token) → SameHead e.kind f.bad l
+    → rb (tokens_of head ++ (f.front ++ l)) ≡ Err (fault_at e.kind (length l)))
+    → Fails tb rb whole e
+Fails-in ta tb rb whole e head b tail is ch ct f parts local = record {
+  front = tokens_of head ++ f.front;
+  bad = f.bad;
+  parts = parts ∙ ap (λ (l : List Token). tokens_of head ++ l) f.parts
+      ∙ sym (append_assoc (tokens_of head) f.front f.bad);
+  left = f.left;
+  viable = Viable-in ta tb f.front head b tail is ch ct f.viable;
+  shows = Shows-in ta tb e.kind f.front f.bad head b tail is f.shows;
+  local = λ l same. ap rb (append_assoc (tokens_of head) f.front l) ∙ local l same;
+}
+
 module _ {A B : Type 0} (p : Parser A) (q : Parser B) where
   abbrev pub seq_text : A × B → List Sym
   seq_text t = p.text t.0 ++ q.text t.1
@@ -81,12 +101,6 @@ module _ {A B : Type 0} (p : Parser A) (q : Parser B) (apart : disjoint p.goes q
       } in
       subst (λ (z : (A × B) × List Token). Stands (seq_text p q) q.goes ts z.0 z.1) (ok_is made (t, rest) y.2) whole
 
-  step : (m n : Option Fault) (a : A) (b : B) (r rest : List Token) → q.read r ≡ answer n b rest
-      → (answer m a r >>= λ a. q.read a.1 >>= λ b. Ok ((a.0, b.0), b.1)) ≡ answer {T = A × B} (or_else m n) (a, b) rest
-  step None None a b r rest h = rw h refl
-  step None (Some e) a b r rest h = rw h refl
-  step (Some e) n a b r rest h = refl
-
   pub seq_again : (t : A × B) (rest : List Token) → Stops q.goes rest
       → seq_read p q (tokens_of (seq_text p q t) ++ rest) ≡ answer
       (first_annotation (seq_text p q t) (length rest)) t rest
@@ -96,45 +110,25 @@ module _ {A B : Type 0} (p : Parser A) (q : Parser B) (apart : disjoint p.goes q
       let hq = q.again t.1 rest stops in
       ap (seq_read p q) (tokens_of-append-rest (p.text t.0) (q.text t.1) rest)
       ∙ ap (λ (r : Result (A × List Token) Fault). r >>= λ a. q.read a.1 >>= λ b. Ok ((a.0, b.0), b.1)) hp
-      ∙ step (first_annotation (p.text t.0) (length after)) (first_annotation (q.text t.1) (length rest)) t.0 t.1
-      after rest hq
+      ∙ answer-bind q.read (λ a b. (a, b)) (first_annotation (p.text t.0) (length after))
+      (first_annotation (q.text t.1) (length rest)) t.0 t.1 after rest hq
       ∙ ap (λ (m : Option Fault). answer m t rest) (sym (first_annotation-append-rest (p.text t.0) (q.text t.1) rest))
 
   pub fails_first : (ts : List Token) (e : Fault) → Fails p.text p.read ts e → Fails (seq_text p q) (seq_read p q) ts e
-  fails_first ts e f = record {
-    front = f.front;
-    bad = f.bad;
-    parts = f.parts;
-    left = f.left;
-    viable = Viable-in p.text (seq_text p q) f.front [] (λ a. (a, q.some)) (λ a. q.text q.some) (λ a. refl) tt
-        (λ a. q.some_clean) f.viable;
-    shows = Shows-in p.text (seq_text p q) e.kind f.front f.bad [] (λ a. (a, q.some)) (λ a. q.text q.some)
-        (λ a. refl) f.shows;
-    local = λ b same. ap (λ (r : Result (A × List Token) Fault). r >>= λ a. q.read a.1 >>= λ b. Ok ((a.0, b.0), b.1))
-        (f.local b same);
-  }
+  fails_first ts e f = Fails-in p.text (seq_text p q) (seq_read p q) ts e [] (λ a. (a, q.some)) (λ a. q.text q.some)
+      (λ a. refl) tt (λ a. q.some_clean) f refl (λ b same.
+      ap (λ (r : Result (A × List Token) Fault). r >>= λ a. q.read a.1 >>= λ b. Ok ((a.0, b.0), b.1)) (f.local b same))
 
   pub fails_second : (ts : List Token) (e : Fault) (a : A) (rest : List Token) → Stands p.text p.goes ts a rest
       → Fails q.text q.read rest e
       → Fails (seq_text p q) (seq_read p q) ts e
-  fails_second ts e a rest s f = record {
-    front = tokens_of (p.text a) ++ f.front;
-    bad = f.bad;
-    parts = s.parts ∙ ap (λ (l : List Token). tokens_of (p.text a) ++ l) f.parts
-        ∙ sym (append_assoc (tokens_of (p.text a)) f.front f.bad);
-    left = f.left;
-    viable = Viable-in q.text (seq_text p q) f.front (p.text a) (λ b. (a, b)) (λ b. [])
-        (λ b. ap (λ (l : List Sym). p.text a ++ l) (sym (append-nil (q.text b)))) s.clean (λ b. tt) f.viable;
-    shows = Shows-in q.text (seq_text p q) e.kind f.front f.bad (p.text a) (λ b. (a, b)) (λ b. [])
-        (λ b. ap (λ (l : List Sym). p.text a ++ l) (sym (append-nil (q.text b)))) f.shows;
-    local = λ b same.
-        let stops : Stops p.goes (f.front ++ b) =
-        Stops-same e.kind p.goes f.front f.bad b same (subst (Stops p.goes) f.parts s.stops) in
-        ap (seq_read p q) (append_assoc (tokens_of (p.text a)) f.front b)
-        ∙ ap (λ (r : Result (A × List Token) Fault). r >>= λ a. q.read a.1 >>= λ b. Ok ((a.0, b.0), b.1))
-        (clean_read p a (f.front ++ b) s.clean stops)
-        ∙ ap (λ (r : Result (B × List Token) Fault). r >>= λ b. Ok ((a, b.0), b.1)) (f.local b same);
-  }
+  fails_second ts e a rest s f = Fails-in q.text (seq_text p q) (seq_read p q) ts e (p.text a) (λ b. (a, b)) (λ b. [])
+      (λ b. ap (λ (l : List Sym). p.text a ++ l) (sym (append-nil (q.text b)))) s.clean (λ b. tt) f s.parts (λ b same.
+      let stops : Stops p.goes (f.front ++ b) =
+      Stops-same e.kind p.goes f.front f.bad b same (subst (Stops p.goes) f.parts s.stops) in
+      ap (λ (r : Result (A × List Token) Fault). r >>= λ a. q.read a.1 >>= λ b. Ok ((a.0, b.0), b.1))
+      (clean_read p a (f.front ++ b) s.clean stops)
+      ∙ ap (λ (r : Result (B × List Token) Fault). r >>= λ b. Ok ((a, b.0), b.1)) (f.local b same))
 
   pub seq_fails : (ts : List Token) (e : Fault) → seq_read p q ts ≡ Err e → Fails (seq_text p q) (seq_read p q) ts e
   seq_fails ts e h =

@@ -10,7 +10,7 @@ use Rattle.fcl_syntax.specs.Annotations.{either_text, IsClean, Sym, tokens_of, p
 use Rattle.fcl_syntax.specs.Readers.{cond_read, ◌>>=◌, fault_at, starts, found, one_at}
 use Rattle.fcl_syntax.proofs.Parser.{disjoint, Stops, Starts, first_annotation, answer, Stands, Shows, Fails, Parser}
 use Rattle.fcl_syntax.proofs.AnnotatedTexts.{bind_ok, ok_is, disjoint-mem}
-use Rattle.fcl_syntax.proofs.Seq.{Shows-in, Viable-in}
+use Rattle.fcl_syntax.proofs.Seq.{Fails-in}
 
 -- ---- one token of a class
 
@@ -133,17 +133,9 @@ module _ {A B : Type 0} (p : Parser A) (to : A → B) (text : B → List Sym)
       (f : Fails p.text p.read ts e)
       → ((b : List Token) → SameHead e.kind f.bad b → read (f.front ++ b) ≡ seen_as to (p.read (f.front ++ b)))
       → Fails text read ts e
-  seen_fails read ts e f reads = record {
-    front = f.front;
-    bad = f.bad;
-    parts = f.parts;
-    left = f.left;
-    viable = Viable-in p.text text f.front [] to (λ a. []) (λ a. same_text a ∙ sym (append-nil (p.text a))) tt
-        (λ a. tt) f.viable;
-    shows = Shows-in p.text text e.kind f.front f.bad [] to (λ a. [])
-        (λ a. same_text a ∙ sym (append-nil (p.text a))) f.shows;
-    local = λ b same. reads b same ∙ ap (seen_as to) (f.local b same);
-  }
+  seen_fails read ts e f reads = Fails-in p.text text read ts e [] to (λ a. [])
+      (λ a. same_text a ∙ sym (append-nil (p.text a))) tt (λ a. tt) f refl
+      (λ b same. reads b same ∙ ap (seen_as to) (f.local b same))
 
 -- ---- a choice by the first token
 
