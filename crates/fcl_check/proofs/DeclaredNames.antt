@@ -407,37 +407,6 @@ module _ {text : List ℕ} {L T : Type 0} (k : NamedLines text L T) where
 
 -- ---- of an input's section
 
-module _ (text : List ℕ) (b : FunctionBlock) (lines : List FuzzyLine) (i : ℕ) (x : FuzzyLine)
-    (more : take (i + 1) lines ≡ take i lines ++ x ∷ [])
-    (once : first (repeated (same_line text b) line_at (take i lines)) ≡ None) where
-  term_range : (t : Term) → x ≡ fuzzy.Term t → (has_range : Bool) → has_range ≡ list_any is_range (take i lines)
-      → has_range ≡ list_any is_range (take (i + 1) lines)
-  term_range t is has_range had =
-      rw (one_line lines i more is, list_any-append is_range (take i lines) (fuzzy.Term t ∷ []))
-      (had ∙ sym (or-false (list_any is_range (take i lines))))
-
-  module _ (q : Range) (is : x ≡ fuzzy.Range q) where
-    range_more : take (i + 1) lines ≡ take i lines ++ fuzzy.Range q ∷ []
-    range_more = one_line lines i more is
-
-    pub range_twice : true ≡ list_any is_range (take i lines)
-        → first (repeated (same_line text b) line_at lines) ≡ Some q.at
-    range_twice found = repeated_here (same_line text b) line_at lines i (fuzzy.Range q) range_more once
-        (any_ranges text b q (take i lines) ∙ sym found)
-
-    range_once : false ≡ list_any is_range (take i lines)
-        → first (repeated (same_line text b) line_at (take (i + 1) lines)) ≡ None
-    range_once found = repeated_more (same_line text b) line_at lines i (fuzzy.Range q) range_more once
-        (any_ranges text b q (take i lines) ∙ sym found)
-
-    range_numbers : (m : BTreeMap (Bor (List ℕ)) ℕ) → Numbers text (names_of_terms (take i lines)) m
-        → Numbers text (names_of_terms (take (i + 1) lines)) m
-    range_numbers m holds = rw (range_more, names_without (term_lines text b) (take i lines) (fuzzy.Range q) refl) holds
-
-    range_seen : true ≡ list_any is_range (take (i + 1) lines)
-    range_seen = rw (range_more, list_any-append is_range (take i lines) (fuzzy.Range q ∷ []))
-        (sym (or-true (list_any is_range (take i lines))))
-
 -- what is known of the lines of an input's section, as far as they are read
 abbrev pub KnowsTerms : List ℕ → FunctionBlock → List FuzzyLine → BTreeMap (Bor (List ℕ)) ℕ → Bool → Type 0
 KnowsTerms text b lines m has_range = record {
@@ -453,48 +422,32 @@ module _ (text : List ℕ) (b : FunctionBlock) (lines : List FuzzyLine) (i : ℕ
       → KnowsTerms text b (take (i + 1) lines) n has_range
   KnowsTerms-term t n is added = record {
     numbers = named_numbers (term_lines text b) lines i x more known.once t is m known.numbers n added.added added.len;
-    range = term_range text b lines i x more known.once t is has_range known.range;
+    range = rw (one_line lines i more is, list_any-append is_range (take i lines) (fuzzy.Term t ∷ []))
+        (known.range ∙ sym (or-false (list_any is_range (take i lines))));
     once = named_once (term_lines text b) lines i x more known.once t is m known.numbers added.fault;
   }
 
-  pub KnowsTerms-range : (q : Range) → x ≡ fuzzy.Range q → has_range ≡ false
-      → KnowsTerms text b (take (i + 1) lines) m true
-  KnowsTerms-range q is none = record {
-    numbers = range_numbers text b lines i x more known.once q is m known.numbers;
-    range = range_seen text b lines i x more known.once q is;
-    once = range_once text b lines i x more known.once q is (sym none ∙ known.range);
-  }
+  module _ (q : Range) (is : x ≡ fuzzy.Range q) where
+    range_same : list_any (same_line text b (fuzzy.Range q)) (take i lines) ≡ has_range
+    range_same = any_ranges text b q (take i lines) ∙ sym known.range
+
+    pub range_twice : has_range ≡ true → first (repeated (same_line text b) line_at lines) ≡ Some q.at
+    range_twice found = repeated_here (same_line text b) line_at lines i (fuzzy.Range q) (one_line lines i more is)
+        known.once (range_same ∙ found)
+
+    pub KnowsTerms-range : has_range ≡ false → KnowsTerms text b (take (i + 1) lines) m true
+    KnowsTerms-range none =
+        let more_ranges = one_line lines i more is in
+        record {
+          numbers = rw (more_ranges, names_without (term_lines text b) (take i lines) (fuzzy.Range q) refl)
+              known.numbers;
+          range = rw (more_ranges, list_any-append is_range (take i lines) (fuzzy.Range q ∷ []))
+              (sym (or-true (list_any is_range (take i lines))));
+          once = repeated_more (same_line text b) line_at lines i (fuzzy.Range q) more_ranges known.once
+              (range_same ∙ none);
+        }
 
 -- ---- of an output's section
-
-module _ (text : List ℕ) (b : FunctionBlock) (lines : List DefuzzyLine) (i : ℕ) (x : DefuzzyLine)
-    (more : take (i + 1) lines ≡ take i lines ++ x ∷ [])
-    (once : first (repeated (same_output_line text b) output_line_at (take i lines)) ≡ None) where
-  singleton_others : (t : Singleton) → x ≡ defuzzy.Singleton t
-      → filter is_other (take (i + 1) lines) ≡ filter is_other (take i lines)
-  singleton_others t is =
-      rw (one_line lines i more is, filter-append is_other (take i lines) (defuzzy.Singleton t ∷ []))
-      (append-nil (filter is_other (take i lines)))
-
-  module _ (other : is_other x ≡ true) where
-    seen : list_any (same_output_line text b x) (take i lines) ≡ list_any (same_kind x) (filter is_other (take i lines))
-    seen = any_same text b x (take i lines) other ∙ any_of_kind text b x (take i lines)
-
-    pub other_twice : true ≡ list_any (same_kind x) (filter is_other (take i lines))
-        → first (repeated (same_output_line text b) output_line_at lines) ≡ Some (output_line_at x)
-    other_twice found = repeated_here (same_output_line text b) output_line_at lines i x more once (seen ∙ sym found)
-
-    other_once : false ≡ list_any (same_kind x) (filter is_other (take i lines))
-        → first (repeated (same_output_line text b) output_line_at (take (i + 1) lines)) ≡ None
-    other_once found = repeated_more (same_output_line text b) output_line_at lines i x more once (seen ∙ sym found)
-
-    other_numbers : (m : BTreeMap (Bor (List ℕ)) ℕ) → Numbers text (names_of_singletons (take i lines)) m
-        → Numbers text (names_of_singletons (take (i + 1) lines)) m
-    other_numbers m holds =
-        rw (more, names_without (singleton_lines text b) (take i lines) x (other_sort x other)) holds
-
-    others_more : filter is_other (take (i + 1) lines) ≡ filter is_other (take i lines) ++ x ∷ []
-    others_more = rw (more, filter-append is_other (take i lines) (x ∷ []), other) refl
 
 -- what is known of the lines of an output's section, as far as they are read
 abbrev pub KnowsSingletons : List ℕ → FunctionBlock → List DefuzzyLine → BTreeMap (Bor (List ℕ)) ℕ → List DefuzzyLine
@@ -513,17 +466,27 @@ module _ (text : List ℕ) (b : FunctionBlock) (lines : List DefuzzyLine) (i : �
   KnowsSingletons-singleton t n is added = record {
     numbers =
         named_numbers (singleton_lines text b) lines i x more known.once t is m known.numbers n added.added added.len;
-    others = known.others ∙ sym (singleton_others text b lines i x more known.once t is);
+    others = rw (one_line lines i more is, filter-append is_other (take i lines) (defuzzy.Singleton t ∷ []))
+        (known.others ∙ sym (append-nil (filter is_other (take i lines))));
     once = named_once (singleton_lines text b) lines i x more known.once t is m known.numbers added.fault;
   }
 
-  pub KnowsSingletons-other : is_other x ≡ true → list_any (same_kind x) others ≡ false
-      → KnowsSingletons text b (take (i + 1) lines) m (others ++ x ∷ [])
-  KnowsSingletons-other other none = record {
-    numbers = other_numbers text b lines i x more known.once other m known.numbers;
-    others = rw (known.others) (sym (others_more text b lines i x more known.once other));
-    once = other_once text b lines i x more known.once other (rw (known.others) at (sym none));
-  }
+  module _ (other : is_other x ≡ true) where
+    other_same : list_any (same_output_line text b x) (take i lines) ≡ list_any (same_kind x) others
+    other_same = rw known.others (any_same text b x (take i lines) other ∙ any_of_kind text b x (take i lines))
+
+    pub other_twice : list_any (same_kind x) others ≡ true
+        → first (repeated (same_output_line text b) output_line_at lines) ≡ Some (output_line_at x)
+    other_twice found =
+        repeated_here (same_output_line text b) output_line_at lines i x more known.once (other_same ∙ found)
+
+    pub KnowsSingletons-other : list_any (same_kind x) others ≡ false
+        → KnowsSingletons text b (take (i + 1) lines) m (others ++ x ∷ [])
+    KnowsSingletons-other none = record {
+      numbers = rw (more, names_without (singleton_lines text b) (take i lines) x (other_sort x other)) known.numbers;
+      others = rw (more, filter-append is_other (take i lines) (x ∷ []), other, known.others) refl;
+      once = repeated_more (same_output_line text b) output_line_at lines i x more known.once (other_same ∙ none);
+    }
 
 -- ---- Sections by their letters, and what a tree has twice, as one more section is read.
 

@@ -20,10 +20,10 @@ returns-then-has_kind c =
     let value = c.as_slice-line-items.ensures in
     let other = is_no_singleton _ (λ t e. c.in_default.not-Singleton t e) in
     let more = take_more c.args.section.now.lines c.loop-line.line-index _ (rw value at c.loop-line-test.true) in
-    let found = sym c.if-has_kind.true ∙ c.has_kind.ensures in
+    let found = sym c.has_kind.ensures ∙ c.if-has_kind.true in
     let here = other_twice c.args.tree.now.text.items c.args.tree.now.block c.args.section.now.lines
-    c.loop-line.line-index _ more c.loop-line.invariant.once
-    (rw value at other) (rw (value, c.deref.ensures.value, c.loop-line.invariant.others) at found) in
+    c.loop-line.line-index _ more c.loop-line.terms c.loop-line.others.items c.loop-line.invariant
+    (rw value at other) (rw (value, c.deref.ensures.value) at found) in
     record { terms = tt; fault = λ h. rw (here, c.line_at.ensures, value) refl }
 
 pub loop-line-preserved : goal.loop-line-preserved

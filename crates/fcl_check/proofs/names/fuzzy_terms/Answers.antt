@@ -1,4 +1,4 @@
-use Rattle.fcl_check.proofs.Words.{◌∙◌, ◌≡◌, Err, refl, rules, sym}
+use Rattle.fcl_check.proofs.Words.{◌≡◌, Err, refl, rules}
 use Rattle.fcl_check.proofs.DeclaredNames.{KnowsTerms-range, KnowsTerms-term, named_twice, range_twice, term_lines}
 use Rattle.fcl_check.proofs.Places.{read_further}
 use Rattle.fcl_check.proofs.names.fuzzy_terms.Goals.{in-Term+in_ok-add_term-in-Term, in-Range+else-has_range}
@@ -20,7 +20,7 @@ returns-then-has_range-clause-fault c =
     let more = read_further lines _ c.loop-line.line-index c.line-item.result c.as_slice-line-items.ensures
     c.loop-line-test.true c.line-item.is in
     let here = range_twice c.args.tree.now.text.items c.args.tree.now.block lines c.loop-line.line-index c.line-item.result
-    more c.loop-line.invariant.once c.in-Range.range c.in-Range.is (sym c.if-has_range.true ∙ c.loop-line.invariant.range) in
+    more c.loop-line.terms c.loop-line.has_range c.loop-line.invariant c.in-Range.range c.in-Range.is c.if-has_range.true in
     λ h. rw here refl
 
 pub loop-line-preserved : goal.loop-line-preserved
