@@ -2,7 +2,7 @@
 -- its ones, and on the zeros behind them.
 use Rattle.fcl_check.proofs.Words.{[], ◌&&◌, ◌*◌, ◌++◌, ◌+◌, ◌<ℤ◌, ◌<◌, ◌∙◌, ◌∷◌, ◌≡◌, ◌≤ℤ◌, ◌≤◌, ◌⊎◌, abscissa_of}
 use Rattle.fcl_check.proofs.Words.{AllByRecursion, ap, AreCornersOf, arith, at_each, at_if, Bool, cases_Bool, cond}
-use Rattle.fcl_check.proofs.Words.{Corners, Dec, Decides-int_eq, drop_while, falling_in, false, filter, first, get_or}
+use Rattle.fcl_check.proofs.Words.{Corners, Dec, drop_while, falling_in, false, filter, first, get_or}
 use Rattle.fcl_check.proofs.Words.{has_one, has_shape, has_zero, inl, inr, int_eq, int_lt, ints, last, length, List}
 use Rattle.fcl_check.proofs.Words.{list_all, list_any, nat_le, nat_tests, None, not, number_of, Option, option_map}
 use Rattle.fcl_check.proofs.Words.{option_or, Point, points_of, refl, Some, sym, take, take_more, take_while}
@@ -21,47 +21,28 @@ use Rattle.fcl_check.proofs.Elements.{one-passes}
 
 -- ---- where a point stands
 
-pub record IsLeft (p : Point) (x : ℤ) : Type 0 where
-  pub less : int_lt (x_of p) x ≡ true
-  pub same : int_eq (x_of p) x ≡ false
-  pub more : int_lt x (x_of p) ≡ false
+-- whether left of x, at it, or right of it
+pub record Stands (is_left is_at is_right : Bool) (p : Point) (x : ℤ) : Type 0 where
+  pub less : int_lt (x_of p) x ≡ is_left
+  pub same : int_eq (x_of p) x ≡ is_at
+  pub more : int_lt x (x_of p) ≡ is_right
 
-pub record IsAt (p : Point) (x : ℤ) : Type 0 where
-  pub less : int_lt (x_of p) x ≡ false
-  pub same : int_eq (x_of p) x ≡ true
-  pub more : int_lt x (x_of p) ≡ false
+pub left : (p : Point) (x : ℤ) → x_of p <ℤ x → Stands true false false p x
+left p x h = record { less = grind (arith, ints); same = grind (arith, ints); more = grind (arith, ints) }
 
-pub record IsRight (p : Point) (x : ℤ) : Type 0 where
-  pub less : int_lt (x_of p) x ≡ false
-  pub same : int_eq (x_of p) x ≡ false
-  pub more : int_lt x (x_of p) ≡ true
+pub right : (p : Point) (x : ℤ) → x <ℤ x_of p → Stands false false true p x
+right p x h = record { less = grind (arith, ints); same = grind (arith, ints); more = grind (arith, ints) }
 
-no-tie : (a x : ℤ) → (a ≡ x → ⊥) → int_eq a x ≡ false
-no-tie a x h = elim (cases_Bool (int_eq a x)) [ inl e ↦ absurd (h ((Decides-int_eq a x).0 e)) | inr e ↦ e ]
-
-pub left : (p : Point) (x : ℤ) → x_of p <ℤ x → IsLeft p x
-left p x h = record {
-  less = grind (arith, ints);
-  same = no-tie (x_of p) x (λ e. omega (arith, ints));
-  more =
-      grind (arith, ints);
-}
-
-pub right : (p : Point) (x : ℤ) → x <ℤ x_of p → IsRight p x
-right p x h = record
-    { less = grind (arith, ints); same = no-tie (x_of p) x (λ e. omega (arith, ints)); more = grind (arith, ints) }
-
-pub here : (p : Point) (x : ℤ) → x_of p ≡ x → IsAt p x
-here p x h =
-    let less : int_lt (x_of p) x ≡ false = grind (arith, ints) in
-    let more : int_lt x (x_of p) ≡ false = grind (arith, ints) in
-    record { less = less; same = rw (less, more) refl; more = more }
+pub here : (p : Point) (x : ℤ) → x_of p ≡ x → Stands false true false p x
+here p x h = record { less = grind (arith, ints); same = grind (arith, ints); more = grind (arith, ints) }
 
 pub place : (a x : ℤ) → (a <ℤ x) ⊎ ((a ≡ x) ⊎ (x <ℤ a))
 place a x = elim (cases_Bool (int_lt a x)) [
   | inl e ↦ inl (grind (arith, ints))
-  | inr e ↦ elim (cases_Bool (int_lt x a))
-      [ inl f ↦ inr (inr (grind (arith, ints))) | inr f ↦ inr (inl ((Decides-int_eq a x).0 (rw (e, f) refl))) ]
+  | inr e ↦ elim (cases_Bool (int_lt x a)) [
+    | inl f ↦ inr (inr (grind (arith, ints)))
+    | inr f ↦ inr (inl (grind (arith, ints)))
+  ]
 ]
 
 -- ---- points that ascend
@@ -490,6 +471,18 @@ module _ (z : Trapezoid) (x : Dec) where
   vanish : (points : List Point) → degree z x ≡ none → course points x.0 ≡ none → Keeps points
   vanish points e f = AreSame-refl (degree z x) (course points x.0) (e ∙ sym f)
 
+  -- ones do not end left of the first of them
+  top-below : (p : Point) (points : List Point) → Some z.c.0 ≡ abscissa_of (last (p ∷ filter has_one points))
+      → NotBelow (x_of p) points → x_of p ≤ℤ z.c.0
+  top-below p points c all = last-above (x_of p) z.c.0 (p ∷ filter has_one points)
+      (omega (arith, ints), NotBelow-filter (x_of p) has_one points all) c
+
+  -- at a one
+  topped : (p : Point) (points : List Point) → has_one p ≡ true → z.b.0 ≤ℤ x_of p → x_of p ≤ℤ z.c.0 → x_of p ≡ x.0
+      → Keeps (p ∷ points)
+  topped p points top b c k = agree (p ∷ points)
+      (at-top z x (omega (arith, ints, b, k)) (omega (arith, ints, c, k))) (course-top x.0 p points k top)
+
   -- behind d
   falling-on : (p : Point) (points : List Point) → degree z x ≡ none → list_all has_zero (p ∷ points) ≡ true
       → Ascends (p ∷ points) → x_of p <ℤ x.0
@@ -500,10 +493,10 @@ module _ (z : Trapezoid) (x : Dec) where
       let rest = tail-zero p (q ∷ points) zeros in
       elim (place (x_of q) x.0) [
         | inl k ↦ rw (course-step x.0 p q points h k) (falling-on q points low rest up.1 k)
-        | inr w ↦ elim w [
-          | inl k ↦ rw (course-reach x.0 p q points h k) (vanish (q ∷ points) low (course-zeros x.0 q points k rest))
-          | inr k ↦ rw (course-between x.0 p q points h k up.1.0, low) (line-low p q x.0 zero (head-zero q points rest))
-        ]
+        | inr (inl k) ↦ rw (course-reach x.0 p q points h k)
+            (vanish (q ∷ points) low (course-zeros x.0 q points k rest))
+        | inr (inr k) ↦ rw (course-between x.0 p q points h k up.1.0, low)
+            (line-low p q x.0 zero (head-zero q points rest))
       ]
 
   -- from b to d
@@ -522,21 +515,14 @@ module _ (z : Trapezoid) (x : Dec) where
             let ds : number_of z.d ≡ abscissa_of (first (filter has_zero points)) = rw f at d in
             let shapes : list_all has_zero (drop_while has_one points) ≡ true = rw f at shape in
             let bs : z.b.0 ≤ℤ x_of q = omega (arith, ints, b, up.0.0) in
-            let above : x_of q ≤ℤ z.c.0 =
-            last-above (x_of q) z.c.0 (q ∷ filter has_one points)
-            (omega (arith, ints), NotBelow-filter (x_of q) has_one points up.1.0) cs in
+            let above = top-below q points cs up.1.0 in
             elim (place (x_of q) x.0) [
               | inl k ↦ rw (course-step x.0 p q points h k) (topping-on q points f bs cs ds shapes up.1 k)
-              | inr w ↦ elim w [
-                | inl k ↦ rw (course-reach x.0 p q points h k)
-                    (agree (q ∷ points) (at-top z x (omega (arith, ints, bs, k)) (omega (arith, ints, above, k)))
-                    (course-top x.0 q points k f))
-                | inr k ↦ rw (
-                  course-between x.0 p q points h k up.1.0,
-                  at-top z x (omega (arith, ints, b, h)) (omega (arith, ints, above, k)),
-                )
-                    (line-high p q x.0 top f h k)
-              ]
+              | inr (inl k) ↦ rw (course-reach x.0 p q points h k) (topped q points f bs above k)
+              | inr (inr k) ↦ rw (
+                course-between x.0 p q points h k up.1.0,
+                at-top z x (omega (arith, ints, b, h)) (omega (arith, ints, above, k)),
+              ) (line-high p q x.0 top f h k)
             ]
         | inr f ↦
             let zeros : list_all has_zero (q ∷ points) ≡ true = rw f at shape in
@@ -548,13 +534,11 @@ module _ (z : Trapezoid) (x : Dec) where
             elim (place (x_of q) x.0) [
               | inl k ↦ rw (course-step x.0 p q points h k)
                   (falling-on q points (behind z x (x_of q) ds (omega (arith, ints, k)) past under) zeros up.1 k)
-              | inr w ↦ elim w [
-                | inl k ↦ rw (course-reach x.0 p q points h k)
-                    (vanish (q ∷ points) (behind z x (x_of q) ds (omega (arith, ints, k)) past under)
-                    (course-zeros x.0 q points k zeros))
-                | inr k ↦ rw (course-between x.0 p q points h k up.1.0, on-fall z x (x_of q) ds k past under, same)
-                    (line-falling p q x.0 top f)
-              ]
+              | inr (inl k) ↦ rw (course-reach x.0 p q points h k)
+                  (vanish (q ∷ points) (behind z x (x_of q) ds (omega (arith, ints, k)) past under)
+                  (course-zeros x.0 q points k zeros))
+              | inr (inr k) ↦ rw (course-between x.0 p q points h k up.1.0, on-fall z x (x_of q) ds k past under, same)
+                  (line-falling p q x.0 top f)
             ]
       ]
 
@@ -594,19 +578,14 @@ module _ (z : Trapezoid) (x : Dec) where
         | inl f ↦
             let foot : number_of z.a ≡ Some (x_of p) = rw (take_while-cons has_zero q points, f) at a in
             let bs : z.b.0 ≡ x_of q = let same : Some z.b.0 ≡ Some (x_of q) = rw f at b in cc in
-            let above : x_of q ≤ℤ z.c.0 =
-            last-above (x_of q) z.c.0 (q ∷ filter has_one points)
-            (omega (arith, ints), NotBelow-filter (x_of q) has_one points up.1.0) (rw f at c) in
+            let above = top-below q points (rw f at c) up.1.0 in
             elim (place (x_of q) x.0) [
               | inl k ↦ absurd (omega (arith, ints, up.0.0, h, k))
-              | inr w ↦ elim w [
-                | inl k ↦ rw (course-run x.0 p q points h zero k)
-                    (agree (q ∷ points) (at-top z x (omega (arith, ints, bs, k)) (omega (arith, ints, above, k)))
-                    (course-top x.0 q points k f))
-                | inr k ↦ vanish (p ∷ q ∷ points)
-                    (before z x (x_of p) foot (omega (arith, ints, h)) (omega (arith, ints, bs, k))
-                    (omega (arith, ints, above, k))) (course-lone x.0 p q points h zero k up.1.0)
-              ]
+              | inr (inl k) ↦ rw (course-run x.0 p q points h zero k)
+                  (topped q points f (omega (arith, ints, bs)) above k)
+              | inr (inr k) ↦ vanish (p ∷ q ∷ points)
+                  (before z x (x_of p) foot (omega (arith, ints, h)) (omega (arith, ints, bs, k))
+                  (omega (arith, ints, above, k))) (course-lone x.0 p q points h zero k up.1.0)
             ]
         | inr f ↦
             let feet : number_of z.a ≡ abscissa_of (last (q ∷ take_while has_zero points)) =
@@ -615,11 +594,9 @@ module _ (z : Trapezoid) (x : Dec) where
             let cs : Some z.c.0 ≡ abscissa_of (last (filter has_one points)) = rw f at c in
             elim (place (x_of q) x.0) [
               | inl k ↦ absurd (omega (arith, ints, up.0.0, h, k))
-              | inr w ↦ elim w [
-                | inl k ↦ rw (course-run x.0 p q points h zero k) (zero-run q points f feet bs cs up.1 k)
-                | inr k ↦ vanish (p ∷ q ∷ points) (low-before q points feet bs cs up.1.0 k)
-                    (course-lone x.0 p q points h zero k up.1.0)
-              ]
+              | inr (inl k) ↦ rw (course-run x.0 p q points h zero k) (zero-run q points f feet bs cs up.1 k)
+              | inr (inr k) ↦ vanish (p ∷ q ∷ points) (low-before q points feet bs cs up.1.0 k)
+                  (course-lone x.0 p q points h zero k up.1.0)
             ]
       ]
 
@@ -638,24 +615,19 @@ module _ (z : Trapezoid) (x : Dec) where
             let foot : number_of z.a ≡ Some (x_of p) = rw (take_while-cons has_zero q points, f) at a in
             let bs : z.b.0 ≡ x_of q = let same : Some z.b.0 ≡ Some (x_of q) = rw f at b in cc in
             let cs : Some z.c.0 ≡ abscissa_of (last (q ∷ filter has_one points)) = rw f at c in
-            let above : x_of q ≤ℤ z.c.0 =
-            last-above (x_of q) z.c.0 (q ∷ filter has_one points)
-            (omega (arith, ints), NotBelow-filter (x_of q) has_one points up.1.0) cs in
+            let above = top-below q points cs up.1.0 in
             elim (place (x_of q) x.0) [
               | inl k ↦ rw (course-step x.0 p q points h k)
                   (topping-on q points f (omega (arith, ints, bs)) cs (zeros-behind q points f d)
                   (shape-behind q points f shape) up.1 k)
-              | inr w ↦ elim w [
-                | inl k ↦ rw (course-reach x.0 p q points h k)
-                    (agree (q ∷ points) (at-top z x (omega (arith, ints, bs, k)) (omega (arith, ints, above, k)))
-                    (course-top x.0 q points k f))
-                | inr k ↦ rw (
-                  course-between x.0 p q points h k up.1.0,
-                  on-rise z x (x_of p) foot h (omega (arith, ints, bs, k))
-                      (omega (arith, ints, above, k)),
-                  bs,
-                ) (line-rising p q x.0 zero f)
-              ]
+              | inr (inl k) ↦ rw (course-reach x.0 p q points h k)
+                  (topped q points f (omega (arith, ints, bs)) above k)
+              | inr (inr k) ↦ rw (
+                course-between x.0 p q points h k up.1.0,
+                on-rise z x (x_of p) foot h (omega (arith, ints, bs, k))
+                    (omega (arith, ints, above, k)),
+                bs,
+              ) (line-rising p q x.0 zero f)
             ]
         | inr f ↦
             let feet : number_of z.a ≡ abscissa_of (last (q ∷ take_while has_zero points)) =
@@ -665,11 +637,9 @@ module _ (z : Trapezoid) (x : Dec) where
             elim (place (x_of q) x.0) [
               | inl k ↦ rw (course-step x.0 p q points h k)
                   (rising-on q points f feet bs cs (rw f at d) (rw f at shape) up.1 k)
-              | inr w ↦ elim w [
-                | inl k ↦ rw (course-reach x.0 p q points h k) (zero-run q points f feet bs cs up.1 k)
-                | inr k ↦ rw (course-between x.0 p q points h k up.1.0, low-before q points feet bs cs up.1.0 k)
-                    (line-low p q x.0 zero f)
-              ]
+              | inr (inl k) ↦ rw (course-reach x.0 p q points h k) (zero-run q points f feet bs cs up.1 k)
+              | inr (inr k) ↦ rw (course-between x.0 p q points h k up.1.0, low-before q points feet bs cs up.1.0 k)
+                  (line-low p q x.0 zero f)
             ]
       ]
 
@@ -686,18 +656,13 @@ module _ (z : Trapezoid) (x : Dec) where
             let footless : number_of z.a ≡ None = rw (take_while-cons has_zero p points, f) at a in
             let bs : z.b.0 ≡ x_of p = let same : Some z.b.0 ≡ Some (x_of p) = rw f at b in cc in
             let cs : Some z.c.0 ≡ abscissa_of (last (p ∷ filter has_one points)) = rw f at c in
-            let above : x_of p ≤ℤ z.c.0 =
-            last-above (x_of p) z.c.0 (p ∷ filter has_one points)
-            (omega (arith, ints), NotBelow-filter (x_of p) has_one points up.0) cs in
+            let above = top-below p points cs up.0 in
             elim (place (x_of p) x.0) [
               | inl k ↦ topping-on p points f (omega (arith, ints, bs)) cs (zeros-behind p points f d)
                   (shape-behind p points f shape) up k
-              | inr w ↦ elim w [
-                | inl k ↦ agree (p ∷ points) (at-top z x (omega (arith, ints, bs, k)) (omega (arith, ints, above, k)))
-                    (course-top x.0 p points k f)
-                | inr k ↦ agree (p ∷ points) (open-left z x footless (omega (arith, ints, above, k)))
-                    (course-start x.0 p points k up.0 ∙ height-one p f)
-              ]
+              | inr (inl k) ↦ topped p points f (omega (arith, ints, bs)) above k
+              | inr (inr k) ↦ agree (p ∷ points) (open-left z x footless (omega (arith, ints, above, k)))
+                  (course-start x.0 p points k up.0 ∙ height-one p f)
             ]
         | inr f ↦
             let feet : number_of z.a ≡ abscissa_of (last (p ∷ take_while has_zero points)) =
@@ -706,10 +671,8 @@ module _ (z : Trapezoid) (x : Dec) where
             let cs : Some z.c.0 ≡ abscissa_of (last (filter has_one points)) = rw f at c in
             elim (place (x_of p) x.0) [
               | inl k ↦ rising-on p points f feet bs cs (rw f at d) (rw f at shape) up k
-              | inr w ↦ elim w [
-                | inl k ↦ zero-run p points f feet bs cs up k
-                | inr k ↦ vanish (p ∷ points) (low-before p points feet bs cs up.0 k)
-                    (course-start x.0 p points k up.0 ∙ height-zero p f)
-              ]
+              | inr (inl k) ↦ zero-run p points f feet bs cs up k
+              | inr (inr k) ↦ vanish (p ∷ points) (low-before p points feet bs cs up.0 k)
+                  (course-start x.0 p points k up.0 ∙ height-zero p f)
             ]
       ]

@@ -454,7 +454,7 @@ found-passes test (y ∷ xs) x h =
       | false ↦ λ e k. found-passes test xs x k
     ] refl h
 
-neither_test : (p q : Bool) → (p || q) ≡ false → (p ≡ false) × (q ≡ false)
+pub neither_test : (p q : Bool) → (p || q) ≡ false → (p ≡ false) × (q ≡ false)
 neither_test true q h = absurd cc
 neither_test false q h = (refl, h)
 

@@ -1,9 +1,9 @@
 -- Ranges of written numbers: what lies in them, and that they are in scale.
 use Rattle.fcl_check.proofs.Words.{[], ◌++◌, ◌+◌, ◌<ℤ◌, ◌<◌, ◌∙◌, ◌∷◌, ◌≡◌, ◌≤ℤ◌, abscissas, AllByRecursion, ap}
-use Rattle.fcl_check.proofs.Words.{append-nil, arith, at_drop_more, at_if, block_text, cases_Bool, cond, cons_option}
-use Rattle.fcl_check.proofs.Words.{Dec, Decides-int_eq, Defuzzify, DefuzzyLine, drop, Ends, ends_of, extended}
+use Rattle.fcl_check.proofs.Words.{append-nil, arith, at_drop_more, at_if, block_text, cond, cons_option}
+use Rattle.fcl_check.proofs.Words.{Dec, Defuzzify, DefuzzyLine, drop, Ends, ends_of, extended}
 use Rattle.fcl_check.proofs.Words.{fallback_number, FallbackValue, false, filter_map, flat_map, Fuzzify, fuzzy_range}
-use Rattle.fcl_check.proofs.Words.{FuzzyLine, get_or, given_or, hull_of, inl, input_range, inr, int_eq, int_lt, ints}
+use Rattle.fcl_check.proofs.Words.{FuzzyLine, get_or, given_or, hull_of, input_range, int_eq, ints}
 use Rattle.fcl_check.proofs.Words.{is_empty_range, IsInScale, length, lies_in, List, map, map-append, None, not}
 use Rattle.fcl_check.proofs.Words.{number_line, Option, option_map, output_hull, output_numbers, Point, points_of}
 use Rattle.fcl_check.proofs.Words.{pos, Range, reach, refl, SignedNumber, Singleton, singleton_of, Some, subst, sym}
@@ -185,14 +185,7 @@ abbrev pub AllIn : Ends → List Point → Type 0
 AllIn e points = AllByRecursion (λ (p : Point). In e (x_of p)) points
 
 lies : (e : Ends) (x : ℤ) → not (lies_in e x) ≡ false → In e x
-lies e x h =
-    elim (cases_Bool (int_lt x e.0)) [
-      | inl low ↦ absurd (let no : true ≡ false = rw low at h in cc)
-      | inr low ↦ elim (cases_Bool (int_lt e.1 x)) [
-        | inl high ↦ absurd (let no : true ≡ false = rw (low, high) at h in cc)
-        | inr high ↦ (grind (arith, ints), grind (arith, ints))
-      ]
-    ]
+lies e x h = (grind (arith, ints), grind (arith, ints))
 
 -- none of some numbers is outside
 pub all_inside : {X : Type 0} (e : Ends) (x : X → ℤ) (at : X → ℕ) (xs : List X)
@@ -203,11 +196,7 @@ all_inside e x at xs h = all_weaker (λ i. at_if (not (lies_in e (x i))) (at i) 
     (nowhere (λ i. at_if (not (lies_in e (x i))) (at i)) xs h)
 
 pub not_empty : (e : Ends) → is_empty_range e ≡ false → e.0 <ℤ e.1
-not_empty e h =
-    elim (cases_Bool (int_lt e.0 e.1)) [
-      | inl less ↦ grind (arith, ints)
-      | inr less ↦ absurd (let no : true ≡ false = rw less at h in cc)
-    ]
+not_empty e h = grind (arith, ints)
 
 -- ---- the hull
 
@@ -242,11 +231,7 @@ widened-ordered e h =
     elim (int_eq e.0 e.1) as
     (λ b. int_eq e.0 e.1 ≡ b → (cond b (e.0, e.1 +ℤ pos 10000) e).0 <ℤ (cond b (e.0, e.1 +ℤ pos 10000) e).1) [
       | true ↦ λ k. omega (arith, ints)
-      | false ↦ λ k. elim (cases_Bool (int_lt e.0 e.1)) [
-        | inl less ↦ grind (arith, ints)
-        | inr less ↦ absurd (let same : e.0 ≡ e.1 = grind (arith, ints) in
-            let tied : int_eq e.0 e.1 ≡ true = (Decides-int_eq e.0 e.1).1 same in cc)
-      ]
+      | false ↦ λ k. grind (arith, ints)
     ] refl
 
 pub widened-over : (e : Ends) (x : ℤ) → In e x → In (widened e) x

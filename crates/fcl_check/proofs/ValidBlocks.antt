@@ -40,8 +40,8 @@ use Rattle.fcl_check.proofs.CourseSteps.{no-ones, Ascends, ascends, last-over, t
 use Rattle.fcl_check.proofs.Ranges.{AllIn, In, all_inside, hull-over, not_empty, input_range-in, hull-ordered}
 use Rattle.fcl_check.proofs.Ranges.{widened-ordered, widened-over, AreInScale, IsWide, IsWide-widened}
 use Rattle.fcl_check.proofs.Ranges.{IsInScale-between, ends_of-in, output_hull-in}
-use Rattle.fcl_check.proofs.Faultless.{few_items, some_item, IsWellFormedPart, known_side, no_items, no_place}
-use Rattle.fcl_check.proofs.Faultless.{nowhere, shaped, few_names, over, some_at_all, some_names, IsFaultless}
+use Rattle.fcl_check.proofs.Faultless.{few_items, some_item, IsWellFormedPart, known_side, neither_test, no_items}
+use Rattle.fcl_check.proofs.Faultless.{no_place, nowhere, shaped, few_names, over, some_at_all, some_names, IsFaultless}
 use Rattle.fcl_check.proofs.Faultless.{faultless, well_formed_input, well_formed_output, well_formed_rules}
 use Rattle.fcl_check.proofs.Elements.{all_related, all_unmapped, all_weaker, parts_of, all_mapped, rest_of, all_both}
 use Rattle.fcl_check.proofs.Elements.{all_images}
@@ -445,14 +445,8 @@ many_singletons s y of =
 -- ---- weights
 
 weighed : (w : ℤ) → (int_lt w (pos 0) || int_lt (pos 10000) w) ≡ false → (pos 0 ≤ℤ w) × (w ≤ℤ pos 10000)
-weighed w h =
-    elim (cases_Bool (int_lt w (pos 0))) [
-      | inl low ↦ absurd (let no : true ≡ false = rw low at h in cc)
-      | inr low ↦ elim (cases_Bool (int_lt (pos 10000) w)) [
-        | inl high ↦ absurd (let no : true ≡ false = rw (low, high) at h in cc)
-        | inr high ↦ (grind (arith, ints), grind (arith, ints))
-      ]
-    ]
+weighed w h = let both = neither_test (int_lt w (pos 0)) _ h in
+    (let low = both.0 in grind (arith, ints), let high = both.1 in grind (arith, ints))
 
 abbrev beyond : Weight → List ℕ
 beyond w = at_if (int_lt (value w.value) (pos 0) || int_lt (pos 10000) (value w.value)) w.at

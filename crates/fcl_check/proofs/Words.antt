@@ -64,7 +64,7 @@ pub use Rattle.fuzzy_meaning.specs.{Blocks.HasTerm, Blocks.IsInScale, Blocks.rul
 pub use Rattle.fuzzy_meaning.specs.{declared.block.Block.Block, declared.block.Rule.Rule}
 pub use Rattle.fuzzy_meaning.specs.{declared.block.Trapezoid.Trapezoid}
 pub use Rattle.fz_num.specs.{declared.dec.Dec.Dec}
-pub use Rattle.std.proofs.{Math.Bool.or-false, lemmas.Bool.Decides.Decides-int_eq, lemmas.Bool.Decides.nat_tests}
+pub use Rattle.std.proofs.{Math.Bool.or-false, lemmas.Bool.Decides.nat_tests}
 pub use Rattle.std.proofs.{lemmas.Bool.cases_Bool, lemmas.Fn.says_at, lemmas.Grind.flat_map-append, lemmas.Int.ints}
 pub use Rattle.std.proofs.{lemmas.Iterator.Search.any_from_yields_List, lemmas.Iterator.YieldsList-from_slice}
 pub use Rattle.std.proofs.{lemmas.List.Elements.All-from_recursion, lemmas.List.Elements.filter-append}
