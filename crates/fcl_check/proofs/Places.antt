@@ -13,6 +13,11 @@ pub first-append : {A : Type 0} (xs ys : List A) → first (xs ++ ys) ≡ option
 first-append [] ys = refl
 first-append (x ∷ xs) ys = refl
 
+-- the first behind a front that has none
+pub first-append-append : {A : Type 0} (xs ys zs : List A) → first xs ≡ None
+    → first (xs ++ (ys ++ zs)) ≡ option_or (first ys) (first zs)
+first-append-append xs ys zs none = rw (first-append xs (ys ++ zs), none) (first-append ys zs)
+
 pub first-map : {A B : Type 0} (f : A → B) (xs : List A) → first (map f xs) ≡ option_map f (first xs)
 first-map f [] = refl
 first-map f (x ∷ xs) = refl
