@@ -126,11 +126,8 @@ name_back (tok.Name at w) a e = let is : record { at = at; word = w } ≡ a = cc
 name_back _ a e = absurd cc
 
 pub name_among : (a : Name) → mem (class_of (name_token a)) name_classes ≡ true
-name_among a = go a.at a.word
-  where
-    go : (at : ℕ) (w : Word) → mem (class_of (tok.Name at w)) name_classes ≡ true
-    go at word.Real = refl
-    go at _ = refl
+name_among a =
+    elim a.word as (λ w. mem (class_of (tok.Name a.at w)) name_classes ≡ true) [ word.Real ↦ refl | _ ↦ refl ]
 
 abbrev pub name_single : Single Name
 name_single = single name_want name_token name_classes
@@ -171,12 +168,9 @@ unit_among a = go a.at a.is_one a.whole
     go at _ _ = refl
 
 pub unit_forth : (a : UnitNumber) → unit_want (unit_token a) ≡ Some a
-unit_forth a = go a.at a.is_one a.whole
-  where
-    go : (at : ℕ) (b w : Bool)
-        → unit_want (tok.Number at (unit_amount b) w) ≡ Some (record { at = at; is_one = b; whole = w })
-    go at true w = refl
-    go at false w = refl
+unit_forth a =
+    elim a.is_one as (λ b. unit_want (tok.Number a.at (unit_amount b) a.whole) ≡ Some (record a { is_one = b }))
+    [ true ↦ refl | false ↦ refl ]
 
 abbrev pub unit_single : Single UnitNumber
 unit_single = single unit_want unit_token unit_classes
@@ -188,11 +182,9 @@ zero_back (tok.Number at amount.One w) a e = absurd cc
 zero_back _ a e = absurd cc
 
 pub zero_among : (a : ZeroNumber) → mem (class_of (zero_token a)) zero_classes ≡ true
-zero_among a = go a.at a.whole
-  where
-    go : (at : ℕ) (w : Bool) → mem (class_of (tok.Number at amount.Zero w)) zero_classes ≡ true
-    go at true = refl
-    go at false = refl
+zero_among a =
+    elim a.whole as (λ w. mem (class_of (tok.Number a.at amount.Zero w)) zero_classes ≡ true)
+    [ true ↦ refl | false ↦ refl ]
 
 abbrev pub zero_single : Single ZeroNumber
 zero_single = single zero_want zero_token zero_classes
@@ -204,11 +196,9 @@ label_back (tok.Number at n false) a e = absurd cc
 label_back _ a e = absurd cc
 
 pub label_among : (a : Label) → mem (class_of (label_token a)) whole_classes ≡ true
-label_among a = go a.at a.amount
-  where
-    go : (at : ℕ) (n : Amount) → mem (class_of (tok.Number at n true)) whole_classes ≡ true
-    go at amount.Zero = refl
-    go at _ = refl
+label_among a =
+    elim a.amount as (λ n. mem (class_of (tok.Number a.at n true)) whole_classes ≡ true)
+    [ amount.Zero ↦ refl | _ ↦ refl ]
 
 abbrev pub label_single : Single Label
 label_single = single label_want label_token whole_classes
