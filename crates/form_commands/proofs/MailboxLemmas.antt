@@ -1,20 +1,20 @@
 -- What a run under posts gives.
 use Rattle.form_commands.proofs.Words.{[], ◌++◌, ◌+◌, ◌-◌, ◌∙◌, ◌∷◌, ◌≡◌, ◌≤◌, All, All-cons, All-head}
-use Rattle.form_commands.proofs.Words.{All-tail, answer_line, answer_seen, AnswersKeepTheBound, ap, ap₂, AreAnswersOf}
-use Rattle.form_commands.proofs.Words.{arith, begun_lines, boundary_seen, Byte, bytes_of, counted}
-use Rattle.form_commands.proofs.Words.{CertKind, Compiled, counted-map, Firmware, format_of, Frame, frames_seen}
-use Rattle.form_commands.proofs.Words.{input_bytes, IsOneOf, length, length-map, line, List, made_with, codes}
-use Rattle.form_commands.proofs.Words.{◌<◌, ◌^◌, Mailbox, mailbox_bound, map, map-map, mrun_lines, of_seen}
+use Rattle.form_commands.proofs.Words.{All-tail, AnswersKeepTheBound, ap, ap₂, AreAnswersOf}
+use Rattle.form_commands.proofs.Words.{arith, Byte, bytes_of}
+use Rattle.form_commands.proofs.Words.{CertKind, Compiled, Firmware, format_of}
+use Rattle.form_commands.proofs.Words.{input_bytes, IsOneOf, length, length-map, List}
+use Rattle.form_commands.proofs.Words.{◌<◌, ◌^◌, Mailbox, mailbox_bound, map, mrun_lines, of_seen}
 use Rattle.form_commands.proofs.Words.{mailbox_report, MailboxAnswersAreNear, MailboxFiles, refl, run_of}
-use Rattle.form_commands.proofs.Words.{run_under_posts, Sample, SpelledBytesFit, Status, subst, sym}
+use Rattle.form_commands.proofs.Words.{run_under_posts, Sample, SpelledBytesFit, subst, sym}
 use Rattle.form_commands.proofs.Words.{true, ℕ}
 use Rattle.form_commands.proofs.FormLemmas.{settled_report}
-use Rattle.form_commands.specs.Mrun.{MrunIsSettled, mailbox_run, taken_line}
+use Rattle.form_commands.specs.Mrun.{MrunIsSettled, mailbox_run}
 use Rattle.mailbox_runs.specs.Runs.{AnswerSeen, RunSeen, arrival, steps_of}
 use Rattle.run_reports.specs.MailboxRun.{MailboxReport, MailboxRun, answered_samples, mailbox_reading}
-use Rattle.run_reports.specs.MailboxRun.{posts_in, posts_refusals}
+use Rattle.run_reports.specs.MailboxRun.{posts_in}
 use Rattle.run_reports.specs.Inputs.{TracesAreExact}
-use Rattle.command_parts.proofs.Algebra.{exact_of}
+use Rattle.run_reports.proofs.InputLemmas.{rows_exact}
 use Rattle.command_parts.specs.{Certs.CertsAreExact, Firmwares.FirmwaresAreExact, Images.ImagesAreExact}
 use Rattle.command_parts.specs.Readings.{AreExact, Gives, IsExact, seen_of}
 use Rattle.std.proofs.{Common.◌≢◌, Common.Bool, Common.false}
@@ -22,14 +22,11 @@ use Rattle.std.specs.{Prelude.if◌then◌else◌, Prelude.nat_le, Prelude.◌==
 use Rattle.byte_scaling.specs.declared.width.Width.{Width}
 use Rattle.std.proofs.lemmas.Bool.Decides.{nat_tests}
 use Rattle.cpu12_parts.specs.State.{State}
-use Rattle.interrupt_plan.specs.{Posts.AreGoodPosts, Posts.PostsHaveFault, declared.Post.Post}
-use Rattle.interrupt_plan.specs.declared.PlanFault.{PlanFault}
+use Rattle.interrupt_plan.specs.{Posts.AreGoodPosts, Posts.PostsHaveFault, Posts.SpellsPosts, declared.Post.Post}
 use Rattle.interrupt_plan.specs.OneReading.{PostFaultsAreOne, SpelledPostsAreOne, SpelledPostsHaveNoFault}
 use Rattle.mailbox_runs.specs.Answering.{AnswersUnderAllPosts, AnswersUnderPosts, answer_in, ended, run_of_turns}
 use Rattle.mailbox_runs.specs.Turns.{AreTurns, LastIsAnswered, Turn, behind, over, idle, answers, samples_of, up_to}
 use Rattle.mailbox_runs.specs.Turns.{waiting}
-use Rattle.mailbox_runs.specs.declared.run.Answer as declared
-use Rattle.fz_status.specs.declared.status.Status.TheVariants as status
 
 -- ---- the samples that turns answer are among those that are posted
 
@@ -191,29 +188,7 @@ module _ (keep : AnswersKeepTheBound) (fit : SpelledBytesFit) (near : MailboxAns
         (map answer_in report.answers) a.0.spelled.valid a.1.1.1.0 posted of_block a.1.1.0.accepted;
   }
 
--- ---- its lines
-
-pub posted_written : (begun told taken lines : List (List ℕ)) (es : List ℕ) (bound resumed : ℕ)
-    (xs : List declared.Answer) (frames : List (ℕ × Frame)) → begun ≡ begun_lines es bound
-    → told ≡ begun ++ counted (λ k x. answer_line k (answer_seen x) ∷ []) 1 xs
-    → taken ≡ told ++ map (λ f. taken_line (boundary_seen f)) frames
-    → lines ≡ taken ++ line (codes "resumed ") resumed ∷ []
-    → lines ≡ mrun_lines (mailbox_report es bound (map answer_seen xs) (frames_seen frames) resumed)
-posted_written begun told taken lines es bound resumed xs frames begun_so told_so taken_so added =
-    let final = line (codes "resumed ") resumed in
-    let answers = counted-map (λ k a. answer_line k a ∷ []) answer_seen 1 xs in
-    let d = map-map taken_line boundary_seen frames in
-    added ∙ made_with told (map (λ f. taken_line (boundary_seen f)) frames) (final ∷ []) taken taken_so
-    ∙ made_with begun (counted (λ k x. answer_line k (answer_seen x) ∷ []) 1 xs)
-    (map (λ f. taken_line (boundary_seen f)) frames ++ final ∷ []) told told_so
-    ∙ (λ i. begun_so i ++ ((sym answers) i ++ ((sym d) i ++ final ∷ [])))
-
 -- ---- what it makes of its files
-
-posts_has : (samples : ℕ) (text : List ℕ) (s : Status) → posts_refusals samples text s
-    → (f : PlanFault) × (s ≡ status.Plan f) × PostsHaveFault samples text f
-posts_has samples text (status.Plan f) w = (f, refl, w)
-posts_has samples text s w = absurd w
 
 pub mailbox_exact : FirmwaresAreExact → ImagesAreExact → CertsAreExact → TracesAreExact → SpelledPostsAreOne
     → SpelledPostsHaveNoFault → PostFaultsAreOne → (kind : CertKind) (files : MailboxFiles)
@@ -229,12 +204,9 @@ mailbox_exact firmwares images certs traces one stand faults kind files = (
   ),
 )
   where
-    posts : (samples : ℕ) → IsExact (posts_in samples files.posts)
-    posts samples =
-        exact_of (posts_in samples files.posts) status.Plan (PostsHaveFault samples files.posts) (λ f. tt)
-        (posts_has samples files.posts) (one samples files.posts)
-        (λ ps f a carries w. stand samples files.posts ps f a w)
-        (λ f g c d v w. faults samples files.posts f g v w)
+    posts : (n : ℕ) → IsExact (posts_in n files.posts)
+    posts n = rows_exact (SpellsPosts n files.posts) (PostsHaveFault n files.posts) (one n files.posts)
+        (stand n files.posts) (faults n files.posts)
 
 abbrev Given : Type 0
 Given = Compiled × (Unit {0} × (List ℕ × (List Sample × List Post)))

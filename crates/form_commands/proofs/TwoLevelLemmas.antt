@@ -3,31 +3,27 @@ use Rattle.form_commands.proofs.Words.{[], ◌<◌, ◌^◌, ◌∙◌, ◌∷�
 use Rattle.form_commands.proofs.Words.{Alone, AnswersAreReported, AnswersItsBlock, AnswersKeepTheBound}
 use Rattle.form_commands.proofs.Words.{AnswersUnderPlans, ap, AreAnswersOf, Byte, bytes_of, CertKind, fast_most}
 use Rattle.form_commands.proofs.Words.{FastSeen, format_of, GivesFirmware, input_bytes, IsOneOf, length, length-map}
-use Rattle.form_commands.proofs.Words.{List, lrun_lines, MailboxAnswersAreNear, map, of_seen, refl, RowSeen}
-use Rattle.form_commands.proofs.Words.{Sample, SpelledBytesFit, Status, subst, sym, two_level_report}
+use Rattle.form_commands.proofs.Words.{List, lrun_lines, MailboxAnswersAreNear, map, map-map, of_seen, refl, RowSeen}
+use Rattle.form_commands.proofs.Words.{Sample, SpelledBytesFit, subst, sym, two_level_report}
 use Rattle.form_commands.proofs.Words.{two_level_seen, TwoLevelFiles, ℕ}
 use Rattle.form_commands.proofs.FormLemmas.{settled_report}
 use Rattle.form_commands.specs.Lrun.{LrunIsSettled, two_level_run}
 use Rattle.alone_runs.specs.Rows.{firmware_rows}
-use Rattle.command_parts.proofs.Algebra.{exact_fast, exact_of}
+use Rattle.command_parts.proofs.Algebra.{exact_fast}
+use Rattle.run_reports.proofs.InputLemmas.{rows_exact}
 use Rattle.command_parts.specs.{Certs.CertsAreExact, Certs.cert_in, Images.ImagesAreExact, Twos.TwosAreExact}
 use Rattle.command_parts.specs.Readings.{AreExact, Gives, IsExact, seen_of}
 use Rattle.command_parts.specs.declared.twos.CompiledTwoLevel.{CompiledTwoLevel}
-use Rattle.fz_status.specs.declared.status.Status.TheVariants as status
-use Rattle.interrupt_plan.specs.{declared.levels.Level.Level, Levels.AreGoodLevels, Levels.LevelsHaveFault}
-use Rattle.interrupt_plan.specs.{declared.PlanFault.PlanFault}
+use Rattle.interrupt_plan.specs.Levels.{AreGoodLevels, LevelsHaveFault, SpellsLevels}
+use Rattle.interrupt_plan.specs.declared.levels.Level.{Level}
 use Rattle.interrupt_plan.specs.OneReading.{LevelFaultsAreOne, SpelledLevelsAreOne, SpelledLevelsHaveNoFault}
 use Rattle.run_reports.specs.Inputs.{TracesAreExact, trace_in}
-use Rattle.run_reports.specs.TwoLevelRun.{TwoLevelReport, TwoLevelRun, fast_numbers, levels_in, levels_refusals}
+use Rattle.run_reports.specs.TwoLevelRun.{TwoLevelReport, TwoLevelRun, fast_numbers, levels_in}
 use Rattle.run_reports.specs.TwoLevelRun.{two_level_reading}
 use Rattle.two_level_code.specs.Images.{AloneHasByteBounds}
 use Rattle.two_level_runs.specs.Order.{LevelsMakeAPlan}
 use Rattle.two_level_runs.specs.Answering.{AnswersAtTwoLevels, AnswersUnderLevels, RowsAreSeen, answer_of_fast}
 use Rattle.two_level_runs.specs.Answering.{fast_runs, plan_of}
-
-map-twice : {X Y Z : Type 0} (g : Y → Z) (f : X → Y) (xs : List X) → map g (map f xs) ≡ map (λ x. g (f x)) xs
-map-twice g f [] = refl
-map-twice {X} {Y} {Z} g f (x ∷ xs) = ap (λ (zs : List Z). g (f x) ∷ zs) (map-twice g f xs)
 
 -- numbers of fast runs, one by one
 are_each : (n : ℕ) (fs : List FastSeen) → All (λ f. (1 ≤ f.number) × (f.number ≤ n)) fs
@@ -97,7 +93,7 @@ module _ (reported : AnswersAreReported) (keep : AnswersKeepTheBound) (fit : Spe
   of_fast =
       subst (λ (bs : List (List ℕ)). AreAnswersOf Byte c.fast report.fast_bound (λ o. 0) bs
       (map answer_of_fast (fast_runs report.rows)))
-      (sym (map-twice (bytes_of fast_bytes) (λ (f : FastSeen). f.number) (fast_runs report.rows)))
+      (sym (map-map (bytes_of fast_bytes) (λ (f : FastSeen). f.number) (fast_runs report.rows)))
       answers.fast_answers
 
   pub levels_run : TwoLevelRun kind flags files report
@@ -124,11 +120,6 @@ module _ (reported : AnswersAreReported) (keep : AnswersKeepTheBound) (fit : Spe
 
 -- ---- what it makes of its files
 
-levels_has : (fast : ℕ) (text : List ℕ) (s : Status) → levels_refusals fast text s
-    → (f : PlanFault) × (s ≡ status.Plan f) × LevelsHaveFault fast text f
-levels_has fast text (status.Plan f) w = (f, refl, w)
-levels_has fast text s w = absurd w
-
 pub levels_exact : TwosAreExact → ImagesAreExact → CertsAreExact → TracesAreExact → SpelledLevelsAreOne
     → SpelledLevelsHaveNoFault → LevelFaultsAreOne → (kind : CertKind) (files : TwoLevelFiles)
     → AreExact (two_level_reading kind files)
@@ -153,11 +144,9 @@ levels_exact twos images certs traces one stand faults kind files = (
   ),
 )
   where
-    over : (fast : ℕ) → IsExact (levels_in fast files.levels)
-    over fast =
-        exact_of (levels_in fast files.levels) status.Plan (LevelsHaveFault fast files.levels) (λ f. tt)
-        (levels_has fast files.levels) (one fast files.levels) (λ ls f a carries w. stand fast files.levels ls f a w)
-        (λ f g c d v w. faults fast files.levels f g v w)
+    over : (n : ℕ) → IsExact (levels_in n files.levels)
+    over n = rows_exact (SpellsLevels n files.levels) (LevelsHaveFault n files.levels) (one n files.levels)
+        (stand n files.levels) (faults n files.levels)
 
 abbrev Given : Type 0
 Given = CompiledTwoLevel × (Unit {0} × (List ℕ × (List ℕ × (List Sample × (List Sample × List Level)))))

@@ -1,31 +1,14 @@
 -- The lines of a run at two levels.
-use Rattle.form_commands.proofs.Words.{[], ◌++◌, ◌+◌, ◌-◌, ◌<◌, ◌∙◌, ◌∷◌, ◌≡◌, ap, arith, bare-append, bare-decimal}
+use Rattle.form_commands.proofs.Words.{[], ◌++◌, ◌+◌, ◌-◌, ◌<◌, ◌∙◌, ◌∷◌, ◌≡◌, arith, bare-append, bare-decimal}
 use Rattle.form_commands.proofs.Words.{boundary_seen, codes, counted, decimal, FastSeen, Frame, frame_line, length}
-use Rattle.form_commands.proofs.Words.{line, lines_more, List, made_with, outer_lines, take, true, ℕ}
-use Rattle.std.proofs.{Common.get_or}
+use Rattle.form_commands.proofs.Words.{lines_more, List, made_with, outer_lines, take, true, ℕ}
+use Rattle.std.proofs.{Common.append_assoc, Common.get_or}
 use Rattle.std.specs.{Prelude.Option, Prelude.None}
-use Rattle.command_parts.specs.{Lines.error_lines}
-use Rattle.command_parts.proofs.{Algebra.made_next}
-use Rattle.form_commands.specs.{Lrun.fast_lines, Lrun.two_level_begun_lines}
-use Rattle.run_reports.specs.{RowLines.answers_told}
-use Rattle.std.specs.List.{slice_index_or}
+use Rattle.form_commands.specs.Lrun.{fast_lines}
 use Rattle.fz_shelf.specs.Lines.{has_no_end}
 use Rattle.run_reports.proofs.Algebra.{bare-answers}
-
--- the errors and the bounds
-pub begun_written : (none errors fast bounded lines : List (List ℕ)) (es fes : List ℕ) (bound fast_bound : ℕ)
-    → none ≡ [] → errors ≡ none ++ error_lines (codes "error ") es
-    → fast ≡ errors ++ error_lines (codes "fast error ") fes
-    → bounded ≡ fast ++ line (codes "instructions ") bound ∷ []
-    → lines ≡ bounded ++ line (codes "fast instructions ") fast_bound ∷ []
-    → lines ≡ two_level_begun_lines es fes bound fast_bound
-begun_written none errors fast bounded lines es fes bound fast_bound start of_errors of_fast a1 a2 =
-    let e = error_lines (codes "error ") es in
-    let f = error_lines (codes "fast error ") fes in
-    let one = line (codes "instructions ") bound in
-    let two = line (codes "fast instructions ") fast_bound in
-    a2 ∙ made_with fast (one ∷ []) (two ∷ []) bounded a1 ∙ made_with errors f (one ∷ two ∷ []) fast of_fast
-    ∙ ap (λ ls. ls ++ (f ++ one ∷ two ∷ [])) (of_errors ∙ ap (λ ls. ls ++ e) start)
+use Rattle.run_reports.specs.RowLines.{answers_told}
+use Rattle.std.specs.List.{slice_index_or}
 
 -- the line of a fast run
 module _ (number instrs steps resumed : ℕ) (answers : List ℕ) where
@@ -33,16 +16,10 @@ module _ (number instrs steps resumed : ℕ) (answers : List ℕ) where
   fast_text = codes "fast " ++ (decimal number ++ (answers_told answers instrs ++ (codes " steps " ++ (decimal steps
       ++ (codes " resumed " ++ decimal resumed)))))
 
-  pub fast_written : (t0 t1 t2 t3 t4 : List ℕ) → t0 ≡ codes "fast " → t1 ≡ t0 ++ decimal number
+  pub fast_written : {t0 t1 t2 t3 t4 : List ℕ} → t0 ≡ codes "fast " → t1 ≡ t0 ++ decimal number
       → t2 ≡ t1 ++ answers_told answers instrs → t3 ≡ t2 ++ (codes " steps " ++ decimal steps)
       → t4 ≡ t3 ++ (codes " resumed " ++ decimal resumed) → t4 ≡ fast_text
-  fast_written t0 t1 t2 t3 t4 e0 e1 e2 e3 e4 =
-      let r3 = codes " resumed " ++ decimal resumed in
-      let r2 = codes " steps " ++ (decimal steps ++ r3) in
-      let r1 = answers_told answers instrs ++ r2 in
-      e4 ∙ made_next t2 (codes " steps ") (decimal steps) r3 t3 e3
-      ∙ made_with t1 (answers_told answers instrs) r2 t2 e2
-      ∙ made_with t0 (decimal number) r1 t1 e1 ∙ ap (λ (l : List ℕ). l ++ (decimal number ++ r1)) e0
+  fast_written e0 e1 e2 e3 e4 = rw (e4, e3, e2, e1, append_assoc, append_assoc, append_assoc, e0)
 
   pub bare-fast : has_no_end fast_text ≡ true
   bare-fast =

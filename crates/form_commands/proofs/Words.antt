@@ -10,7 +10,7 @@ pub use Rattle.alone_runs.specs.{Answering.AnswersItsBlock, Answering.AnswersUnd
 pub use Rattle.box_tree.specs.{Texts.format_of, declared.cert.CertKind.CertKind}
 pub use Rattle.byte_scaling.specs.{declared.width.Width.TheVariants.Byte}
 pub use Rattle.command_parts.specs.{Firmwares.GivesFirmware}
-pub use Rattle.command_parts.specs.{Lines.counted, Lines.line, SeenOutputs.only_lines}
+pub use Rattle.command_parts.specs.{Lines.counted, SeenOutputs.only_lines}
 pub use Rattle.command_parts.specs.{Readings.Reading, declared.firmware.Compiled.Compiled}
 pub use Rattle.command_parts.specs.{declared.firmware.Form.TheVariants.Alone}
 pub use Rattle.command_parts.specs.{declared.firmware.Form.TheVariants.Mailbox}
@@ -25,7 +25,7 @@ pub use Rattle.handled_runs.specs.{Forms.handled_seen, declared.rows.HandledRow.
 pub use Rattle.interrupt_plan.specs.{declared.Request.Request}
 pub use Rattle.mailbox_code.specs.{Mailboxes.mailbox_bound}
 pub use Rattle.mailbox_runs.specs.{Runs.answer_seen, Runs.run_under_posts}
-pub use Rattle.run_forms.specs.{Rows.boundary_seen, Rows.frames_seen}
+pub use Rattle.run_forms.specs.{Rows.boundary_seen}
 pub use Rattle.run_law.specs.{Forms.RowSeen}
 pub use Rattle.run_reports.specs.{Laws.AnswersAreReported, Laws.AnswersKeepTheBound}
 pub use Rattle.run_reports.specs.{Laws.SpelledBytesFit, Posted.IsOneOf, Posted.MailboxAnswersAreNear, MailboxRun.run_of}

@@ -10,7 +10,7 @@ ghost use Rattle.command_parts.specs.SeenOutputs.{IsResultOf};
 ghost use Rattle.trace_io.specs.Traces.{Spells as SpellsTrace};
 ghost use Rattle.command_parts.specs.{Certs.AcceptsCert, Certs.cert_in, Readings.IsRefused, Readings.for_fast};
 ghost use Rattle.run_reports.specs.{Inputs.trace_in, TwoLevelRun.AcceptsTwoLevelInputs, TwoLevelRun.two_level_inputs};
-ghost use Rattle.run_reports.specs.TwoLevelRun.{levels_refusals};
+ghost use Rattle.run_reports.specs.TwoLevelRun.{levels_in};
 ghost use Rattle.run_reports.specs.{Settled.PutsLines, declared.files.TwoLevelFiles.TwoLevelFiles};
 ghost use Rattle.form_commands.specs.Lrun.{LrunMakes, two_level_files, two_level_run, lrun_lines};
 
@@ -171,7 +171,7 @@ fn fast_samples_of(alloc: Global, fast: &Block, trace: &Content) -> Result<Vec<S
 fn levels_of(alloc: Global, text: &Content, fast: &[Sample]) -> Result<Levels, Status>
     requires { length fast.now ≤ 10000 }
     ensures levels { IfOk result (SpellsLevels (length fast.now) text.now) }
-    ensures fault { IfErr result (IsRefusal (levels_refusals (length fast.now) text.now)) }
+    ensures fault { IfErr result (IsRefusal (levels_in (length fast.now) text.now).refuses) }
 {
     Ok(read_levels(alloc, text.bytes(), fast.len() as u32)?)
 }

@@ -8,7 +8,7 @@ ghost use Rattle.command_parts.specs.Contents.{bytes_of};
 ghost use Rattle.command_parts.specs.SeenOutputs.{IsResultOf};
 ghost use Rattle.command_parts.specs.Readings.{IsRefused};
 ghost use Rattle.form_commands.specs.Mrun.{MrunMakes, mrun_lines, mailbox_files, mailbox_run};
-ghost use Rattle.run_reports.specs.MailboxRun.{AcceptsMailbox, mailbox_reading, posts_refusals};
+ghost use Rattle.run_reports.specs.MailboxRun.{AcceptsMailbox, mailbox_reading, posts_in};
 ghost use Rattle.run_reports.specs.{Settled.PutsLines, declared.files.MailboxFiles.MailboxFiles};
 
 use crate::form_run::FormRun;
@@ -112,7 +112,7 @@ pub fn work(alloc: Global, run: FormRun, files: &MailboxFiles) -> Result<Output,
 fn posts_of(alloc: Global, text: &Content, samples: &[Sample]) -> Result<Posts, Status>
     requires { length samples.now ≤ 10000 }
     ensures posts { IfOk result (SpellsPosts (length samples.now) text.now) }
-    ensures fault { IfErr result (IsRefusal (posts_refusals (length samples.now) text.now)) }
+    ensures fault { IfErr result (IsRefusal (posts_in (length samples.now) text.now).refuses) }
 {
     Ok(read_posts(alloc, text.bytes(), samples.len() as u32)?)
 }

@@ -1,13 +1,13 @@
 -- What a number gives.
-use Rattle.run_commands.proofs.Words.{[], ◌++◌, ◌∙◌, ◌∷◌, ◌≡◌, answers_of, AnswersAreReported, AnswersUnderPlans, ap}
-use Rattle.run_commands.proofs.Words.{arith, Byte, codes, firmware_rows, frames_of, generate_lines, input_bytes}
-use Rattle.run_commands.proofs.Words.{length, line, List, made_with, map, refl, report_of, resumed_of, RowSeen, ℕ}
+use Rattle.run_commands.proofs.Words.{◌∙◌, ◌≡◌, AnswersAreReported, AnswersUnderPlans, ap}
+use Rattle.run_commands.proofs.Words.{arith, Byte, firmware_rows, generate_lines, input_bytes}
+use Rattle.run_commands.proofs.Words.{map, refl, report_of, ℕ}
 use Rattle.run_commands.proofs.Words.{Block, format_of, generated_target, Named, subst, sym}
 use Rattle.alone_code.specs.Firmwares.{FirmwaresAreOne, IsFirmwareOf}
 use Rattle.box_tree.specs.declared.cert.Cert.{Cert}
 use Rattle.byte_scaling.specs.Widths.{parts}
 use Rattle.command_parts.proofs.Algebra.{settled}
-use Rattle.command_parts.specs.{Certs.HalvingsAreExact, Firmwares.GivenBlocksHaveFirmware, Lines.error_lines}
+use Rattle.command_parts.specs.{Certs.HalvingsAreExact, Firmwares.GivenBlocksHaveFirmware}
 use Rattle.command_parts.specs.{Readings.GivesSome, SeenOutputs.SeenOutput, SeenOutputs.only_lines}
 use Rattle.command_parts.specs.declared.firmware.Form.TheVariants.{Alone}
 use Rattle.error_certifier.specs.{Halving.IsHalvingFor, Targets.targets_of}
@@ -89,24 +89,3 @@ generate_settled halvings once firmwares reported under workloads limits given g
     ))
     (λ output other a b same. generate_one once firmwares number output other a b same)
     (generate_made reported under workloads limits given generate)
-
--- ---- its lines
-
-pub generate_written : (number bound : ℕ) (es : List ℕ) (rows : List (RowSeen (List ℕ)))
-    (l0 l1 l2 l3 l4 l5 l6 l7 : List (List ℕ)) → l0 ≡ [] → l1 ≡ l0 ++ line (codes "gen ") number ∷ []
-    → l2 ≡ l1 ++ error_lines (codes "error ") es → l3 ≡ l2 ++ line (codes "instructions ") bound ∷ []
-    → l4 ≡ l3 ++ line (codes "samples ") (length rows) ∷ [] → l5 ≡ l4 ++ line (codes "frames ") (frames_of rows) ∷ []
-    → l6 ≡ l5 ++ line (codes "resumed ") (resumed_of rows) ∷ [] → l7 ≡ l6 ++ line (codes "sum ") (answers_of rows) ∷ []
-    → l7 ≡ generate_lines number es bound rows
-generate_written number bound es rows l0 l1 l2 l3 l4 l5 l6 l7 start a1 errors a3 a4 a5 a6 a7 =
-    let e = error_lines (codes "error ") es in
-    let s1 = line (codes "gen ") number in
-    let s3 = line (codes "instructions ") bound in
-    let s4 = line (codes "samples ") (length rows) in
-    let s5 = line (codes "frames ") (frames_of rows) in
-    let s6 = line (codes "resumed ") (resumed_of rows) in
-    let s7 = line (codes "sum ") (answers_of rows) in
-    a7 ∙ made_with l5 (s6 ∷ []) (s7 ∷ []) l6 a6 ∙ made_with l4 (s5 ∷ []) (s6 ∷ s7 ∷ []) l5 a5
-    ∙ made_with l3 (s4 ∷ []) (s5 ∷ s6 ∷ s7 ∷ []) l4 a4 ∙ made_with l2 (s3 ∷ []) (s4 ∷ s5 ∷ s6 ∷ s7 ∷ []) l3 a3
-    ∙ made_with l1 e (s3 ∷ s4 ∷ s5 ∷ s6 ∷ s7 ∷ []) l2 errors
-    ∙ ap (λ ls. ls ++ (e ++ s3 ∷ s4 ∷ s5 ∷ s6 ∷ s7 ∷ [])) (a1 ∙ ap (λ ls. ls ++ s1 ∷ []) start)

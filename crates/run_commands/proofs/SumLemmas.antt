@@ -1,10 +1,10 @@
 -- Sums, one more.
-use Rattle.std.proofs.Common.{◌≡◌, ◌<◌, ◌≤◌, ◌+◌, ◌-◌, ℕ, List, [], ◌∷◌, drop, get_or, length, map, take, refl, sym}
+use Rattle.std.proofs.Common.{◌≡◌, ◌<◌, ◌≤◌, ◌+◌, ◌-◌, ℕ, List, drop, get_or, length, map, take, sym}
 use Rattle.std.proofs.Common.{◌∙◌, ap, arith}
 use Rattle.std.proofs.Common.{length-drop}
 use Rattle.std.specs.Prelude.{sum, sum_by}
 use Rattle.std.proofs.lemmas.List.{get_or-drop}
-use Rattle.std.proofs.lemmas.List.Sums.{sum-map, sum_by_more}
+use Rattle.std.proofs.lemmas.{List.Sums.sum-map, List.Sums.sum_by_more, Simd.map-map}
 
 -- the sum of n elements from a place on, with the next
 sum_more : (xs : List ℕ) (from n : ℕ) → from + n < length xs
@@ -28,15 +28,10 @@ next_sum mem from at total byte low high is so_far =
 
 -- ---- over items as they are seen
 
-map_seen : {R S : Type 0} (seen : R → S) (f : S → ℕ) (rows : List R)
-    → map f (map seen rows) ≡ map (λ r. f (seen r)) rows
-map_seen seen f [] = refl
-map_seen seen f (x ∷ xs) = ap (λ (ns : List ℕ). f (seen x) ∷ ns) (map_seen seen f xs)
-
 sum_seen : {R S : Type 0} (seen : R → S) (f : S → ℕ) (rows : List R)
     → sum_by f (map seen rows) ≡ sum_by (λ r. f (seen r)) rows
 sum_seen seen f rows =
-    sym (sum-map f (map seen rows)) ∙ ap sum (map_seen seen f rows) ∙ sum-map (λ r. f (seen r)) rows
+    sym (sum-map f (map seen rows)) ∙ ap sum (map-map f seen rows) ∙ sum-map (λ r. f (seen r)) rows
 
 -- a sum over the first n items, with the next
 pub seen_more : {R S : Type 0} (seen : R → S) (f : S → ℕ) (rows : List R) (n : ℕ) (row : R) → n < length rows

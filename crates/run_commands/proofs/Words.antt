@@ -8,9 +8,9 @@ pub use Rattle.alone_runs.specs.{Answering.AnswersUnderPlans, Rows.firmware_rows
 pub use Rattle.alone_runs.specs.{Rows.row_seen, declared.rows.Row.Row}
 pub use Rattle.box_tree.specs.{Texts.format_of, declared.cert.CertKind.TheVariants.Named}
 pub use Rattle.byte_scaling.specs.{declared.width.Width.TheVariants.Byte}
-pub use Rattle.command_parts.proofs.{Algebra.counted-map, Algebra.made_with}
+pub use Rattle.command_parts.proofs.{Algebra.counted-map}
 pub use Rattle.command_parts.specs.{Certs.StopsHalving, Certs.target_refusals, Firmwares.GivesFirmware}
-pub use Rattle.command_parts.specs.{Lines.line, SeenOutputs.only_lines}
+pub use Rattle.command_parts.specs.{SeenOutputs.only_lines}
 pub use Rattle.command_parts.specs.{declared.firmware.Form.TheVariants.Alone}
 pub use Rattle.cpu12_isa.specs.{Regions.free_start, Regions.stack_end}
 pub use Rattle.debug_script.specs.{Showing.shown}
@@ -23,8 +23,8 @@ pub use Rattle.run_commands.specs.{declared.debug.DebugFiles.DebugFiles}
 pub use Rattle.run_commands.specs.{declared.debug.DebugRun.DebugRun, declared.run.Run.Run}
 pub use Rattle.run_law.specs.{Forms.RowSeen}
 pub use Rattle.run_reports.specs.{Laws.AnswersAreReported}
-pub use Rattle.run_reports.specs.{Reports.left_of, Reports.report_of, RowLines.row_lines, RowLines.run_lines}
+pub use Rattle.run_reports.specs.{Reports.left_of, Reports.report_of, RowLines.run_lines}
 pub use Rattle.run_reports.specs.{declared.files.RunFiles.RunFiles}
 pub use Rattle.std.proofs.{lemmas.List.length-map}
-pub use Rattle.std.specs.{List.flat_map, Prelude.codes, Prelude.sum}
+pub use Rattle.std.specs.{List.flat_map, Prelude.sum}
 pub use Rattle.trace_io.specs.{Traces.input_bytes, declared.sample.Sample.Sample}

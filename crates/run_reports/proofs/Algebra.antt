@@ -1,25 +1,24 @@
 -- The lines that all runs tell, their rows, and what the commands make of them.
 use Rattle.std.proofs.Common.{◌≡◌, ◌<◌, ◌+◌, ◌^◌, ℕ, List, [], ◌∷◌, ◌++◌, length, take, get_or, true, refl, sym}
 use Rattle.std.proofs.Common.{◌∙◌, add-one, ap, append_assoc, subst}
-use Rattle.std.specs.Prelude.{codes, decimal, map, Result, Ok, Err}
+use Rattle.std.specs.Prelude.{codes, decimal, Result, Ok, Err}
 use Rattle.std.proofs.Math.Seq.{take-suc}
 use Rattle.std.proofs.lemmas.List.{append-nil}
-use Rattle.std.proofs.lemmas.Simd.{map-map}
 use Rattle.fz_shelf.proofs.Algebra.{bare-address, bare-append, bare-decimal}
 use Rattle.fz_shelf.specs.{Lines.has_no_end, Parts.address_digits}
-use Rattle.run_forms.specs.Rows.{boundary_seen, frames_seen}
-use Rattle.cpu12_emul.specs.{Take.FrameSeen, declared.ends.Frame.Frame}
+use Rattle.cpu12_emul.specs.Take.{FrameSeen}
 use Rattle.run_law.specs.Forms.{RowSeen}
 use Rattle.fuzzy_meaning.specs.declared.block.Block.{Block}
 use Rattle.firmware_code.specs.declared.firmware.Firmware.{Firmware}
 use Rattle.alone_runs.specs.{Answering.AnswersUnder, Rows.firmware_rows}
 use Rattle.interrupt_plan.specs.declared.Request.{Request}
-use Rattle.command_parts.proofs.Algebra.{faulted, made_next, made_with, settled}
+use Rattle.command_parts.proofs.Algebra.{faulted, result_of, settled}
+use Rattle.command_parts.specs.Judged.{AreJudged, HasResult}
 use Rattle.command_parts.specs.Readings.{AreExact, Gives, GivesSome, IsRefused, Reading, made_of, seen_of}
 use Rattle.command_parts.specs.SeenOutputs.{IsFaultOf, IsResultOf, SeenOutput, only_lines}
 use Rattle.command_parts.specs.declared.output.Output.{Output}
 use Rattle.fz_status.specs.declared.status.Status.{Status}
-use Rattle.run_reports.specs.RowLines.{answered, answers_told, frame_line, frame_told, numbers, sample_told}
+use Rattle.run_reports.specs.RowLines.{answered, answers_told, frame_told, numbers, sample_told}
 use Rattle.run_reports.specs.Settled.{IsSettledRun, PutsLines}
 
 numbers-snoc : (ns : List ℕ) (n : ℕ) → numbers (ns ++ n ∷ []) ≡ numbers ns ++ (codes " " ++ decimal n)
@@ -37,21 +36,7 @@ number_more before now next ns i d lt so_far step =
     ∙ append_assoc before (numbers (take i ns)) (codes " " ++ decimal (get_or ns i d))
     ∙ ap (λ (l : List ℕ). before ++ l) (sym (numbers-snoc (take i ns) (get_or ns i d)) ∙ ap numbers (sym more))
 
--- ---- answers, samples and frames
-
--- answers behind a text, and a number at its end
-pub answers_written : (instrs : ℕ) (answers t0 t1 t2 t3 : List ℕ) → t1 ≡ t0 ++ codes " answers"
-    → t2 ≡ t1 ++ numbers answers
-    → t3 ≡ t2 ++ (codes " instructions " ++ decimal instrs) → t3 ≡ t0 ++ answers_told answers instrs
-answers_written instrs answers t0 t1 t2 t3 e1 e2 e3 =
-    let r2 = codes " instructions " ++ decimal instrs in
-    e3 ∙ made_with t1 (numbers answers) r2 t2 e2 ∙ made_with t0 (codes " answers") (numbers answers ++ r2) t1 e1
-
-pub answered_written : (instrs : ℕ) (bytes answers t0 t1 t2 t3 : List ℕ) → t1 ≡ t0 ++ codes " bytes"
-    → t2 ≡ t1 ++ numbers bytes → t3 ≡ t2 ++ answers_told answers instrs → t3 ≡ t0 ++ answered bytes answers instrs
-answered_written instrs bytes answers t0 t1 t2 t3 e1 e2 e3 =
-    let r2 = answers_told answers instrs in
-    e3 ∙ made_with t1 (numbers bytes) r2 t2 e2 ∙ made_with t0 (codes " bytes") (numbers bytes ++ r2) t1 e1
+-- ---- the text of a sample
 
 module _ (k instrs steps resumed frames : ℕ) (bytes answers : List ℕ) where
   abbrev pub sample_text : List ℕ
@@ -63,22 +48,7 @@ module _ (k instrs steps resumed frames : ℕ) (bytes answers : List ℕ) where
       → t4 ≡ t3 ++ (codes " resumed " ++ decimal resumed) → t5 ≡ t4 ++ (codes " frames " ++ decimal frames)
       → t5 ≡ sample_text
   sample_written t0 t1 t2 t3 t4 t5 e0 e1 e2 e3 e4 e5 =
-      let r4 = codes " frames " ++ decimal frames in
-      let r3 = codes " resumed " ++ (decimal resumed ++ r4) in
-      let r2 = codes " steps " ++ (decimal steps ++ r3) in
-      let r1 = answered bytes answers instrs ++ r2 in
-      e5 ∙ made_next t3 (codes " resumed ") (decimal resumed) r4 t4 e4
-      ∙ made_next t2 (codes " steps ") (decimal steps) r3 t3 e3
-      ∙ made_with t1 (answered bytes answers instrs) r2 t2 e2
-      ∙ made_with t0 (decimal k) r1 t1 e1 ∙ ap (λ (l : List ℕ). l ++ (decimal k ++ r1)) e0
-
--- the line of a sample, and then its frames
-pub row_written : (before now next : List (List ℕ)) (line : List ℕ) (k : ℕ) (frames : List (ℕ × Frame))
-    → now ≡ before ++ line ∷ [] → next ≡ now ++ map (λ f. frame_line k (boundary_seen f)) frames
-    → next ≡ before ++ line ∷ map (frame_line k) (frames_seen frames)
-row_written before now next line k frames pushed frames_so =
-    frames_so ∙ made_with before (line ∷ []) (map (λ f. frame_line k (boundary_seen f)) frames) now pushed
-    ∙ ap (λ ls. before ++ line ∷ ls) (sym (map-map (frame_line k) boundary_seen frames))
+      rw (e5, e4, e3, e2, e1, append_assoc, append_assoc, append_assoc, append_assoc, e0)
 
 -- ---- no line ends in what is told of a sample and of a frame
 
@@ -154,5 +124,10 @@ module _ {B : Type 0} {r : Reading B} {flags : ℕ} {gives : SeenOutput → Type
       → IsResultOf (made_of r gives) result
   worked b byte a result is = put r gives (lines b) result (law.made b byte a) is
 
-  pub refused_files : (s : Status) → IsRefused r s → IsFaultOf (made_of r gives) s
-  refused_files s w = faulted r gives law.settled.contents s w
+  pub refused_files : (s : Status) {result : Result Output Status} → result ≡ Err s → IsRefused r s
+      → IsResultOf (made_of r gives) result
+  refused_files s is w =
+      subst (λ x. IsResultOf (made_of r gives) x) (sym is) (faulted r gives law.settled.contents s w)
+
+  pub judged_files : flags < 2 ^ 8 → AreJudged r → HasResult (made_of r gives)
+  judged_files byte judged = result_of r gives judged (λ given. law.settled.some (byte, given))

@@ -12,8 +12,10 @@ use Rattle.fz_status.specs.declared.status.Status.{Status}
 use Rattle.fz_status.specs.declared.status.Status.TheVariants as status
 use Rattle.command_parts.proofs.Algebra.{exact_of}
 use Rattle.interrupt_plan.specs.OneReading.{PlanFaultsAreOne, SpelledPlansAreOne, SpelledPlansHaveNoFault}
-use Rattle.interrupt_plan.specs.{Plans.HasFault as PlanHasFault, declared.PlanFault.PlanFault}
-use Rattle.run_reports.specs.Inputs.{PlansAreExact, TracesAreExact, plan_in, plan_refusals, trace_in, trace_refusals}
+use Rattle.interrupt_plan.specs.{Plans.HasFault as PlanHasFault, Plans.Spells as SpellsPlan}
+use Rattle.interrupt_plan.specs.declared.PlanFault.{PlanFault}
+use Rattle.command_parts.specs.Readings.{IsExact}
+use Rattle.run_reports.specs.Inputs.{PlansAreExact, TracesAreExact, row_refusals, rows_in, trace_in, trace_refusals}
 
 samples_once : (is : List Input) (rows : List Fields) (ss ts : List Sample) → SpellSamples is rows ss
     → SpellSamples is rows ts → map input_bytes ss ≡ map input_bytes ts
@@ -52,12 +54,18 @@ traces_exact one stand faults block text =
     λ i. (count i, same i))) (λ samples f a carries w. stand block.inputs text samples f a w)
     (λ f g c d v w. faults block.inputs text f g v w)
 
-plan_has : (text : List ℕ) (s : Status) → plan_refusals text s
-    → (f : PlanFault) × (s ≡ status.Plan f) × PlanHasFault text f
-plan_has text (status.Plan f) w = (f, refl, w)
-plan_has text s w = absurd w
+rows_have : (Has : PlanFault → Type 0) (s : Status) → row_refusals Has s → (f : PlanFault) × (s ≡ status.Plan f) × Has f
+rows_have Has (status.Plan f) w = (f, refl, w)
+rows_have Has s w = absurd w
+
+pub rows_exact : {E : Type 0} (Spells : List E → Type 0) (Has : PlanFault → Type 0)
+    → ((es others : List E) → Spells es → Spells others → es ≡ others)
+    → ((es : List E) (f : PlanFault) → Spells es → Has f → ⊥) → ((f g : PlanFault) → Has f → Has g → f ≡ g)
+    → IsExact (rows_in Spells Has)
+rows_exact {E} Spells Has one stand faults =
+    exact_of (rows_in Spells Has) status.Plan Has (λ f. tt) (rows_have Has) one (λ es f a carries w. stand es f a w)
+    (λ f g c d v w. faults f g v w)
 
 pub plans_exact : SpelledPlansAreOne → SpelledPlansHaveNoFault → PlanFaultsAreOne → PlansAreExact
 plans_exact one stand faults text =
-    exact_of (plan_in text) status.Plan (PlanHasFault text) (λ f. tt) (plan_has text) (one text)
-    (λ plan f a carries w. stand text plan f a w) (λ f g c d v w. faults text f g v w)
+    rows_exact (SpellsPlan text) (PlanHasFault text) (one text) (stand text) (faults text)

@@ -1,21 +1,22 @@
 -- Each file of a run gives something or is refused.
-use Rattle.std.proofs.Common.{◌≢◌, ◌+◌, inl, inr, ℕ, List, length}
+use Rattle.std.proofs.Common.{◌≢◌, ◌⊎◌, ◌+◌, inl, inr, ℕ, List, length}
 use Rattle.box_tree.specs.declared.cert.CertFormat.{CertFormat}
 use Rattle.box_tree.specs.Texts.{format_of}
 use Rattle.byte_scaling.specs.declared.width.Width.TheVariants.{Byte}
 use Rattle.fuzzy_meaning.specs.{Blocks.IsValid, declared.block.Block.Block, declared.block.Input.Input}
 use Rattle.interrupt_plan.specs.OneReading.{EachLevelsTextIsJudged, EachPlanTextIsJudged, EachPostsTextIsJudged}
 use Rattle.interrupt_plan.specs.OneReading.{EachUpsetsTextIsJudged}
-use Rattle.interrupt_plan.specs.Rows.{FirstFault as FirstPlanFault, RowFails, at_row, more, not_ascending, not_free, unread}
+use Rattle.interrupt_plan.specs.Rows.{FirstFault as FirstPlanFault, HasFirstFault, RowFails, at_row, more}
+use Rattle.interrupt_plan.specs.Rows.{not_ascending, not_free, unread}
 use Rattle.interrupt_plan.specs.UpsetTexts.{FirstUpsetFault, UpsetRowFails, at_row as upset_row, more as more_upsets, not_table}
 use Rattle.interrupt_plan.specs.UpsetTexts.{not_ascending as upsets_fall, unread as unread_upset}
 use Rattle.interrupt_plan.specs.declared.PlanFault.{PlanFault}
 use Rattle.interrupt_plan.specs.declared.PlanFault.TheVariants as plan
 use Rattle.interrupt_plan.specs.declared.{upsets.Upset.Upset, upsets.UpsetFault.UpsetFault}
 use Rattle.interrupt_plan.specs.declared.upsets.UpsetFault.TheVariants as upset
-use Rattle.interrupt_plan.specs.Plans.{NotAfter, SpellsRequest, writes_by}
-use Rattle.interrupt_plan.specs.Posts.{NoLater, SpellsPost, writes_in}
-use Rattle.interrupt_plan.specs.Levels.{LevelNotAfter, SpellsLevel, no_writes}
+use Rattle.interrupt_plan.specs.Plans.{NotAfter, Spells as SpellsPlan, SpellsRequest, writes_by}
+use Rattle.interrupt_plan.specs.Posts.{NoLater, SpellsPost, SpellsPosts, writes_in}
+use Rattle.interrupt_plan.specs.Levels.{LevelNotAfter, SpellsLevel, SpellsLevels, no_writes}
 use Rattle.cpu12_isa.specs.declared.instr.Write.{Write}
 use Rattle.command_parts.specs.Certs.{cert_in}
 use Rattle.trace_io.specs.{OneReading.EachTextIsJudged, Traces.Fields, Traces.FirstFault}
@@ -27,7 +28,7 @@ use Rattle.command_parts.specs.Judged.{AreJudged, CertsAreJudged, FirmwaresAreJu
 use Rattle.command_parts.specs.Judged.{ImagesAreJudged, IsJudged, TwosAreJudged}
 use Rattle.command_parts.proofs.Algebra.{judged_fast}
 use Rattle.command_parts.specs.declared.firmware.Form.TheVariants.{Alone, Mailbox, Watched}
-use Rattle.run_reports.specs.Inputs.{inputs_reading, trace_in}
+use Rattle.run_reports.specs.Inputs.{inputs_reading, rows_in, trace_in}
 use Rattle.run_reports.specs.{TwoLevelRun.levels_in, MailboxRun.posts_in, WatchedRun.upsets_in}
 use Rattle.run_reports.specs.Judged.{HandledFilesAreJudged, TwoLevelFilesAreJudged, MailboxFilesAreJudged, RunFilesAreJudged}
 use Rattle.run_reports.specs.Judged.{PlansAreJudged, TracesAreJudged, WatchedFilesAreJudged}
@@ -79,23 +80,23 @@ trace_judged texts block text = elim (texts block.inputs text) [
   | inr (f, has) ↦ inr (status.Trace f, (first_carries block.inputs has.rows f has.fault_is, has))
 ]
 
+rows_judged : {E : Type 0} (Spells : Fields → E → Type 0) (writes : E → List Write) (After : E → E → Type 0)
+    (SpellsAll : List E → Type 0) (text : List ℕ)
+    → ((es : List E) × SpellsAll es) ⊎ ((f : PlanFault) × HasFirstFault Spells writes After text f)
+    → IsJudged (rows_in SpellsAll (HasFirstFault Spells writes After text))
+rows_judged {E} Spells writes After SpellsAll text (inl spelled) = inl spelled
+rows_judged {E} Spells writes After SpellsAll text (inr (f, has)) =
+    inr (status.Plan f, (plan_first_carries Spells writes After has.rows f has.fault_is, has))
+
 pub plan_judged : EachPlanTextIsJudged → PlansAreJudged
-plan_judged texts text = elim (texts text) [
-  | inl (requests, spelled) ↦ inl (requests, spelled)
-  | inr (f, has) ↦ inr (status.Plan f, (plan_first_carries SpellsRequest writes_by NotAfter has.rows f has.fault_is, has))
-]
+plan_judged texts text = rows_judged SpellsRequest writes_by NotAfter (SpellsPlan text) text (texts text)
 
 posts_judged : EachPostsTextIsJudged → (samples : ℕ) (text : List ℕ) → IsJudged (posts_in samples text)
-posts_judged texts samples text = elim (texts samples text) [
-  | inl (posts, spelled) ↦ inl (posts, spelled)
-  | inr (f, has) ↦ inr (status.Plan f, (plan_first_carries (SpellsPost samples) writes_in NoLater has.rows f has.fault_is, has))
-]
+posts_judged texts n text = rows_judged (SpellsPost n) writes_in NoLater (SpellsPosts n text) text (texts n text)
 
-levels_judged : EachLevelsTextIsJudged → (samples : ℕ) (text : List ℕ) → IsJudged (levels_in samples text)
-levels_judged texts samples text = elim (texts samples text) [
-  | inl (levels, spelled) ↦ inl (levels, spelled)
-  | inr (f, has) ↦ inr (status.Plan f, (plan_first_carries (SpellsLevel samples) no_writes LevelNotAfter has.rows f has.fault_is, has))
-]
+levels_judged : EachLevelsTextIsJudged → (fast : ℕ) (text : List ℕ) → IsJudged (levels_in fast text)
+levels_judged texts n text =
+    rows_judged (SpellsLevel n) no_writes LevelNotAfter (SpellsLevels n text) text (texts n text)
 
 upsets_judged : EachUpsetsTextIsJudged → (bytes : List (ℕ × ℕ)) (text : List ℕ) → IsJudged (upsets_in bytes text)
 upsets_judged texts bytes text = elim (texts bytes text) [

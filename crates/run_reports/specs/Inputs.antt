@@ -3,7 +3,8 @@
 use Rattle.std.specs.Prelude.{ℕ, List, length, map}
 use Rattle.fuzzy_meaning.specs.declared.block.Block.{Block}
 use Rattle.box_tree.specs.declared.cert.CertFormat.{CertFormat}
-use Rattle.interrupt_plan.specs.{Plans.HasFault as PlanHasFault, Plans.Spells as SpellsPlan, declared.Request.Request}
+use Rattle.interrupt_plan.specs.{Plans.HasFault as PlanHasFault, Plans.Spells as SpellsPlan}
+use Rattle.interrupt_plan.specs.declared.{PlanFault.PlanFault, Request.Request}
 use Rattle.trace_io.specs.Traces.{HasFault as TraceHasFault, Spells as SpellsTrace, input_bytes}
 use Rattle.trace_io.specs.declared.sample.Sample.{Sample}
 use Rattle.command_parts.specs.{Certs.cert_in}
@@ -28,14 +29,17 @@ trace_in block text = record {
 abbrev pub TracesAreExact : Type 0
 TracesAreExact = (block : Block) (text : List ℕ) → IsExact (trace_in block text)
 
-abbrev pub plan_refusals : List ℕ → Refusals
-plan_refusals text (status.Plan f) = PlanHasFault text f
-plan_refusals text s = ⊥
+abbrev pub row_refusals : (PlanFault → Type 0) → Refusals
+row_refusals Has (status.Plan f) = Has f
+row_refusals Has s = ⊥
+
+-- the entries of a text in rows
+abbrev pub rows_in : {E : Type 0} → (List E → Type 0) → (PlanFault → Type 0) → Stage (List E)
+rows_in {E} Spells Has = record { gives = Spells; Seen = List E; seen = λ es. es; refuses = row_refusals Has }
 
 -- the requests of a plan
 abbrev pub plan_in : List ℕ → Stage (List Request)
-plan_in text =
-    record { gives = SpellsPlan text; Seen = List Request; seen = λ plan. plan; refuses = plan_refusals text }
+plan_in text = rows_in (SpellsPlan text) (PlanHasFault text)
 
 abbrev pub PlansAreExact : Type 0
 PlansAreExact = (text : List ℕ) → IsExact (plan_in text)

@@ -16,9 +16,7 @@ use Rattle.mailbox_runs.specs.Runs.{AnswerSeen, RunSeen, run_under_posts}
 use Rattle.run_reports.specs.{Posted.ArePostedWithinErrors, declared.files.MailboxFiles.MailboxFiles}
 use Rattle.command_parts.specs.{Certs.cert_in, Firmwares.firmware_in, Images.image_in}
 use Rattle.command_parts.specs.Readings.{Gives, Reading, Stage, last, ◌then◌}
-use Rattle.fz_status.specs.Refusals.{Refusals}
-use Rattle.fz_status.specs.declared.status.Status.TheVariants as status
-use Rattle.run_reports.specs.Inputs.{trace_in}
+use Rattle.run_reports.specs.Inputs.{rows_in, trace_in}
 use Rattle.command_parts.specs.declared.firmware.{Compiled.Compiled, Form.TheVariants.Mailbox}
 
 -- what is told of a run: an error for each output, in millionths of its range, the bound on instructions, the answers,
@@ -38,19 +36,9 @@ run_of r = record { arrived = true; answers = r.answers; frames = r.frames; resu
 abbrev pub answered_samples : MailboxReport → List ℕ
 answered_samples r = map (λ a. a.sample) r.answers
 
--- why a text gives no posts of so many samples
-abbrev pub posts_refusals : ℕ → List ℕ → Refusals
-posts_refusals samples text (status.Plan f) = PostsHaveFault samples text f
-posts_refusals samples text s = ⊥
-
 -- the posts of so many samples
 abbrev pub posts_in : ℕ → List ℕ → Stage (List Post)
-posts_in samples text = record {
-  gives = SpellsPosts samples text;
-  Seen = List Post;
-  seen = λ posts. posts;
-  refuses = posts_refusals samples text;
-}
+posts_in samples text = rows_in (SpellsPosts samples text) (PostsHaveFault samples text)
 
 -- FCL's firmware in the mailbox form, IMAGE of this firmware, CERT, TRACE, and POSTS of its samples
 abbrev pub mailbox_reading : CertKind → MailboxFiles

@@ -16,9 +16,7 @@ use Rattle.run_reports.specs.{Posted.ArePostedWithinErrors, Reports.IsReportOf, 
 use Rattle.command_parts.specs.{Certs.cert_in, Images.image_in, Twos.twos_in}
 use Rattle.command_parts.specs.declared.twos.CompiledTwoLevel.{CompiledTwoLevel}
 use Rattle.command_parts.specs.Readings.{Gives, Reading, Stage, for_fast, last, ◌then◌}
-use Rattle.fz_status.specs.Refusals.{Refusals}
-use Rattle.fz_status.specs.declared.status.Status.TheVariants as status
-use Rattle.run_reports.specs.Inputs.{trace_in}
+use Rattle.run_reports.specs.Inputs.{rows_in, trace_in}
 use Rattle.run_reports.specs.declared.files.TwoLevelFiles.{TwoLevelFiles}
 
 -- what is told of a run: an error for each output of the slow block and of the fast one, in millionths of its range,
@@ -39,19 +37,9 @@ slow_report r = record { errors = r.errors; bound = r.bound; rows = map (λ row.
 abbrev pub fast_numbers : List TwoLevelSeen → List ℕ
 fast_numbers rows = map (λ f. f.number) (fast_runs rows)
 
--- why a text gives no levels over so many fast samples
-abbrev pub levels_refusals : ℕ → List ℕ → Refusals
-levels_refusals fast text (status.Plan f) = LevelsHaveFault fast text f
-levels_refusals fast text s = ⊥
-
 -- the levels over so many fast samples
 abbrev pub levels_in : ℕ → List ℕ → Stage (List Level)
-levels_in fast text = record {
-  gives = SpellsLevels fast text;
-  Seen = List Level;
-  seen = λ levels. levels;
-  refuses = levels_refusals fast text;
-}
+levels_in fast text = rows_in (SpellsLevels fast text) (LevelsHaveFault fast text)
 
 -- IMAGE of a firmware of both, SCERT and FCERT, STRACE and FTRACE, and LEVELS over the fast samples
 abbrev pub two_level_inputs : CertKind → TwoLevelFiles → CompiledTwoLevel

@@ -5,7 +5,7 @@ ghost use Rattle.interrupt_plan.specs.Plans.{Spells as SpellsPlan};
 ghost use Rattle.trace_io.specs.Traces.{Spells};
 ghost use Rattle.fz_status.specs.Refusals.{IsRefusal};
 ghost use Rattle.command_parts.specs.Readings.{IsRefused};
-ghost use Rattle.run_reports.specs.Inputs.{AcceptsInputs, inputs_reading, plan_refusals, trace_refusals};
+ghost use Rattle.run_reports.specs.Inputs.{AcceptsInputs, inputs_reading, plan_in, trace_refusals};
 
 use crate::files::InputFiles;
 use box_tree::CertFormat;
@@ -62,7 +62,7 @@ pub fn samples_of(alloc: Global, block: &Block, text: &Content) -> Result<Vec<Sa
 /// The plan that a text spells.
 pub fn plan_of(alloc: Global, text: &Content) -> Result<Plan, Status>
     ensures plan { IfOk result (SpellsPlan text.now) }
-    ensures fault { IfErr result (IsRefusal (plan_refusals text.now)) }
+    ensures fault { IfErr result (IsRefusal (plan_in text.now).refuses) }
 {
     Ok(read_plan(alloc, text.bytes())?)
 }

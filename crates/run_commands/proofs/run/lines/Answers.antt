@@ -1,10 +1,13 @@
-use Rattle.run_commands.proofs.Words.{[], ◌++◌, ◌∙◌, ◌∷◌, ap₂, codes, counted-map, line, made_with, row_lines}
-use Rattle.run_commands.proofs.Words.{row_seen, sym}
+use Rattle.std.proofs.Common.{append_assoc}
+use Rattle.run_commands.proofs.Words.{counted-map}
 use Rattle.run_commands.proofs.run.lines.Goals as goal
 
 pub returns : goal.returns
-returns c =
-    let left = line (codes "left ") c.args.left ∷ [] in
-    (rw c.from.ensures at c.in_ok-push_labelled.ensures)
-    ∙ made_with c.in_ok-lines.lines.items _ left c.push_rows.new.lines.items c.in_ok-push_rows.ensures
-    ∙ ap₂ (λ x y. x ++ (y ++ left)) c.in_ok-lines.ensures (sym (counted-map row_lines row_seen 1 c.args.rows.now))
+returns c = rw (
+  c.in_ok-push_labelled.ensures,
+  c.in_ok-push_rows.ensures,
+  c.in_ok-lines.ensures,
+  c.from.ensures,
+  append_assoc,
+  counted-map,
+)
