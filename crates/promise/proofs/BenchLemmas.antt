@@ -10,12 +10,12 @@ use Rattle.byte_scaling.specs.declared.width.Width.{Width}
 use Rattle.firmware_runs.specs.Ports.{answers_at, given}
 use Rattle.interrupt_plan.specs.declared.Request.{Request}
 use Rattle.cpu12_isa.specs.Flags.{has, interrupts_masked}
-use Rattle.run_law.specs.Following.{AllComplete, Completes, expected_rows}
+use Rattle.run_law.specs.Following.{AllComplete, expected_rows}
 use Rattle.run_law.specs.Uninterrupted.{counted, frames_of, resumed_of, state_by, stepped, taken_at, uninterrupted}
 use Rattle.run_law.specs.{Moments.TakenAtOnce, Forms.Form, Forms.RowSeen}
 use Rattle.run_forms.specs.Arrival.{PlainIsOneStep}
 use Rattle.alone_runs.specs.{Following.rows_of_samples, Forms.with_writes}
-use Rattle.promise.specs.Bench.{AreReadOff, EndsAfter, bench, requests_in}
+use Rattle.promise.specs.Bench.{AreReadOff, bench, requests_in}
 
 -- ---- the form of a firmware that stands alone is the bench's
 
@@ -41,13 +41,6 @@ bench_is flags f width outputs map same count =
 
 -- ---- rows that are read off
 
-ends_after : (flags : ℕ) (f : Firmware) (P : State → Type 0) (n : ℕ) (s : State)
-    → Completes P (with_writes flags f) 0 n n s → EndsAfter (with_writes flags f) n s
-ends_after flags f P n s c = record {
-  before = λ j lt. c.on j (omega arith) (omega (arith, lt));
-  there = c.ended;
-}
-
 pub read_off : (P : State → Type 0) (flags : ℕ) (f : Firmware) (plan : List Request) (k : ℕ) (ns : List ℕ)
     (samples : List (List ℕ))
     (s : State) → AllComplete P (with_writes flags f) ns samples s
@@ -56,10 +49,10 @@ read_off P flags f plan k [] [] s all = tt
 read_off P flags f plan k (n ∷ ns) [] s all = absurd all
 read_off P flags f plan k [] (x ∷ rest) s all = absurd all
 read_off P flags f plan k (n ∷ ns) (x ∷ rest) s all =
-    let first = given f.memory_map x s in (
-      ends_after flags f P n first all.0,
+    let c = all.0 in (
+      record { before = λ j lt. c.on j (omega arith) (omega (arith, lt)); there = c.ended },
       refl,
-      read_off P flags f plan (suc k) ns rest (uninterrupted flags n first) all.1,
+      read_off P flags f plan (suc k) ns rest (uninterrupted flags n (given f.memory_map x s)) all.1,
     )
 
 -- ---- plain instructions are steps

@@ -6,7 +6,6 @@ use Rattle.std.proofs.lemmas.Fmt.{decimal_by_steps, decimal_injective}
 use Rattle.std.specs.List.{concat}
 use Rattle.std.proofs.lemmas.List.{append_assoc, append_cancel_left, append-nil}
 use Rattle.std.proofs.lemmas.List.Folds.{concat-append}
-use Rattle.fz_shelf.specs.Parts.{newline}
 use Rattle.command_parts.specs.Lines.{counted, error_line, error_lines, line}
 use Rattle.run_reports.specs.{Reports.Report, RowLines.row_lines}
 use Rattle.run_reports.specs.RowLines.{run_lines}
@@ -52,16 +51,11 @@ read m n r s hm hn e =
 
 -- a line, and what follows it
 line_then : (label : List ℕ) (n : ℕ) (rest : List ℕ) → line label n ++ rest ≡ label ++ (decimal n ++ 10 ∷ rest)
-line_then label n rest =
-    append_assoc (label ++ decimal n) newline rest ∙ append_assoc label (decimal n) (10 ∷ rest)
+line_then label n rest = simp append_assoc
 
 error_then : (k e : ℕ) (rest : List ℕ) → error_line (codes "error ") k e ++ rest
     ≡ codes "error " ++ (decimal k ++ (codes " " ++ (decimal e ++ 10 ∷ rest)))
-error_then k e rest =
-    let told = codes " " ++ decimal e in
-    append_assoc (codes "error " ++ (decimal k ++ told)) newline rest
-    ∙ append_assoc (codes "error ") (decimal k ++ told) (10 ∷ rest)
-    ∙ ap (λ t. codes "error " ++ t) (append_assoc (decimal k) told (10 ∷ rest))
+error_then k e rest = simp append_assoc
 
 -- the text of the errors
 abbrev errors_from : ℕ → List ℕ → List ℕ
