@@ -13,7 +13,7 @@ use Rattle.command_parts.specs.Contents.{bytes_of}
 use Rattle.command_parts.specs.SeenOutputs.{HasOutput, IsFaultOf, OutputHasNoFault, SeenOutput}
 use Rattle.fz_top.specs.{Accepted.CommandsAreSettled, Commands.Makes, Commands.command_in, Commands.inputs_of}
 use Rattle.fz_top.specs.declared.command.Command.{Command}
-use Rattle.fz_top.specs.Reads.{ReadsWhole, AreHeld, AreThere, names_at, StopsBy}
+use Rattle.fz_top.specs.Reads.{ReadsWhole, AreHeld, AreThere, names_at}
 use Rattle.fz_top.specs.Runs.{HasNoFault, HasOneResult, Faulted, IsMade, IsReadFault, IsTooLong, OutOfMemory}
 use Rattle.fz_top.specs.Runs.{read_whole, IsWriteFault, Settles, status_of, IsReady, AreKnown, FileFits, Worked, Delivered}
 use Rattle.fz_top.specs.Runs.{WriteFailed, PutFailed, ChangesOnly, Runs}
@@ -32,28 +32,6 @@ pub record Made (words : List Text) (f0 f1 : Names) (k0 k1 : Counts) (a0 a1 : Lo
   pub files : f1 ≡ f0
   pub whole : ReadsWhole words (inputs_of command) f0 k0 k1 a0 a1 contents
   pub outcome : Makes command contents (Ok output)
-
-pub make : (words : List Text) (f0 f1 : Names) (k0 k1 : Counts) (a0 a1 : Log) (command : Command) (places : List ℕ)
-    (contents slice : List (Vec ℕ Global)) (output : SeenOutput)
-    → Some command ≡ command_in words → f1 ≡ f0 → places ≡ inputs_of command
-    → ReadsWhole words places f0 k0 k1 a0 a1 (bytes_of contents) → slice ≡ contents
-    → Makes command (bytes_of slice) (Ok output) → Made words f0 f1 k0 k1 a0 a1 output
-make words f0 f1 k0 k1 a0 a1 command places contents slice output is files at whole same outcome = record {
-  command = command;
-  is = sym is;
-  contents = bytes_of contents;
-  files = files;
-  whole = subst (λ (ps : List ℕ). ReadsWhole words ps f0 k0 k1 a0 a1 (bytes_of contents)) at whole;
-  outcome = subst (λ (cs : List (Vec ℕ Global)). Makes command (bytes_of cs) (Ok output)) same outcome;
-}
-
--- the files were read whole, and nothing else was done
-left_by : (words : List Text) (command : Command) (f0 f1 : Names) (k0 k1 : Counts) (a0 a1 : Log) (t0 : Option Taken)
-    (e0 : ℕ) (contents : List (List ℕ)) → f1 ≡ f0 → ReadsWhole words (inputs_of command) f0 k0 k1 a0 a1 contents
-    → world f1 k1 a1 t0 e0 ≡ read_whole words command (world f0 k0 a0 t0 e0)
-left_by words command f0 f1 k0 k1 a0 a1 t0 e0 contents files whole =
-    ap (λ (f : Names). world f k1 a1 t0 e0) files
-    ∙ ap₂ (λ (k : Counts) (a : Log). world f0 k a t0 e0) whole.counts whole.entries
 
 -- memory was wanted behind that
 no_memory_behind : (words : List Text) (command : Command) (old : World) (contents : List (List ℕ))
@@ -75,77 +53,6 @@ no_memory_behind words command old contents is held = record {
     },
   );
 }
-
-module _ (words : List Text) (f0 f1 : Names) (k0 k1 : Counts) (a0 a1 : Log) (t0 : Option Taken) (e0 : ℕ)
-    (output : SeenOutput) (made : Made words f0 f1 k0 k1 a0 a1 output) where
-  abbrev worked : Worked words (world f0 k0 a0 t0 e0) (Ok output)
-  worked = record {
-    command = made.command;
-    is = made.is;
-    contents = made.contents;
-    held = made.whole.held;
-    outcome = made.outcome;
-  }
-
-  behind : world f1 k1 a1 t0 e0 ≡ read_whole words made.command (world f0 k0 a0 t0 e0)
-  behind = left_by words made.command f0 f1 k0 k1 a0 a1 t0 e0 made.contents made.files made.whole
-
-  pub ran : (new : World) → Delivered words output (world f1 k1 a1 t0 e0) new
-      → Runs words (world f0 k0 a0 t0 e0) new status.Ok
-  ran new d = (output, worked, subst (λ (w : World). Delivered words output w new) behind d)
-
-  pub broke : (new : World) → ChangesOnly words output.file f1 new.files
-      → WriteFailed words output (world f1 k1 a1 t0 e0) new ⊎ PutFailed words output (world f1 k1 a1 t0 e0) new
-      → Runs words (world f0 k0 a0 t0 e0) new status.WriteFault
-  broke new only why = (
-    output,
-    worked,
-    subst (λ (f : Names). ChangesOnly words output.file f new.files) made.files only,
-    subst (λ (w : World). WriteFailed words output w new ⊎ PutFailed words output w new) behind why,
-  )
-
-  pub wanted : (new : World) → new ≡ world f1 k1 a1 t0 e0 → Runs words (world f0 k0 a0 t0 e0) new status.Memory
-  wanted new same = subst (λ (w : World). OutOfMemory words (world f0 k0 a0 t0 e0) w) (sym (same ∙ behind))
-      (no_memory_behind words made.command (world f0 k0 a0 t0 e0) made.contents made.is made.whole.held)
-
--- the contents were refused, or memory was wanted for what they make
-pub stopped : (words : List Text) (f0 f1 : Names) (k0 k1 : Counts) (a0 a1 : Log) (t0 : Option Taken) (e0 : ℕ)
-    (command : Command) (places : List ℕ) (contents slice : List (Vec ℕ Global)) (s : Status)
-    → Some command ≡ command_in words → f1 ≡ f0 → places ≡ inputs_of command
-    → ReadsWhole words places f0 k0 k1 a0 a1 (bytes_of contents) → slice ≡ contents
-    → IsFaultOf (Makes command (bytes_of slice)) s → Runs words (world f0 k0 a0 t0 e0) (world f1 k1 a1 t0 e0) s
-stopped words f0 f1 k0 k1 a0 a1 t0 e0 command places contents slice s is files at whole same fault =
-    go s (kind_of s) fault
-  where
-    all : ReadsWhole words (inputs_of command) f0 k0 k1 a0 a1 (bytes_of contents)
-    all = subst (λ (ps : List ℕ). ReadsWhole words ps f0 k0 k1 a0 a1 (bytes_of contents)) at whole
-
-    left : world f1 k1 a1 t0 e0 ≡ read_whole words command (world f0 k0 a0 t0 e0)
-    left = left_by words command f0 f1 k0 k1 a0 a1 t0 e0 (bytes_of contents) files all
-
-    faulted : (t : Status) → Makes command (bytes_of slice) (Err t)
-        → Faulted words (world f0 k0 a0 t0 e0) (world f1 k1 a1 t0 e0) t
-    faulted t makes = record {
-      worked = record {
-        command = command;
-        is = sym is;
-        contents = bytes_of contents;
-        held = all.held;
-        outcome = subst (λ (cs : List (Vec ℕ Global)). Makes command (bytes_of cs) (Err t)) same makes;
-      };
-      left = left;
-    }
-
-    go : (t : Status) → Kind t → IsFaultOf (Makes command (bytes_of slice)) t
-        → Runs words (world f0 k0 a0 t0 e0) (world f1 k1 a1 t0 e0) t
-    go _ done fault = absurd fault
-    go _ no_command fault = absurd fault
-    go _ (failed_read p) fault = absurd fault
-    go _ failed_write fault = absurd fault
-    go _ no_memory fault = subst (λ (w : World). OutOfMemory words (world f0 k0 a0 t0 e0) w) (sym left)
-        (no_memory_behind words command (world f0 k0 a0 t0 e0) (bytes_of contents) (sym is) all.held)
-    go _ (long_read p) fault = absurd fault
-    go _ (of_contents t of) fault = of.runs words _ _ (faulted t (of.made command (bytes_of slice) fault))
 
 known_held : (files : Names) (ns : List Text) (cs cs' : List (List ℕ)) → AreKnown files ns cs → AreHeld files ns cs'
     → cs' ≡ cs
@@ -170,20 +77,114 @@ module _ (words : List Text) (files : Names) (command : Command) (contents : Lis
       → AreHeld files (names_at words (inputs_of other)) cs → Makes other cs r → Makes command contents r
   makes_same other cs r other_is held makes =
       let same = same_command other_is is in
-      let held' : AreHeld files (names_at words (inputs_of command)) cs =
-      subst (λ (c : Command). AreHeld files (names_at words (inputs_of c)) cs) same held in
-      let all : cs ≡ contents = known_held files (names_at words (inputs_of command)) contents cs known held' in
-      subst (λ (xs : List (List ℕ)). Makes command xs r) all (subst (λ (c : Command). Makes c cs r) same makes)
+      let all = known_held files (names_at words (inputs_of command)) contents cs known (rw same at held) in
+      rw all at (rw same at makes)
 
-pub room_of : (words : List Text) (f0 f1 : Names) (k0 k1 : Counts) (a0 a1 : Log) (t0 : Option Taken) (e0 : ℕ)
-    (output : SeenOutput) (made : Made words f0 f1 k0 k1 a0 a1 output) (command : Command) (contents : List (List ℕ))
-    → IsReady words (world f0 k0 a0 t0 e0) command contents → FileFits words output.file f1
-    × HasRoom t0 (length (concat output.lines))
-room_of words f0 f1 k0 k1 a0 a1 t0 e0 output made command contents ready =
-    let room = ready.room output
-    (makes_same words f0 command contents ready.is ready.known made.command made.contents
-    (Ok output) made.is made.whole.held made.outcome) in
-    (subst (λ (f : Names). FileFits words output.file f) (sym made.files) room.0, room.1)
+module _ {words : List Text} {f0 f1 : Names} {k0 k1 : Counts} {a0 a1 : Log} where
+  pub make : {command : Command} {places : List ℕ} {contents slice : List (Vec ℕ Global)} {output : SeenOutput}
+      → command_in words ≡ Some command → f1 ≡ f0 → places ≡ inputs_of command
+      → ReadsWhole words places f0 k0 k1 a0 a1 (bytes_of contents) → slice ≡ contents
+      → Makes command (bytes_of slice) (Ok output) → Made words f0 f1 k0 k1 a0 a1 output
+  make {command} {places} {contents} {slice} {output} is files at whole same outcome = record {
+    command = command;
+    is = is;
+    contents = bytes_of contents;
+    files = files;
+    whole = subst (λ (ps : List ℕ). ReadsWhole words ps f0 k0 k1 a0 a1 (bytes_of contents)) at whole;
+    outcome = subst (λ (cs : List (Vec ℕ Global)). Makes command (bytes_of cs) (Ok output)) same outcome;
+  }
+
+module _ (words : List Text) (f0 f1 : Names) (k0 k1 : Counts) (a0 a1 : Log) (t0 : Option Taken) (e0 : ℕ) where
+  -- what shelf and out tell at first, and when files were read
+  abbrev old : World
+  old = world f0 k0 a0 t0 e0
+
+  abbrev read : World
+  read = world f1 k1 a1 t0 e0
+
+  -- the files were read whole, and nothing else was done
+  left_by : (command : Command) (contents : List (List ℕ)) → f1 ≡ f0
+      → ReadsWhole words (inputs_of command) f0 k0 k1 a0 a1 contents → read ≡ read_whole words command old
+  left_by command contents files whole =
+      ap (λ (f : Names). world f k1 a1 t0 e0) files
+      ∙ ap₂ (λ (k : Counts) (a : Log). world f0 k a t0 e0) whole.counts whole.entries
+
+  abbrev worked : {output : SeenOutput} → Made words f0 f1 k0 k1 a0 a1 output → Worked words old (Ok output)
+  worked made = record {
+    command = made.command;
+    is = made.is;
+    contents = made.contents;
+    held = made.whole.held;
+    outcome = made.outcome;
+  }
+
+  behind : {output : SeenOutput} (made : Made words f0 f1 k0 k1 a0 a1 output)
+      → read ≡ read_whole words made.command old
+  behind made = left_by made.command made.contents made.files made.whole
+
+  pub ran : {output : SeenOutput} → Made words f0 f1 k0 k1 a0 a1 output → (new : World)
+      → Delivered words output read new → Runs words old new status.Ok
+  ran {output} made new d =
+      (output, worked made, subst (λ (w : World). Delivered words output w new) (behind made) d)
+
+  pub broke : {output : SeenOutput} → Made words f0 f1 k0 k1 a0 a1 output → (new : World)
+      → ChangesOnly words output.file f1 new.files
+      → WriteFailed words output read new ⊎ PutFailed words output read new → Runs words old new status.WriteFault
+  broke {output} made new only why = (
+    output,
+    worked made,
+    subst (λ (f : Names). ChangesOnly words output.file f new.files) made.files only,
+    subst (λ (w : World). WriteFailed words output w new ⊎ PutFailed words output w new) (behind made) why,
+  )
+
+  pub wanted : {output : SeenOutput} → Made words f0 f1 k0 k1 a0 a1 output → (new : World) → new ≡ read
+      → Runs words old new status.Memory
+  wanted made new same = subst (λ (w : World). OutOfMemory words old w) (sym (same ∙ behind made))
+      (no_memory_behind words made.command old made.contents made.is made.whole.held)
+
+  -- the contents were refused, or memory was wanted for what they make
+  pub stopped : {command : Command} {places : List ℕ} {contents slice : List (Vec ℕ Global)} (s : Status)
+      → command_in words ≡ Some command → f1 ≡ f0 → places ≡ inputs_of command
+      → ReadsWhole words places f0 k0 k1 a0 a1 (bytes_of contents) → slice ≡ contents
+      → IsFaultOf (Makes command (bytes_of slice)) s → Runs words old read s
+  stopped {command} {places} {contents} {slice} s is files at whole same fault = go s (kind_of s) fault
+    where
+      all : ReadsWhole words (inputs_of command) f0 k0 k1 a0 a1 (bytes_of contents)
+      all = subst (λ (ps : List ℕ). ReadsWhole words ps f0 k0 k1 a0 a1 (bytes_of contents)) at whole
+
+      left : read ≡ read_whole words command old
+      left = left_by command (bytes_of contents) files all
+
+      faulted : (t : Status) → Makes command (bytes_of slice) (Err t) → Faulted words old read t
+      faulted t makes = record {
+        worked = record {
+          command = command;
+          is = is;
+          contents = bytes_of contents;
+          held = all.held;
+          outcome = subst (λ (cs : List (Vec ℕ Global)). Makes command (bytes_of cs) (Err t)) same makes;
+        };
+        left = left;
+      }
+
+      go : (t : Status) → Kind t → IsFaultOf (Makes command (bytes_of slice)) t → Runs words old read t
+      go _ done fault = absurd fault
+      go _ no_command fault = absurd fault
+      go _ (failed_read p) fault = absurd fault
+      go _ failed_write fault = absurd fault
+      go _ no_memory fault = subst (λ (w : World). OutOfMemory words old w) (sym left)
+          (no_memory_behind words command old (bytes_of contents) is all.held)
+      go _ (long_read p) fault = absurd fault
+      go _ (of_contents t of) fault = of.runs words _ _ (faulted t (of.made command (bytes_of slice) fault))
+
+  pub room_of : {output : SeenOutput} → Made words f0 f1 k0 k1 a0 a1 output → (command : Command)
+      (contents : List (List ℕ)) → IsReady words old command contents
+      → FileFits words output.file f1 × HasRoom t0 (length (concat output.lines))
+  room_of {output} made command contents ready =
+      let room = ready.room output
+      (makes_same words f0 command contents ready.is ready.known made.command made.contents (Ok output) made.is
+      made.whole.held made.outcome) in
+      (subst (λ (f : Names). FileFits words output.file f) (sym made.files) room.0, room.1)
 
 -- files that the shelf tells are there
 pub known_there : (files : Names) (ns : List Text) (cs : List (List ℕ)) → AreKnown files ns cs → AreThere files ns
@@ -221,13 +222,8 @@ module _ (words : List Text) (old new : World) (command : Command) (contents : L
   settles_as _ failed_write runs = inr (inr (inr tt))
   settles_as _ no_memory runs = inr (inl refl)
   settles_as _ (long_read p) runs =
-      let same = same_command runs.is is in
-      let stops : StopsBy words (inputs_of command) old.files old.counts new.counts old.asked new.asked
-      (stop.TooLong p) =
-      subst (λ (c : Command). StopsBy words (inputs_of c) old.files old.counts new.counts old.asked new.asked
-      (stop.TooLong p)) same runs.stops in
-      let at : AreKnown old.files (names_at words (stops.0.before ++ p ∷ stops.0.after)) contents =
-      subst (λ (ps : List ℕ). AreKnown old.files (names_at words ps) contents) (sym stops.0.split) known in
+      let stops = rw (same_command runs.is is) at runs.stops in
+      let at = rw (← stops.0.split) at known in
       absurd (not_long old.files words stops.0.before stops.0.after p contents at stops.3)
   settles_as _ (of_contents s of) runs = inl (made_by (Err s) (of.faulted words old new runs).worked)
 
@@ -257,31 +253,19 @@ does words old new command contents named known one apart made s runs no_read no
     go (inl (_, Ok output, makes, is)) = inl is
     go (inl (_, Err t, makes, is)) = absurd (apart made.0 t made.1 makes)
 
-pub no_read_fault : (words : List Text) (old new : World) → HasNoFault old new → (s : Status) → Runs words old new s
-    → IsReadFault s → ⊥
-no_read_fault words old new none s runs is = go s (kind_of s) runs is
+-- neither is where no count rose
+pub no_faults : (words : List Text) (old new : World) → HasNoFault old new → (s : Status) → Runs words old new s
+    → (IsReadFault s → ⊥) × (IsWriteFault s → ⊥)
+no_faults words old new none s runs = go s (kind_of s) runs
   where
-    go : (t : Status) → Kind t → Runs words old new t → IsReadFault t → ⊥
-    go _ done at is = is
-    go _ no_command at is = is
-    go _ (failed_read p) at is = none.reads at.stops.2
-    go _ failed_write at is = is
-    go _ no_memory at is = is
-    go _ (long_read p) at is = is
-    go _ (of_contents t of) at is = of.no_read is
-
-pub no_write_fault : (words : List Text) (old new : World) → HasNoFault old new → (s : Status) → Runs words old new s
-    → IsWriteFault s → ⊥
-no_write_fault words old new none s runs is = go s (kind_of s) runs is
-  where
-    go : (t : Status) → Kind t → Runs words old new t → IsWriteFault t → ⊥
-    go _ done at is = is
-    go _ no_command at is = is
-    go _ (failed_read p) at is = is
-    go _ failed_write at is = ⊎_elim (λ w. none.writes w.rose) (λ p. none.puts p.rose) at.3
-    go _ no_memory at is = is
-    go _ (long_read p) at is = is
-    go _ (of_contents t of) at is = of.no_write is
+    go : (t : Status) → Kind t → Runs words old new t → (IsReadFault t → ⊥) × (IsWriteFault t → ⊥)
+    go _ done at = (λ is. is, λ is. is)
+    go _ no_command at = (λ is. is, λ is. is)
+    go _ (failed_read p) at = (λ is. none.reads at.stops.2, λ is. is)
+    go _ failed_write at = (λ is. is, λ is. ⊎_elim (λ w. none.writes w.rose) (λ p. none.puts p.rose) at.3)
+    go _ no_memory at = (λ is. is, λ is. is)
+    go _ (long_read p) at = (λ is. is, λ is. is)
+    go _ (of_contents t of) at = (of.no_read, of.no_write)
 
 none_some : {w : Option Command} {c : Command} → w ≡ None → w ≡ Some c → ⊥
 none_some {w} {c} none some = let bad : None ≡ Some c = sym none ∙ some in cc
@@ -351,11 +335,8 @@ same_cut files words (a ∷ before) after p (b ∷ before') after' q (c ∷ cs) 
 module _ (words : List Text) (old new : World) (place : ℕ) (long : IsTooLong words old.files place) where
   no_work : (r : Result SeenOutput Status) → Worked words old r → ⊥
   no_work r w =
-      let same = same_command w.is long.is in
-      let held : AreHeld old.files (names_at words (inputs_of long.command)) w.contents =
-      subst (λ (c : Command). AreHeld old.files (names_at words (inputs_of c)) w.contents) same w.held in
-      let at : AreHeld old.files (names_at words (long.before ++ place ∷ long.after)) w.contents =
-      subst (λ (ps : List ℕ). AreHeld old.files (names_at words ps) w.contents) (sym long.split) held in
+      let held = rw (same_command w.is long.is) at w.held in
+      let at = rw (← long.split) at held in
       never_held old.files words long.before long.after place w.contents long.bytes long.room long.told long.long at
 
   long_status_as : (s : Status) → Kind s → Runs words old new s → (s ≡ status.TooLong place) ⊎
@@ -366,11 +347,7 @@ module _ (words : List Text) (old new : World) (place : ℕ) (long : IsTooLong w
   long_status_as _ failed_write runs = absurd (no_work (Ok runs.0) runs.1)
   long_status_as _ no_memory runs = inr (inr refl)
   long_status_as _ (long_read q) runs =
-      let same = same_command runs.is long.is in
-      let stops : StopsBy words (inputs_of long.command) old.files old.counts new.counts old.asked new.asked
-      (stop.TooLong q) =
-      subst (λ (c : Command). StopsBy words (inputs_of c) old.files old.counts new.counts old.asked new.asked
-      (stop.TooLong q)) same runs.stops in
+      let stops = rw (same_command runs.is long.is) at runs.stops in
       let e : q ≡ place = same_cut old.files words long.before long.after place stops.0.before stops.0.after q
       long.contents stops.0.contents long.bytes long.room
       (long.split ∙ sym stops.0.split) long.known_before long.told long.long stops.0.held stops.3 in

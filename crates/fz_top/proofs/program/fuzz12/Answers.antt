@@ -3,7 +3,7 @@ use Rattle.fz_status.specs.Words.{texts_of, word_at}
 use Rattle.fz_top.proofs.{FlagsLemmas.byte_flags, FlagsLemmas.flags_small, KeepsLemmas.ok_keeps}
 use Rattle.fz_top.proofs.OthersLemmas.{ok_serves}
 use Rattle.fz_top.proofs.CompletenessLemmas.{asked, can, contents_of, room_for}
-use Rattle.fz_top.proofs.RunLemmas.{does, no_read_fault, no_write_fault, settles, completes, known_there, long_status}
+use Rattle.fz_top.proofs.RunLemmas.{does, no_faults, settles, completes, known_there, long_status}
 use Rattle.fz_top.proofs.RunLemmas.{carries, usage_status, usage_cause}
 use Rattle.fz_top.proofs.program.fuzz12.Goals as goal
 
@@ -42,7 +42,7 @@ returns-clause-done g c = λ command contents can why.
     let ends = does words _ _ command contents can.is can.known one made.no_fault (made.some (byte, can.accepted)) _
     run.runs in
     elim why [
-      | inl none ↦ ends (no_read_fault words _ _ none _ run.runs) (no_write_fault words _ _ none _ run.runs)
+      | inl none ↦ (let free = no_faults words _ _ none _ run.runs in ends free.0 free.1)
       | inr reliable ↦ ends (run.reads_steady reliable.0 command can.is (known_there _ _ contents can.known))
           (run.writes_steady reliable.0 reliable.1 command contents
           (record { is = can.is; known = can.known; room = reliable.2 }))
