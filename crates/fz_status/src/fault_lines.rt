@@ -37,7 +37,7 @@ macro_rules! write_line {
 }
 
 macro_rules! part {
-    (Number $n:expr) => { Part::Number(u64::from($n)) };
+    (Number $n:expr) => { Part::Number($n as u64) };
     (Part $part:expr) => { $part };
     ($kind:ident $value:expr) => { Part::$kind($value) };
 }

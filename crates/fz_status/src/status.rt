@@ -120,14 +120,21 @@ impl From<Memory> for Status {
     }
 }
 
+/// The status that carries a fault, or `Memory` where the fault is its own want of memory.
+macro_rules! told {
+    ($fault:ident: $Fault:ident => $carrying:expr) => {
+        match $fault {
+            $Fault::Memory => Status::Memory,
+            $fault => $carrying,
+        }
+    };
+}
+
 impl From<SyntaxFault> for Status {
     ghost from_gives = { λ fault. Tells (status.Fcl (fcl.Syntax fault)) };
 
     fn from(fault: SyntaxFault) -> Status {
-        match fault {
-            SyntaxFault::Memory => Status::Memory,
-            fault => Status::Fcl(FclFault::Syntax(fault)),
-        }
+        told!(fault: SyntaxFault => Status::Fcl(FclFault::Syntax(fault)))
     }
 }
 
@@ -135,10 +142,7 @@ impl From<LoadFault> for Status {
     ghost from_gives = { λ fault. Tells (status.Fcl (fcl.Load fault)) };
 
     fn from(fault: LoadFault) -> Status {
-        match fault {
-            LoadFault::Memory => Status::Memory,
-            fault => Status::Fcl(FclFault::Load(fault)),
-        }
+        told!(fault: LoadFault => Status::Fcl(FclFault::Load(fault)))
     }
 }
 
@@ -146,10 +150,7 @@ impl From<LayoutFault> for Status {
     ghost from_gives = { λ fault. Tells (status.Fcl (fcl.Layout fault)) };
 
     fn from(fault: LayoutFault) -> Status {
-        match fault {
-            LayoutFault::Memory => Status::Memory,
-            fault => Status::Fcl(FclFault::Layout(fault)),
-        }
+        told!(fault: LayoutFault => Status::Fcl(FclFault::Layout(fault)))
     }
 }
 
@@ -157,10 +158,7 @@ impl From<SrecFault> for Status {
     ghost from_gives = { λ fault. Tells (status.Image (image.Records fault)) };
 
     fn from(fault: SrecFault) -> Status {
-        match fault {
-            SrecFault::Memory => Status::Memory,
-            fault => Status::Image(ImageFault::Records(fault)),
-        }
+        told!(fault: SrecFault => Status::Image(ImageFault::Records(fault)))
     }
 }
 
@@ -168,10 +166,7 @@ impl From<TraceFault> for Status {
     ghost from_gives = { λ fault. Tells (status.Trace fault) };
 
     fn from(fault: TraceFault) -> Status {
-        match fault {
-            TraceFault::Memory => Status::Memory,
-            fault => Status::Trace(fault),
-        }
+        told!(fault: TraceFault => Status::Trace(fault))
     }
 }
 
@@ -179,10 +174,7 @@ impl From<PlanFault> for Status {
     ghost from_gives = { λ fault. Tells (status.Plan fault) };
 
     fn from(fault: PlanFault) -> Status {
-        match fault {
-            PlanFault::Memory => Status::Memory,
-            fault => Status::Plan(fault),
-        }
+        told!(fault: PlanFault => Status::Plan(fault))
     }
 }
 
@@ -190,10 +182,7 @@ impl From<UpsetFault> for Status {
     ghost from_gives = { λ fault. Tells (status.Upset fault) };
 
     fn from(fault: UpsetFault) -> Status {
-        match fault {
-            UpsetFault::Memory => Status::Memory,
-            fault => Status::Upset(fault),
-        }
+        told!(fault: UpsetFault => Status::Upset(fault))
     }
 }
 
@@ -201,10 +190,7 @@ impl From<NotReached> for Status {
     ghost from_gives = { λ fault. Tells (status.NotReached fault) };
 
     fn from(fault: NotReached) -> Status {
-        match fault {
-            NotReached::Memory => Status::Memory,
-            fault => Status::NotReached(fault),
-        }
+        told!(fault: NotReached => Status::NotReached(fault))
     }
 }
 
@@ -212,10 +198,7 @@ impl From<AsmFault> for Status {
     ghost from_gives = { λ fault. Tells (status.Asm fault) };
 
     fn from(fault: AsmFault) -> Status {
-        match fault {
-            AsmFault::Memory => Status::Memory,
-            fault => Status::Asm(fault),
-        }
+        told!(fault: AsmFault => Status::Asm(fault))
     }
 }
 
@@ -223,10 +206,7 @@ impl From<HandlerFault> for Status {
     ghost from_gives = { λ fault. Tells (status.Handler fault) };
 
     fn from(fault: HandlerFault) -> Status {
-        match fault {
-            HandlerFault::Memory => Status::Memory,
-            fault => Status::Handler(fault),
-        }
+        told!(fault: HandlerFault => Status::Handler(fault))
     }
 }
 

@@ -1,10 +1,7 @@
 use Rattle.fz_status.proofs.fault_lines.put_check.Goals as goal
 
 pub returns-in-Unsure : goal.returns-in-Unsure
-returns-in-Unsure g c =
-    rw (c.in-Unsure.is, ← c.from-in-Unsure.ensures, ← c.from-in-Unsure-2.ensures) c.put-in-Unsure.ensures
+returns-in-Unsure g c = rw c.in-Unsure.is c.put-in-Unsure.ensures
 
 pub returns-in-Claimed : goal.returns-in-Claimed
-returns-in-Claimed g c =
-    rw (c.in-Claimed.is, ← c.from-in-Claimed.ensures, ← c.from-in-Claimed-2.ensures, ← c.from-in-Claimed-3.ensures)
-    c.put-in-Claimed.ensures
+returns-in-Claimed g c = rw c.in-Claimed.is c.put-in-Claimed.ensures
