@@ -92,59 +92,33 @@ halvings_judged blocks reach format targets block valid small =
 -- ---- texts
 
 -- kinds of load faults, none of which is want of memory
-abbrev AreFine : List ((ℕ → LoadFault) × List ℕ) → Type 0
-AreFine [] = Unit {0}
-AreFine (k ∷ ks) = ((n : ℕ) → k.0 n ≢ load.Memory) × AreFine ks
+abbrev fine_and : LoadFault → Type 0 → Type 0
+fine_and load.Memory rest = ⊥
+fine_and f rest = rest
 
-no_memory : (ks : List ((ℕ → LoadFault) × List ℕ)) → AreFine ks
+abbrev AreFine : List ((ℕ → LoadFault) × List ℕ) → ℕ → Type 0
+AreFine [] n = Unit {0}
+AreFine (k ∷ ks) n = fine_and (k.0 n) (AreFine ks n)
+
+both_fine : (f : LoadFault) (rest : Type 0) → fine_and f rest → (f ≢ load.Memory) × rest
+both_fine load.Memory rest fine = absurd fine
+both_fine f rest fine = (λ e. cc, fine)
+
+no_memory : (ks : List ((ℕ → LoadFault) × List ℕ)) → ((n : ℕ) → AreFine ks n)
     → first (flat_map (λ k. map k.0 k.1) ks) ≡ Some load.Memory → ⊥
 no_memory [] fine e = cc
-no_memory (k ∷ ks) fine e = by_places (no_memory ks fine.1) k.1 e
+no_memory (k ∷ ks) fine e =
+    by_places (no_memory ks (λ n. (both_fine (k.0 n) (AreFine ks n) (fine n)).1)) k.1 e
   where
     by_places : (first (flat_map (λ k. map k.0 k.1) ks) ≡ Some load.Memory → ⊥) → (ns : List ℕ)
         → first (map k.0 ns ++ flat_map (λ k. map k.0 k.1) ks) ≡ Some load.Memory → ⊥
     by_places rest [] e = rest e
-    by_places rest (n ∷ ns) e = fine.0 n (let same : k.0 n ≡ load.Memory = cc in same)
+    by_places rest (n ∷ ns) e =
+        (both_fine (k.0 n) (AreFine ks n) (fine n)).0 (let same : k.0 n ≡ load.Memory = cc in same)
 
 load_carries : (text : List ℕ) (f : LoadFault) → HasLoadFault text f → f ≢ load.Memory
-load_carries text f has e = no_memory (kinds (str_to_ascii_lowercase text) has.tree) (
-  λ n z. cc,
-  (
-    λ n z. cc,
-    (
-      λ n z. cc,
-      (
-        λ n z. cc,
-        (
-          λ n z. cc,
-          (
-            λ n z. cc,
-            (
-              λ n z. cc,
-              (
-                λ n z. cc,
-                (
-                  λ n z. cc,
-                  (
-                    λ n z. cc,
-                    (
-                      λ n z. cc,
-                      (
-                        λ n z. cc,
-                        tt,
-                      ),
-                    ),
-                  ),
-                ),
-              ),
-            ),
-          ),
-        ),
-      ),
-    ),
-  ),
-)
-    (has.first ∙ ap (λ g. Some g) e)
+load_carries text f has e =
+    no_memory (kinds (str_to_ascii_lowercase text) has.tree) (λ n. tt) (has.first ∙ ap (λ g. Some g) e)
 
 first_many : (rules : List Rule) (n : ℕ) → n ≤ length rules → 512 < conjunction_count (take n rules)
     → (m : ℕ) × IsFirstTooMany rules m
