@@ -1,34 +1,42 @@
 //! Controllers of two and three inputs.
 
+// The text of a controller: what is before its sections, its inputs, its output, and its rules. An input's first term
+// is 1 up to the first point, the second at the second point, and the third from the third on, and between two points
+// the degrees of two terms cross.
+macro_rules! controller {
+    ($head:literal
+        $(input $input:ident $low:literal to $high:literal: $first:ident $a:literal, $second:ident $b:literal,
+            $third:ident $c:literal;)*
+        output $output:ident $least:literal to $most:literal: $($term:ident $at:literal),*;
+        $rules:literal) => {
+        concat!(
+            $head,
+            $(
+                "FUZZIFY ", stringify!($input), " RANGE := (", $low, " .. ", $high, ");\n",
+                "TERM ", stringify!($first), " := (", $a, ", 1) (", $b, ", 0);\n",
+                "TERM ", stringify!($second), " := (", $a, ", 0) (", $b, ", 1) (", $c, ", 0);\n",
+                "TERM ", stringify!($third), " := (", $b, ", 0) (", $c, ", 1);\n",
+                "END_FUZZIFY\n",
+            )*
+            "DEFUZZIFY ", stringify!($output), " RANGE := (", $least, " .. ", $most, ");\n",
+            $("TERM ", stringify!($term), " := ", $at, ";\n",)*
+            "METHOD : COGS;\nDEFAULT := 0;\nEND_DEFUZZIFY\n",
+            $rules
+        )
+    };
+}
+
 /// A dryer: three inputs of three terms each, and a rule for each three of them.
-pub const DRYER: &str = "FUNCTION_BLOCK dryer
+pub const DRYER: &str = controller! {
+    "FUNCTION_BLOCK dryer
 VAR_INPUT moisture, air, load : REAL; END_VAR
 VAR_OUTPUT heat : REAL; END_VAR
-FUZZIFY moisture RANGE := (0 .. 100);
-TERM dry := (0, 1) (50, 0);
-TERM damp := (0, 0) (50, 1) (100, 0);
-TERM wet := (50, 0) (100, 1);
-END_FUZZIFY
-FUZZIFY air RANGE := (10 .. 90);
-TERM cold := (10, 1) (50, 0);
-TERM warm := (10, 0) (50, 1) (90, 0);
-TERM hot := (50, 0) (90, 1);
-END_FUZZIFY
-FUZZIFY load RANGE := (0 .. 8);
-TERM light := (0, 1) (4, 0);
-TERM half := (0, 0) (4, 1) (8, 0);
-TERM full := (4, 0) (8, 1);
-END_FUZZIFY
-DEFUZZIFY heat RANGE := (0 .. 100);
-TERM off := 0;
-TERM low := 25;
-TERM mid := 50;
-TERM high := 75;
-TERM max := 100;
-METHOD : COGS;
-DEFAULT := 0;
-END_DEFUZZIFY
-RULEBLOCK rules
+"
+    input moisture 0 to 100: dry 0, damp 50, wet 100;
+    input air 10 to 90: cold 10, warm 50, hot 90;
+    input load 0 to 8: light 0, half 4, full 8;
+    output heat 0 to 100: off 0, low 25, mid 50, high 75, max 100;
+    "RULEBLOCK rules
 RULE 1 : IF moisture IS dry AND air IS cold AND load IS light THEN heat IS low;
 RULE 2 : IF moisture IS dry AND air IS cold AND load IS half THEN heat IS low;
 RULE 3 : IF moisture IS dry AND air IS cold AND load IS full THEN heat IS mid;
@@ -58,36 +66,20 @@ RULE 26 : IF moisture IS wet AND air IS hot AND load IS half THEN heat IS mid;
 RULE 27 : IF moisture IS wet AND air IS hot AND load IS full THEN heat IS high;
 END_RULEBLOCK
 END_FUNCTION_BLOCK
-";
+"
+};
 
 /// A pump of three inputs, whose terms have shoulders; its rules ask for some of them.
-pub const PUMP: &str = "FUNCTION_BLOCK pump
+pub const PUMP: &str = controller! {
+    "FUNCTION_BLOCK pump
 VAR_INPUT level, inflow, price : REAL; END_VAR
 VAR_OUTPUT speed : REAL; END_VAR
-FUZZIFY level RANGE := (0 .. 4);
-TERM low := (1, 1) (2, 0);
-TERM good := (1, 0) (2, 1) (3, 0);
-TERM high := (2, 0) (3, 1);
-END_FUZZIFY
-FUZZIFY inflow RANGE := (0 .. 256);
-TERM weak := (64, 1) (128, 0);
-TERM usual := (64, 0) (128, 1) (192, 0);
-TERM strong := (128, 0) (192, 1);
-END_FUZZIFY
-FUZZIFY price RANGE := (0 .. 64);
-TERM cheap := (16, 1) (32, 0);
-TERM fair := (16, 0) (32, 1) (48, 0);
-TERM dear := (32, 0) (48, 1);
-END_FUZZIFY
-DEFUZZIFY speed RANGE := (0 .. 3000);
-TERM stop := 0;
-TERM slow := 1000;
-TERM brisk := 2000;
-TERM fast := 3000;
-METHOD : COGS;
-DEFAULT := 0;
-END_DEFUZZIFY
-RULEBLOCK rules
+"
+    input level 0 to 4: low 1, good 2, high 3;
+    input inflow 0 to 256: weak 64, usual 128, strong 192;
+    input price 0 to 64: cheap 16, fair 32, dear 48;
+    output speed 0 to 3000: stop 0, slow 1000, brisk 2000, fast 3000;
+    "RULEBLOCK rules
 RULE 1 : IF level IS low AND inflow IS NOT strong THEN speed IS stop;
 RULE 2 : IF level IS low AND inflow IS strong AND price IS cheap THEN speed IS slow;
 RULE 3 : IF level IS low AND inflow IS strong AND price IS NOT cheap THEN speed IS stop;
@@ -104,36 +96,20 @@ RULE 13 : IF level IS high AND inflow IS usual THEN speed IS brisk;
 RULE 14 : IF level IS high AND inflow IS strong THEN speed IS fast;
 END_RULEBLOCK
 END_FUNCTION_BLOCK
-";
+"
+};
 
 /// A blind of three inputs, whose slopes are 76.8 bytes wide.
-pub const BLIND: &str = "FUNCTION_BLOCK blind
+pub const BLIND: &str = controller! {
+    "FUNCTION_BLOCK blind
 VAR_INPUT sun, room, wind : REAL; END_VAR
 VAR_OUTPUT close : REAL; END_VAR
-FUZZIFY sun RANGE := (0 .. 1000);
-TERM dull := (200, 1) (500, 0);
-TERM clear := (200, 0) (500, 1) (800, 0);
-TERM glaring := (500, 0) (800, 1);
-END_FUZZIFY
-FUZZIFY room RANGE := (15 .. 30);
-TERM cool := (18, 1) (21, 0);
-TERM right := (18, 0) (21, 1) (24, 0);
-TERM warm := (21, 0) (24, 1);
-END_FUZZIFY
-FUZZIFY wind RANGE := (0 .. 20);
-TERM calm := (5, 1) (10, 0);
-TERM breeze := (5, 0) (10, 1) (15, 0);
-TERM storm := (10, 0) (15, 1);
-END_FUZZIFY
-DEFUZZIFY close RANGE := (0 .. 100);
-TERM open := 0;
-TERM third := 30;
-TERM most := 70;
-TERM shut := 100;
-METHOD : COGS;
-DEFAULT := 0;
-END_DEFUZZIFY
-RULEBLOCK rules
+"
+    input sun 0 to 1000: dull 200, clear 500, glaring 800;
+    input room 15 to 30: cool 18, right 21, warm 24;
+    input wind 0 to 20: calm 5, breeze 10, storm 15;
+    output close 0 to 100: open 0, third 30, most 70, shut 100;
+    "RULEBLOCK rules
 RULE 1 : IF sun IS dull AND wind IS NOT storm THEN close IS open;
 RULE 2 : IF sun IS clear AND room IS cool AND wind IS NOT storm THEN close IS open;
 RULE 3 : IF sun IS clear AND room IS right AND wind IS NOT storm THEN close IS third;
@@ -146,7 +122,8 @@ RULE 9 : IF sun IS glaring AND room IS warm AND wind IS breeze THEN close IS mos
 RULE 10 : IF wind IS storm THEN close IS open;
 END_RULEBLOCK
 END_FUNCTION_BLOCK
-";
+"
+};
 
 /// A room with a fan and a lamp: two outputs, the lamp by one input.
 pub const ROOM: &str = "FUNCTION_BLOCK room

@@ -25,198 +25,65 @@ pub enum Flaw {
     Deep,
 }
 
+// A row is the text before a fault, the text from the fault on, and the fault.
+macro_rules! faulty {
+    ($($front:literal then $back:literal: $fault:expr;)*) => { [$(($front, $back, $fault)),*] };
+}
+
 /// Texts that are each written for one fault.
-pub static FAULTS: [(Front, Back, Flaw); 49] = [
-    (b"", b"x", Flaw::Expected),
-    (b"FUNCTION_BLOCK", b"", Flaw::Expected),
-    (b"FUNCTION_BLOCK ", b"term", Flaw::Expected),
-    (b"FUNCTION_BLOCK a VAR_INPUT x : ", b"5;", Flaw::Expected),
-    (b"FUNCTION_BLOCK a ", b"VAR END_VAR", Flaw::Unsupported(6)),
-    (
-        b"FUNCTION_BLOCK a VAR_INPUT END_VAR ",
-        b"var",
-        Flaw::Unsupported(6),
-    ),
-    (
-        b"FUNCTION_BLOCK a FUZZIFY x END_FUZZIFY ",
-        b"VAR",
-        Flaw::Expected,
-    ),
-    (b"FUNCTION_BLOCK a ", b"OPTION", Flaw::Unsupported(7)),
-    (
-        b"FUNCTION_BLOCK a FUZZIFY x END_FUZZIFY ",
-        b"Option",
-        Flaw::Unsupported(7),
-    ),
-    (
-        b"FUNCTION_BLOCK a RULEBLOCK r ",
-        b"OPTION",
-        Flaw::Unsupported(7),
-    ),
-    (
-        b"FUNCTION_BLOCK a RULEBLOCK r ACT : MIN; ",
-        b"OPTION",
-        Flaw::Unsupported(7),
-    ),
-    (
-        b"FUNCTION_BLOCK a RULEBLOCK r END_RULEBLOCK ",
-        b"OPTION",
-        Flaw::Unsupported(7),
-    ),
-    (
-        b"FUNCTION_BLOCK a RULEBLOCK r END_RULEBLOCK ",
-        b"RULEBLOCK",
-        Flaw::Unsupported(8),
-    ),
-    (
-        b"FUNCTION_BLOCK a RULEBLOCK r END_RULEBLOCK ",
-        b"END_OPTION",
-        Flaw::Expected,
-    ),
-    (
-        b"FUNCTION_BLOCK a DEFUZZIFY y METHOD : ",
-        b"COG;",
-        Flaw::Unsupported(1),
-    ),
-    (
-        b"FUNCTION_BLOCK a DEFUZZIFY y METHOD : ",
-        b"rm;",
-        Flaw::Unsupported(1),
-    ),
-    (
-        b"FUNCTION_BLOCK a DEFUZZIFY y METHOD : ",
-        b"COGZ;",
-        Flaw::Expected,
-    ),
-    (
-        b"FUNCTION_BLOCK a RULEBLOCK r AND : ",
-        b"MAX;",
-        Flaw::Expected,
-    ),
-    (
-        b"FUNCTION_BLOCK a RULEBLOCK r OR : ",
-        b"BSUM;",
-        Flaw::Unsupported(3),
-    ),
-    (
-        b"FUNCTION_BLOCK a RULEBLOCK r ACCU : ",
-        b"NSUM;",
-        Flaw::Unsupported(4),
-    ),
-    (
-        b"FUNCTION_BLOCK a DEFUZZIFY y ACCU : ",
-        b"BSUM;",
-        Flaw::Unsupported(4),
-    ),
-    (
-        b"FUNCTION_BLOCK a RULEBLOCK r ACT : ",
-        b"MAX;",
-        Flaw::Expected,
-    ),
-    (
-        b"FUNCTION_BLOCK a FUZZIFY x TERM t := (+ ",
-        b"q, 1)",
-        Flaw::Unsupported(10),
-    ),
-    (
-        b"FUNCTION_BLOCK a FUZZIFY x TERM t := (1, ",
-        b"q)",
-        Flaw::Unsupported(10),
-    ),
-    (
-        b"FUNCTION_BLOCK a FUZZIFY x TERM t := (1, ",
-        b"0.5)",
-        Flaw::Unsupported(11),
-    ),
-    (
-        b"FUNCTION_BLOCK a FUZZIFY x TERM t := (1, -",
-        b"1)",
-        Flaw::Unsupported(11),
-    ),
-    (
-        b"FUNCTION_BLOCK a FUZZIFY x TERM t := (1, -0) (2, 1.0) (3, 01) ",
-        b"",
-        Flaw::Expected,
-    ),
-    (
-        b"FUNCTION_BLOCK a FUZZIFY x TERM t := ",
-        b"-1",
-        Flaw::Unsupported(14),
-    ),
-    (
-        b"FUNCTION_BLOCK a FUZZIFY x TERM t := ",
-        b"1",
-        Flaw::Unsupported(14),
-    ),
-    (
-        b"FUNCTION_BLOCK a DEFUZZIFY y TERM t := ",
-        b"(1, 0)",
-        Flaw::Unsupported(13),
-    ),
-    (
-        b"FUNCTION_BLOCK a DEFUZZIFY y DEFAULT := nc; DEFAULT := ",
-        b"nd;",
-        Flaw::Expected,
-    ),
-    (
-        b"FUNCTION_BLOCK a RULEBLOCK r RULE 1 : IF ",
-        b"x THEN",
-        Flaw::Unsupported(12),
-    ),
-    (
-        b"FUNCTION_BLOCK a RULEBLOCK r RULE 1 : IF x IS a OR ",
-        b"y )",
-        Flaw::Unsupported(12),
-    ),
-    (
-        b"FUNCTION_BLOCK a RULEBLOCK r RULE 1 : IF x IS a THEN y IS b WITH ",
-        b"w;",
-        Flaw::Unsupported(15),
-    ),
-    (
-        b"FUNCTION_BLOCK a RULEBLOCK r RULE 1 : IF x IS a THEN y IS b WITH + ",
-        b"w;",
-        Flaw::Expected,
-    ),
-    (
-        b"FUNCTION_BLOCK a RULEBLOCK r RULE ",
-        b"1.0 : IF",
-        Flaw::Expected,
-    ),
-    (
-        b"FUNCTION_BLOCK a\r\n(* \x00\xFF // (* $ *)\r\n// \x80 *) (*\r ( \nvar_Input ",
-        b"END_FUZZIFY",
-        Flaw::Expected,
-    ),
-    (
-        b"function_Block a\r\nVAR_INPUT\r\nx,\r\nY : Real ;\r\nEnd_Var\r\n",
-        b"END_VAR",
-        Flaw::Expected,
-    ),
-    (b"(* (* *) ", b"*)", Flaw::BadByte),
-    (b"", b"(*)", Flaw::OpenComment),
-    (b"FUNCTION_BLOCK ", b"1e5", Flaw::Number(DecFault::Shape)),
-    (b"x ", b"0.00001 $", Flaw::Number(DecFault::Places)),
-    (b"RULE ", b"100001", Flaw::Number(DecFault::Large)),
-    (b"1..2 1 ", b". 2", Flaw::BadByte),
-    (b"", b"", Flaw::Expected),
-    (
-        b"FUNCTION_BLOCK a VAR_INPUT x : ",
-        b"INT;",
-        Flaw::Unsupported(5),
-    ),
-    (
-        b"FUNCTION_BLOCK a RULEBLOCK r AND : ",
-        b"PROD;",
-        Flaw::Unsupported(2),
-    ),
-    (b"", b"(* x", Flaw::OpenComment),
-    (
-        b"FUNCTION_BLOCK a RULEBLOCK r RULE 1 : IF ((((((((((((((((((((((((((((((((((((((((((((((((((((((((((((((((",
-        b"(",
-        Flaw::Deep,
-    ),
-];
+pub static FAULTS: [(Front, Back, Flaw); 49] = faulty! {
+    b"" then b"x": Flaw::Expected;
+    b"FUNCTION_BLOCK" then b"": Flaw::Expected;
+    b"FUNCTION_BLOCK " then b"term": Flaw::Expected;
+    b"FUNCTION_BLOCK a VAR_INPUT x : " then b"5;": Flaw::Expected;
+    b"FUNCTION_BLOCK a " then b"VAR END_VAR": Flaw::Unsupported(6);
+    b"FUNCTION_BLOCK a VAR_INPUT END_VAR " then b"var": Flaw::Unsupported(6);
+    b"FUNCTION_BLOCK a FUZZIFY x END_FUZZIFY " then b"VAR": Flaw::Expected;
+    b"FUNCTION_BLOCK a " then b"OPTION": Flaw::Unsupported(7);
+    b"FUNCTION_BLOCK a FUZZIFY x END_FUZZIFY " then b"Option": Flaw::Unsupported(7);
+    b"FUNCTION_BLOCK a RULEBLOCK r " then b"OPTION": Flaw::Unsupported(7);
+    b"FUNCTION_BLOCK a RULEBLOCK r ACT : MIN; " then b"OPTION": Flaw::Unsupported(7);
+    b"FUNCTION_BLOCK a RULEBLOCK r END_RULEBLOCK " then b"OPTION": Flaw::Unsupported(7);
+    b"FUNCTION_BLOCK a RULEBLOCK r END_RULEBLOCK " then b"RULEBLOCK": Flaw::Unsupported(8);
+    b"FUNCTION_BLOCK a RULEBLOCK r END_RULEBLOCK " then b"END_OPTION": Flaw::Expected;
+    b"FUNCTION_BLOCK a DEFUZZIFY y METHOD : " then b"COG;": Flaw::Unsupported(1);
+    b"FUNCTION_BLOCK a DEFUZZIFY y METHOD : " then b"rm;": Flaw::Unsupported(1);
+    b"FUNCTION_BLOCK a DEFUZZIFY y METHOD : " then b"COGZ;": Flaw::Expected;
+    b"FUNCTION_BLOCK a RULEBLOCK r AND : " then b"MAX;": Flaw::Expected;
+    b"FUNCTION_BLOCK a RULEBLOCK r OR : " then b"BSUM;": Flaw::Unsupported(3);
+    b"FUNCTION_BLOCK a RULEBLOCK r ACCU : " then b"NSUM;": Flaw::Unsupported(4);
+    b"FUNCTION_BLOCK a DEFUZZIFY y ACCU : " then b"BSUM;": Flaw::Unsupported(4);
+    b"FUNCTION_BLOCK a RULEBLOCK r ACT : " then b"MAX;": Flaw::Expected;
+    b"FUNCTION_BLOCK a FUZZIFY x TERM t := (+ " then b"q, 1)": Flaw::Unsupported(10);
+    b"FUNCTION_BLOCK a FUZZIFY x TERM t := (1, " then b"q)": Flaw::Unsupported(10);
+    b"FUNCTION_BLOCK a FUZZIFY x TERM t := (1, " then b"0.5)": Flaw::Unsupported(11);
+    b"FUNCTION_BLOCK a FUZZIFY x TERM t := (1, -" then b"1)": Flaw::Unsupported(11);
+    b"FUNCTION_BLOCK a FUZZIFY x TERM t := (1, -0) (2, 1.0) (3, 01) " then b"": Flaw::Expected;
+    b"FUNCTION_BLOCK a FUZZIFY x TERM t := " then b"-1": Flaw::Unsupported(14);
+    b"FUNCTION_BLOCK a FUZZIFY x TERM t := " then b"1": Flaw::Unsupported(14);
+    b"FUNCTION_BLOCK a DEFUZZIFY y TERM t := " then b"(1, 0)": Flaw::Unsupported(13);
+    b"FUNCTION_BLOCK a DEFUZZIFY y DEFAULT := nc; DEFAULT := " then b"nd;": Flaw::Expected;
+    b"FUNCTION_BLOCK a RULEBLOCK r RULE 1 : IF " then b"x THEN": Flaw::Unsupported(12);
+    b"FUNCTION_BLOCK a RULEBLOCK r RULE 1 : IF x IS a OR " then b"y )": Flaw::Unsupported(12);
+    b"FUNCTION_BLOCK a RULEBLOCK r RULE 1 : IF x IS a THEN y IS b WITH " then b"w;": Flaw::Unsupported(15);
+    b"FUNCTION_BLOCK a RULEBLOCK r RULE 1 : IF x IS a THEN y IS b WITH + " then b"w;": Flaw::Expected;
+    b"FUNCTION_BLOCK a RULEBLOCK r RULE " then b"1.0 : IF": Flaw::Expected;
+    b"FUNCTION_BLOCK a\r\n(* \x00\xFF // (* $ *)\r\n// \x80 *) (*\r ( \nvar_Input "
+        then b"END_FUZZIFY": Flaw::Expected;
+    b"function_Block a\r\nVAR_INPUT\r\nx,\r\nY : Real ;\r\nEnd_Var\r\n" then b"END_VAR": Flaw::Expected;
+    b"(* (* *) " then b"*)": Flaw::BadByte;
+    b"" then b"(*)": Flaw::OpenComment;
+    b"FUNCTION_BLOCK " then b"1e5": Flaw::Number(DecFault::Shape);
+    b"x " then b"0.00001 $": Flaw::Number(DecFault::Places);
+    b"RULE " then b"100001": Flaw::Number(DecFault::Large);
+    b"1..2 1 " then b". 2": Flaw::BadByte;
+    b"" then b"": Flaw::Expected;
+    b"FUNCTION_BLOCK a VAR_INPUT x : " then b"INT;": Flaw::Unsupported(5);
+    b"FUNCTION_BLOCK a RULEBLOCK r AND : " then b"PROD;": Flaw::Unsupported(2);
+    b"" then b"(* x": Flaw::OpenComment;
+    b"FUNCTION_BLOCK a RULEBLOCK r RULE 1 : IF (((((((((((((((((((((((((((((((((((((((((((((((((((((((((((((((("
+        then b"(": Flaw::Deep;
+};
 
 /// The text before the two parts of a text with a load fault.
 const HEAD: &[u8] = b"FUNCTION_BLOCK a ";
@@ -226,121 +93,48 @@ const TAIL: &[u8] = b" END_RULEBLOCK END_FUNCTION_BLOCK";
 
 /// Texts with a load fault, with the number of its kind, between [`HEAD`] and [`TAIL`]. Most have faults of later
 /// kinds too, some at earlier offsets.
-pub static LOAD_FAULTS: [(Front, Back, u8); 25] = [
-    (b"VAR_INPUT x, ", b"X : REAL; END_VAR RULEBLOCK r", 1),
-    (
-        b"VAR_INPUT x : REAL; END_VAR VAR_OUTPUT ",
-        b"x : REAL; END_VAR RULEBLOCK r",
-        1,
-    ),
-    (
-        b"FUZZIFY x END_FUZZIFY DEFUZZIFY ",
-        b"x END_DEFUZZIFY RULEBLOCK r",
-        1,
-    ),
-    (
-        b"FUZZIFY x TERM t := (0,1); TERM ",
-        b"t := (0,1); END_FUZZIFY RULEBLOCK r",
-        1,
-    ),
-    (
-        b"FUZZIFY x RANGE (0..1); ",
-        b"RANGE (0..1); END_FUZZIFY RULEBLOCK r",
-        1,
-    ),
-    (
-        b"DEFUZZIFY x ACCU : MAX; DEFAULT := NC; ",
-        b"DEFAULT := 1; END_DEFUZZIFY RULEBLOCK r",
-        1,
-    ),
-    (b"RULEBLOCK r AND : MIN; ACCU : MAX; ", b"AND : MIN;", 1),
-    (b"FUZZIFY ", b"x END_FUZZIFY RULEBLOCK r", 2),
-    (
-        b"VAR_INPUT x : REAL; END_VAR RULEBLOCK r RULE 1 : IF x IS ",
-        b"t THEN x IS t;",
-        2,
-    ),
-    (
-        b"VAR_OUTPUT y : REAL; END_VAR RULEBLOCK r RULE 1 : IF y IS t THEN ",
-        b"z IS t;",
-        2,
-    ),
-    (
-        b"VAR_INPUT t : REAL; END_VAR
+pub static LOAD_FAULTS: [(Front, Back, u8); 25] = faulty! {
+    b"VAR_INPUT x, " then b"X : REAL; END_VAR RULEBLOCK r": 1;
+    b"VAR_INPUT x : REAL; END_VAR VAR_OUTPUT " then b"x : REAL; END_VAR RULEBLOCK r": 1;
+    b"FUZZIFY x END_FUZZIFY DEFUZZIFY " then b"x END_DEFUZZIFY RULEBLOCK r": 1;
+    b"FUZZIFY x TERM t := (0,1); TERM " then b"t := (0,1); END_FUZZIFY RULEBLOCK r": 1;
+    b"FUZZIFY x RANGE (0..1); " then b"RANGE (0..1); END_FUZZIFY RULEBLOCK r": 1;
+    b"DEFUZZIFY x ACCU : MAX; DEFAULT := NC; " then b"DEFAULT := 1; END_DEFUZZIFY RULEBLOCK r": 1;
+    b"RULEBLOCK r AND : MIN; ACCU : MAX; " then b"AND : MIN;": 1;
+    b"FUZZIFY " then b"x END_FUZZIFY RULEBLOCK r": 2;
+    b"VAR_INPUT x : REAL; END_VAR RULEBLOCK r RULE 1 : IF x IS " then b"t THEN x IS t;": 2;
+    b"VAR_OUTPUT y : REAL; END_VAR RULEBLOCK r RULE 1 : IF y IS t THEN " then b"z IS t;": 2;
+    b"VAR_INPUT t : REAL; END_VAR
 VAR_OUTPUT power : REAL; END_VAR
 FUZZIFY t TERM cold := (0, 1) (256, 0); TERM hot := (0, 0) (256, 1); END_FUZZIFY
 DEFUZZIFY power TERM off := 0; TERM on := 100; METHOD : COGS; DEFAULT := 0; END_DEFUZZIFY
 RULEBLOCK r
 RULE 1 : IF t IS cold THEN power IS off;
-RULE 2 : IF t IS ",
-        b"warm THEN power IS on;",
-        2,
-    ),
-    (
-        b"VAR_INPUT x : REAL; END_VAR FUZZIFY x RANGE (1..0); ",
-        b"END_FUZZIFY RULEBLOCK r",
-        3,
-    ),
-    (
-        b"VAR_INPUT a,b,c,d,e,f,g,h, ",
-        b"i : REAL; END_VAR RULEBLOCK r",
-        4,
-    ),
-    (b"VAR_OUTPUT a,b,c,d, ", b"e : REAL; END_VAR RULEBLOCK r", 4),
-    (
-        b"VAR_INPUT x : REAL; END_VAR FUZZIFY x TERM t := (1,0) (1,0) ",
-        b"(0,1); RANGE (5..5); END_FUZZIFY RULEBLOCK r",
-        5,
-    ),
-    (
-        b"VAR_INPUT x : REAL; END_VAR FUZZIFY x TERM s := (9,1); ",
-        b"TERM t := (0,1) (1,0) (2,1); RANGE (0..2); END_FUZZIFY RULEBLOCK r",
-        6,
-    ),
-    (
-        b"VAR_INPUT x : REAL; END_VAR FUZZIFY x TERM t := (0,1) ",
-        b"(2.5,0); RANGE (0..2.4); END_FUZZIFY RULEBLOCK r",
-        7,
-    ),
-    (
-        b"VAR_INPUT x : REAL; END_VAR FUZZIFY ",
-        b"x TERM t := (1,1); END_FUZZIFY RULEBLOCK r",
-        8,
-    ),
-    (
-        b"VAR_OUTPUT y : REAL; END_VAR DEFUZZIFY y TERM t := 5; ",
-        b"RANGE := (1..1); END_DEFUZZIFY RULEBLOCK r",
-        8,
-    ),
-    (
-        b"VAR_OUTPUT y : REAL; END_VAR DEFUZZIFY y TERM s := 0; ",
-        b"TERM t := 2; RANGE (0..1); DEFAULT := -1; END_DEFUZZIFY RULEBLOCK r",
-        9,
-    ),
-    (
-        b"VAR_INPUT x : REAL; END_VAR VAR_OUTPUT y : REAL; END_VAR FUZZIFY x TERM t := (0,1) (1,0); END_FUZZIFY \
-          DEFUZZIFY y TERM t := 0; END_DEFUZZIFY RULEBLOCK r RULE 1 : IF x IS t THEN y IS t ",
-        b"WITH 1.0001;",
-        10,
-    ),
-    (
-        b"VAR_INPUT x : REAL; END_VAR VAR_OUTPUT y : REAL; END_VAR FUZZIFY x TERM t := (0,1) (1,0); END_FUZZIFY \
-          DEFUZZIFY y TERM t := 0; END_DEFUZZIFY RULEBLOCK r RULE 1 : IF ",
-        b"y IS t THEN x IS t;",
-        11,
-    ),
-    (
-        b"VAR_OUTPUT y : REAL; END_VAR FUZZIFY ",
-        b"y TERM t := (1,1); END_FUZZIFY RULEBLOCK r",
-        11,
-    ),
-    (b"VAR_INPUT ", b"x : REAL; END_VAR RULEBLOCK r", 12),
-    (
-        b"VAR_OUTPUT y : REAL; END_VAR DEFUZZIFY y TERM t := 1; METHOD : COGS; ",
-        b"END_DEFUZZIFY RULEBLOCK r",
-        12,
-    ),
-];
+RULE 2 : IF t IS "
+        then b"warm THEN power IS on;": 2;
+    b"VAR_INPUT x : REAL; END_VAR FUZZIFY x RANGE (1..0); " then b"END_FUZZIFY RULEBLOCK r": 3;
+    b"VAR_INPUT a,b,c,d,e,f,g,h, " then b"i : REAL; END_VAR RULEBLOCK r": 4;
+    b"VAR_OUTPUT a,b,c,d, " then b"e : REAL; END_VAR RULEBLOCK r": 4;
+    b"VAR_INPUT x : REAL; END_VAR FUZZIFY x TERM t := (1,0) (1,0) "
+        then b"(0,1); RANGE (5..5); END_FUZZIFY RULEBLOCK r": 5;
+    b"VAR_INPUT x : REAL; END_VAR FUZZIFY x TERM s := (9,1); "
+        then b"TERM t := (0,1) (1,0) (2,1); RANGE (0..2); END_FUZZIFY RULEBLOCK r": 6;
+    b"VAR_INPUT x : REAL; END_VAR FUZZIFY x TERM t := (0,1) "
+        then b"(2.5,0); RANGE (0..2.4); END_FUZZIFY RULEBLOCK r": 7;
+    b"VAR_INPUT x : REAL; END_VAR FUZZIFY " then b"x TERM t := (1,1); END_FUZZIFY RULEBLOCK r": 8;
+    b"VAR_OUTPUT y : REAL; END_VAR DEFUZZIFY y TERM t := 5; " then b"RANGE := (1..1); END_DEFUZZIFY RULEBLOCK r": 8;
+    b"VAR_OUTPUT y : REAL; END_VAR DEFUZZIFY y TERM s := 0; "
+        then b"TERM t := 2; RANGE (0..1); DEFAULT := -1; END_DEFUZZIFY RULEBLOCK r": 9;
+    b"VAR_INPUT x : REAL; END_VAR VAR_OUTPUT y : REAL; END_VAR FUZZIFY x TERM t := (0,1) (1,0); END_FUZZIFY \
+          DEFUZZIFY y TERM t := 0; END_DEFUZZIFY RULEBLOCK r RULE 1 : IF x IS t THEN y IS t "
+        then b"WITH 1.0001;": 10;
+    b"VAR_INPUT x : REAL; END_VAR VAR_OUTPUT y : REAL; END_VAR FUZZIFY x TERM t := (0,1) (1,0); END_FUZZIFY \
+          DEFUZZIFY y TERM t := 0; END_DEFUZZIFY RULEBLOCK r RULE 1 : IF "
+        then b"y IS t THEN x IS t;": 11;
+    b"VAR_OUTPUT y : REAL; END_VAR FUZZIFY " then b"y TERM t := (1,1); END_FUZZIFY RULEBLOCK r": 11;
+    b"VAR_INPUT " then b"x : REAL; END_VAR RULEBLOCK r": 12;
+    b"VAR_OUTPUT y : REAL; END_VAR DEFUZZIFY y TERM t := 1; METHOD : COGS; " then b"END_DEFUZZIFY RULEBLOCK r": 12;
+};
 
 /// A text with a load fault, and the fault's offset.
 pub fn with_load_fault(
