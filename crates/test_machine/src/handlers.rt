@@ -7,7 +7,11 @@ use std::test::Fail;
 type Judged = Result<Handler, HandlerFault>;
 
 /// Adds bytes from an address on.
-fn push_bytes(items: &mut Vec<Item>, place: u16, bytes: &[u8]) -> Result<(), AllocError> {
+pub(crate) fn push_bytes(
+    items: &mut Vec<Item>,
+    place: u16,
+    bytes: &[u8],
+) -> Result<(), AllocError> {
     items.push(Item::Place(place))?;
     for byte in bytes {
         items.push(Item::Byte(*byte))?;

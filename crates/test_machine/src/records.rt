@@ -1,23 +1,16 @@
 //! Records and images.
 use cpu12_asm::{ByteMap, Image};
 use srecord::{SrecFault, read, write};
-use std::alloc::{AllocError, Global};
+use std::alloc::Global;
 use std::test::Fail;
-
-fn put(bytes: &mut ByteMap, at: u16, new: &[u8]) -> Result<(), AllocError> {
-    let mut next = at;
-    for byte in new {
-        bytes.insert(next, *byte)?;
-        next = next.wrapping_add(1);
-    }
-    Ok(())
-}
 
 /// The first and the last record of a run of 33 bytes, and the count.
 #[test]
 fn a_run_is_cut_at_32(rt: HostRuntime) -> Result<(), Fail> {
     let mut bytes = ByteMap::new(rt.alloc());
-    put(&mut bytes, 0xC000, &[0; 33])?;
+    for at in 0xC000..0xC021u16 {
+        bytes.insert(at, 0)?;
+    }
     let image = Image { bytes, start: 0 };
     let text = write(rt.alloc(), &image)?;
     let end: &[u8] = b"00001C\nS104C020001B\nS5030002FA\nS9030000FC\n";
@@ -48,21 +41,25 @@ fn images(rt: HostRuntime) {
     }
 }
 
-static BAD: [(&[u8], SrecFault); 19] = [
+// The first line of each is bad.
+static BAD_LINES: [&[u8]; 9] = [
+    b"\n",
+    b"S",
+    b"S403C0003C",
+    b"S603C0003C",
+    b"S904C0003B",
+    b"S904C000003B",
+    b"S504000000FB",
+    b"S903C0003C\r",
+    b"S903C0003C ",
+];
+
+static FAULTS: [(&[u8], SrecFault); 10] = [
     (b"S0030000FC\n", SrecFault::NoEnd),
     (b"S2", SrecFault::Wide(1)),
     (b"s3xyz", SrecFault::Wide(1)),
     (b"S0030000FC\nS70500000000FA", SrecFault::Wide(2)),
     (b"S804000000FB", SrecFault::Wide(1)),
-    (b"\n", SrecFault::BadLine(1)),
-    (b"S", SrecFault::BadLine(1)),
-    (b"S403C0003C", SrecFault::BadLine(1)),
-    (b"S603C0003C", SrecFault::BadLine(1)),
-    (b"S904C0003B", SrecFault::BadLine(1)),
-    (b"S904C000003B", SrecFault::BadLine(1)),
-    (b"S504000000FB", SrecFault::BadLine(1)),
-    (b"S903C0003C\r", SrecFault::BadLine(1)),
-    (b"S903C0003C ", SrecFault::BadLine(1)),
     (
         b"S104C000013A\nS105BFFF02033A",
         SrecFault::BadSum(2, 0x3A, 0x37),
@@ -75,7 +72,11 @@ static BAD: [(&[u8], SrecFault); 19] = [
 
 #[test]
 fn faults(rt: HostRuntime) {
-    for (text, want) in BAD.iter() {
+    for text in BAD_LINES.iter() {
+        let fault = SrecFault::BadLine(1);
+        assert!(rt; read_from(rt.alloc(), text) == Some(Err(fault)), "{text:?}");
+    }
+    for (text, want) in FAULTS.iter() {
         assert!(rt; read_from(rt.alloc(), text) == Some(Err(*want)), "{text:?}");
     }
 }

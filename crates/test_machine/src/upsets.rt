@@ -46,7 +46,17 @@ fn upsets_are_read(rt: HostRuntime) -> Result<(), Fail> {
     Ok(())
 }
 
-static ROWS: [(&[u8], UpsetFault); 14] = [
+// The first row of each is bad.
+static BAD: [&[u8]; 6] = [
+    b"0,D000,00",
+    b"1,D000",
+    b"1,D000,00,00",
+    b"1,D00,00",
+    b"1,D000,0",
+    b"1000000000,D000,00",
+];
+
+static ROWS: [(&[u8], UpsetFault); 8] = [
     (b"1,D202,00", UpsetFault::NotTable(1, 0xD202)),
     (b"1,C000,00", UpsetFault::NotTable(1, 0xC000)),
     (b"1,CFFF,00", UpsetFault::NotTable(1, 0xCFFF)),
@@ -55,17 +65,15 @@ static ROWS: [(&[u8], UpsetFault); 14] = [
     (b"2,D000,00\n2,D201,00", UpsetFault::NotAscending(2)),
     (b"2,D000,00\n1,D201,00", UpsetFault::NotAscending(2)),
     (b"2,D000,00\n1,D202,00", UpsetFault::NotTable(2, 0xD202)),
-    (b"0,D000,00", UpsetFault::BadRow(1)),
-    (b"1,D000", UpsetFault::BadRow(1)),
-    (b"1,D000,00,00", UpsetFault::BadRow(1)),
-    (b"1,D00,00", UpsetFault::BadRow(1)),
-    (b"1,D000,0", UpsetFault::BadRow(1)),
-    (b"1000000000,D000,00", UpsetFault::BadRow(1)),
 ];
 
 #[test]
 fn upset_faults(rt: HostRuntime) -> Result<(), Fail> {
     let image = image(rt.alloc())?;
+    for text in BAD.iter() {
+        let fault = read_upsets(rt.alloc(), text, &image).err();
+        assert!(rt; fault == Some(UpsetFault::BadRow(1)), "{text:?}");
+    }
     for (text, want) in ROWS.iter() {
         let fault = read_upsets(rt.alloc(), text, &image).err();
         assert!(rt; fault == Some(*want), "{text:?}");
