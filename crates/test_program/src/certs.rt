@@ -2,6 +2,7 @@
 ghost use Rattle.std.specs.Prelude.{◌≤◌};
 
 use std::alloc::{AllocError, Global};
+use std::fmt::Write;
 use std::test::Fail;
 use test_program_calls::{Difference, Left, call_over, rows};
 use test_texts::{
@@ -109,12 +110,12 @@ fn certificates(rt: HostRuntime) -> Result<(), Fail> {
 static CHECK: [&str; 4] = ["fuzz12", "check", "first", "second"];
 
 /// The line of a cut of the only input.
-fn push_cut(alloc: Global, text: &mut String, cut: u32) -> Result<(), AllocError> {
-    text.push_str(&format!(in alloc; "split 1 {cut}\n")?)
+fn push_cut(text: &mut String, cut: u32) -> Result<(), AllocError> {
+    write!(text, "split 1 {cut}\n")
 }
 
 /// A leaf for a byte, with the rule that is stronger there.
-fn push_leaf(alloc: Global, text: &mut String, byte: u32) -> Result<(), AllocError>
+fn push_leaf(text: &mut String, byte: u32) -> Result<(), AllocError>
     requires { byte ≤ 255 }
 {
     let (rule, part) = if byte < 128 {
@@ -122,7 +123,7 @@ fn push_leaf(alloc: Global, text: &mut String, byte: u32) -> Result<(), AllocErr
     } else {
         (2, byte - 1)
     };
-    text.push_str(&format!(in alloc; "leaf {rule} {part}\n")?)
+    write!(text, "leaf {rule} {part}\n")
 }
 
 /// The heater's certificate with a leaf for each byte, cut from the last byte down, but with this
@@ -131,12 +132,12 @@ fn each_byte(alloc: Global, first: u32, leaves: u32) -> Result<String, AllocErro
     requires { leaves ≤ 256 }
 {
     let mut text = String::from_str(alloc, "FZC 1\nclaim 11796\n")?;
-    push_cut(alloc, &mut text, first)?;
+    push_cut(&mut text, first)?;
     for cut in (1..255u32).rev() {
-        push_cut(alloc, &mut text, cut)?;
+        push_cut(&mut text, cut)?;
     }
     for byte in 0..leaves {
-        push_leaf(alloc, &mut text, byte)?;
+        push_leaf(&mut text, byte)?;
     }
     Ok(text)
 }

@@ -1,5 +1,6 @@
 //! Malicious files, and the longest ones of each kind.
 use std::alloc::{AllocError, Global};
+use std::fmt::Write;
 use std::test::Fail;
 use test_program_calls::{
     Difference, Left, NONE, call, file_holds, push_file, push_room, shelf_of,
@@ -296,44 +297,18 @@ fn cases(alloc: Global, table: &[Given]) -> Result<(), Difference> {
 }
 
 #[test]
-fn blocks(rt: HostRuntime) -> Result<(), Fail> {
-    cases(rt.alloc(), BLOCKS.as_slice())?;
-    Ok(())
-}
-
-#[test]
-fn images(rt: HostRuntime) -> Result<(), Fail> {
-    cases(rt.alloc(), IMAGES.as_slice())?;
-    Ok(())
-}
-
-#[test]
-fn certificates(rt: HostRuntime) -> Result<(), Fail> {
-    cases(rt.alloc(), CERTIFICATES.as_slice())?;
-    Ok(())
-}
-
-#[test]
-fn traces(rt: HostRuntime) -> Result<(), Fail> {
-    cases(rt.alloc(), TRACES.as_slice())?;
-    Ok(())
-}
-
-#[test]
-fn plans(rt: HostRuntime) -> Result<(), Fail> {
-    cases(rt.alloc(), PLANS.as_slice())?;
-    Ok(())
-}
-
-#[test]
-fn levels(rt: HostRuntime) -> Result<(), Fail> {
-    cases(rt.alloc(), LEVEL_ROWS.as_slice())?;
-    Ok(())
-}
-
-#[test]
-fn sources(rt: HostRuntime) -> Result<(), Fail> {
-    cases(rt.alloc(), SOURCES.as_slice())?;
+fn malicious_files(rt: HostRuntime) -> Result<(), Fail> {
+    for table in [
+        BLOCKS.as_slice(),
+        IMAGES.as_slice(),
+        CERTIFICATES.as_slice(),
+        TRACES.as_slice(),
+        PLANS.as_slice(),
+        LEVEL_ROWS.as_slice(),
+        SOURCES.as_slice(),
+    ] {
+        cases(rt.alloc(), table)?;
+    }
     Ok(())
 }
 
@@ -341,7 +316,7 @@ fn sources(rt: HostRuntime) -> Result<(), Fail> {
 fn labels(alloc: Global) -> Result<String, AllocError> {
     let mut text = String::new(alloc);
     for number in 0..8192u32 {
-        text.push_str(&format!(in alloc; "L{number:0126}\n")?)?;
+        write!(&mut text, "L{number:0126}\n")?;
     }
     Ok(text)
 }
@@ -362,11 +337,11 @@ fn a_source_of_labels(rt: HostRuntime) -> Result<(), Fail> {
 }
 
 /// The record of one byte, with its checksum.
-fn push_record(alloc: Global, text: &mut String, address: u16, byte: u8) -> Result<(), AllocError> {
+fn push_record(text: &mut String, address: u16, byte: u8) -> Result<(), AllocError> {
     let [high, low] = address.to_be_bytes();
     let sum = 4u8.wrapping_add(high).wrapping_add(low).wrapping_add(byte);
     let check = 255 - sum;
-    text.push_str(&format!(in alloc; "S104{address:04X}{byte:02X}{check:02X}\n")?)
+    write!(text, "S104{address:04X}{byte:02X}{check:02X}\n")
 }
 
 /// Each byte of memory in its own record, from the last address to the first: a branch to itself at
@@ -380,7 +355,7 @@ fn every_byte(alloc: Global) -> Result<String, AllocError> {
             0xFFFE => 0xC0,
             _ => 0,
         };
-        push_record(alloc, &mut text, address, byte)?;
+        push_record(&mut text, address, byte)?;
     }
     text.push_str("S9030000FC\n")?;
     Ok(text)
@@ -404,7 +379,7 @@ fn lines_of_samples(alloc: Global) -> Result<String, AllocError> {
     let mut text = String::from_str(alloc, BOUNDS)?;
     for k in 1..10_001u32 {
         let counts = "bytes 64 answers 64 instructions 28 steps 36 resumed 0 frames 0";
-        text.push_str(&format!(in alloc; "sample {k} {counts}\n")?)?;
+        write!(&mut text, "sample {k} {counts}\n")?;
     }
     text.push_str("left 208\n")?;
     Ok(text)

@@ -227,87 +227,11 @@ fn runs_under_upsets(rt: HostRuntime) -> Result<(), Fail> {
 /// The bits of a byte.
 static BITS: [u8; 8] = [0x01, 0x02, 0x04, 0x08, 0x10, 0x20, 0x40, 0x80];
 
-/// A byte of the heater's tables, with its address.
-#[derive(Clone, Copy)]
-struct Byte {
-    at: &'static str,
-    value: u8,
-}
-
-/// All bytes of its tables: the terms' table, the singletons and the rule list.
-static BYTES: [Byte; 18] = [
-    Byte {
-        at: "D000",
-        value: 0x00,
-    },
-    Byte {
-        at: "D001",
-        value: 0xFF,
-    },
-    Byte {
-        at: "D002",
-        value: 0x00,
-    },
-    Byte {
-        at: "D003",
-        value: 0x01,
-    },
-    Byte {
-        at: "D004",
-        value: 0x00,
-    },
-    Byte {
-        at: "D005",
-        value: 0xFF,
-    },
-    Byte {
-        at: "D006",
-        value: 0x01,
-    },
-    Byte {
-        at: "D007",
-        value: 0x00,
-    },
-    Byte {
-        at: "D200",
-        value: 0x00,
-    },
-    Byte {
-        at: "D201",
-        value: 0xFF,
-    },
-    Byte {
-        at: "D800",
-        value: 0x00,
-    },
-    Byte {
-        at: "D801",
-        value: 0xFE,
-    },
-    Byte {
-        at: "D802",
-        value: 0x02,
-    },
-    Byte {
-        at: "D803",
-        value: 0xFE,
-    },
-    Byte {
-        at: "D804",
-        value: 0x01,
-    },
-    Byte {
-        at: "D805",
-        value: 0xFE,
-    },
-    Byte {
-        at: "D806",
-        value: 0x03,
-    },
-    Byte {
-        at: "D807",
-        value: 0xFF,
-    },
+/// The heater's tables by their addresses: the terms' table, the singletons and the rule list.
+static TABLES: [(u16, &[u8]); 3] = [
+    (0xD000, &[0x00, 0xFF, 0x00, 0x01, 0x00, 0xFF, 0x01, 0x00]),
+    (0xD200, &[0x00, 0xFF]),
+    (0xD800, &[0x00, 0xFE, 0x02, 0xFE, 0x01, 0xFE, 0x03, 0xFF]),
 ];
 
 /// A trace with a sample for each bit of a byte, the upsets that flip the bits, and the lines of the run.
@@ -319,9 +243,9 @@ struct Flips {
 }
 
 /// Adds a sample in which a byte has another value.
-fn push_flip(flips: &mut Flips, sample: usize, at: &str, value: u8) -> Result<(), AllocError> {
+fn push_flip(flips: &mut Flips, sample: usize, at: u16, value: u8) -> Result<(), AllocError> {
     write!(&mut flips.trace, "64\n")?;
-    write!(&mut flips.upsets, "{sample},{at},{value:02X}\n")?;
+    write!(&mut flips.upsets, "{sample},{at:04X},{value:02X}\n")?;
     write!(
         &mut flips.lines,
         "sample {sample} bytes 64 answers 0 instructions 70 steps 70 resumed 0 frames 0 fault 1\n"
@@ -329,21 +253,21 @@ fn push_flip(flips: &mut Flips, sample: usize, at: &str, value: u8) -> Result<()
 }
 
 /// The flips of each bit of a byte.
-fn flips_of(alloc: Global, byte: Byte) -> Result<Flips, AllocError> {
+fn flips_of(alloc: Global, at: u16, byte: u8) -> Result<Flips, AllocError> {
     let mut flips = Flips {
         trace: String::new(alloc),
         upsets: String::new(alloc),
         lines: String::from_str(alloc, "error 1 19609\ninstructions 89\n")?,
     };
-    for (at, bit) in BITS.iter().enumerate() {
-        push_flip(&mut flips, at + 1, byte.at, byte.value ^ *bit)?;
+    for (number, bit) in BITS.iter().enumerate() {
+        push_flip(&mut flips, number + 1, at, byte ^ *bit)?;
     }
     Ok(flips)
 }
 
 /// Checks the heater's run with each bit of a byte flipped in turn.
-fn run_flipped(alloc: Global, byte: Byte) -> Result<(), Difference> {
-    let flips = flips_of(alloc, byte)?;
+fn run_flipped(alloc: Global, at: u16, byte: u8) -> Result<(), Difference> {
+    let flips = flips_of(alloc, at, byte)?;
     let left = Left::Lines(flips.lines.as_str());
     run_over(
         alloc,
@@ -354,10 +278,18 @@ fn run_flipped(alloc: Global, byte: Byte) -> Result<(), Difference> {
     )
 }
 
+/// Checks the same for each of the bytes that stand from an address on.
+fn run_each_flipped(alloc: Global, from: u16, bytes: &[u8]) -> Result<(), Difference> {
+    for (at, byte) in (from..=0xFFFF).zip(bytes) {
+        run_flipped(alloc, at, *byte)?;
+    }
+    Ok(())
+}
+
 #[test]
 fn each_bit_is_seen(rt: HostRuntime) -> Result<(), Fail> {
-    for byte in BYTES.iter() {
-        run_flipped(rt.alloc(), *byte)?;
+    for (from, bytes) in TABLES.iter() {
+        run_each_flipped(rt.alloc(), *from, bytes)?;
     }
     Ok(())
 }

@@ -10,6 +10,7 @@ use fuzzy_meaning::Block;
 use fz_run::Row;
 use interrupt_plan::no_interrupts;
 use std::alloc::{AllocError, Global};
+use std::fmt::Write;
 use std::process::Abort;
 use std::test::Fail;
 use test_texts::{BACK, FRONT, HALF_WEIGHT, LATCH, MIDDLE, SECOND, joined};
@@ -209,31 +210,36 @@ fn singleton(o: u32, k: u32) -> u32
 
 /// Input `i`: the degree of its term `k` is 1 only at 16*k, and 0 from the points of the neighbouring
 /// terms on.
-fn push_input(alloc: Global, text: &mut String, i: u32) -> Result<(), AllocError> {
-    text.push_str(&format!(in alloc; "FUZZIFY x{i} RANGE := (0 .. 256);\n")?)?;
+fn push_input(text: &mut String, i: u32) -> Result<(), AllocError> {
+    write!(text, "FUZZIFY x{i} RANGE := (0 .. 256);\n")?;
     for k in 1..16u32 {
         let (first, mid, last) = (16 * k - 16, 16 * k, 16 * k + 16);
-        text.push_str(&format!(in alloc; "TERM t{k} := ({first}, 0) ({mid}, 1) ({last}, 0);\n")?)?;
+        write!(text, "TERM t{k} := ({first}, 0) ({mid}, 1) ({last}, 0);\n")?;
     }
     text.push_str("END_FUZZIFY\n")
 }
 
-fn push_output(alloc: Global, text: &mut String, o: u32, default: &str) -> Result<(), AllocError> {
-    text.push_str(&format!(in alloc; "DEFUZZIFY y{o} RANGE := (0 .. 255);\n")?)?;
+fn push_output(text: &mut String, o: u32, default: &str) -> Result<(), AllocError> {
+    write!(text, "DEFUZZIFY y{o} RANGE := (0 .. 255);\n")?;
     for k in 1..16u32 {
         let value = singleton(o, k);
-        text.push_str(&format!(in alloc; "TERM s{k} := {value};\n")?)?;
+        write!(text, "TERM s{k} := {value};\n")?;
     }
-    text.push_str(&format!(in alloc; "METHOD : COGS; DEFAULT := {default}; END_DEFUZZIFY\n")?)
+    write!(text, "METHOD : COGS; DEFAULT := {default}; END_DEFUZZIFY\n")
 }
 
 /// Rules that use the complement of each term, and spread into two conjunctions each.
-fn push_rules(alloc: Global, text: &mut String) -> Result<(), AllocError> {
+fn push_rules(text: &mut String) -> Result<(), AllocError> {
     for r in 0..256u32 {
         let (k, i) = (r % 15 + 1, r % 120 / 15 + 1);
-        let cond = format!(in alloc; "x1 IS t{k} AND (x{i} IS NOT t{k} OR x2 IS NOT t{k})")?;
-        let concl = format!(in alloc; "y1 IS s{k}, y2 IS s{k}, y3 IS s{k}, y4 IS s{k}")?;
-        text.push_str(&format!(in alloc; "RULE {r} : IF {cond} THEN {concl};\n")?)?;
+        write!(
+            text,
+            "RULE {r} : IF x1 IS t{k} AND (x{i} IS NOT t{k} OR x2 IS NOT t{k})"
+        )?;
+        write!(
+            text,
+            " THEN y1 IS s{k}, y2 IS s{k}, y3 IS s{k}, y4 IS s{k};\n"
+        )?;
     }
     Ok(())
 }
@@ -243,14 +249,14 @@ fn push_rules(alloc: Global, text: &mut String) -> Result<(), AllocError> {
 fn full_text(alloc: Global) -> Result<String, AllocError> {
     let mut text = String::from_str(alloc, FULL_VARIABLES)?;
     for i in 1..9u32 {
-        push_input(alloc, &mut text, i)?;
+        push_input(&mut text, i)?;
     }
-    push_output(alloc, &mut text, 1, "3")?;
-    push_output(alloc, &mut text, 2, "4")?;
-    push_output(alloc, &mut text, 3, "NC")?;
-    push_output(alloc, &mut text, 4, "NC")?;
+    push_output(&mut text, 1, "3")?;
+    push_output(&mut text, 2, "4")?;
+    push_output(&mut text, 3, "NC")?;
+    push_output(&mut text, 4, "NC")?;
     text.push_str("RULEBLOCK r\n")?;
-    push_rules(alloc, &mut text)?;
+    push_rules(&mut text)?;
     text.push_str("END_RULEBLOCK\nEND_FUNCTION_BLOCK\n")?;
     Ok(text)
 }

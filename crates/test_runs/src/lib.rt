@@ -9,8 +9,6 @@ mod blocks;
 #[cfg(test)]
 mod firmware;
 #[cfg(test)]
-mod mailboxes;
-#[cfg(test)]
 mod posted;
 #[cfg(test)]
 mod runs;

@@ -1,16 +1,18 @@
 //! Controllers of two and three inputs.
 
-// The text of a controller: what is before its sections, its inputs, its output, and its rules. An input's first term
-// is 1 up to the first point, the second at the second point, and the third from the third on, and between two points
-// the degrees of two terms cross.
+// The text of a controller from its name, its inputs of three terms each, its output with its terms, and its rules. An
+// input's first term is 1 up to the first point, the second at the second point, and the third from the third on, and
+// between two points the degrees of two terms cross.
 macro_rules! controller {
-    ($head:literal
+    ($name:ident
         $(input $input:ident $low:literal to $high:literal: $first:ident $a:literal, $second:ident $b:literal,
             $third:ident $c:literal;)*
         output $output:ident $least:literal to $most:literal: $($term:ident $at:literal),*;
-        $rules:literal) => {
+        rules $rules:literal) => {
         concat!(
-            $head,
+            "FUNCTION_BLOCK ", stringify!($name), "\n",
+            "VAR_INPUT ", $(stringify!($input), " : REAL; ",)* "END_VAR\n",
+            "VAR_OUTPUT ", stringify!($output), " : REAL; END_VAR\n",
             $(
                 "FUZZIFY ", stringify!($input), " RANGE := (", $low, " .. ", $high, ");\n",
                 "TERM ", stringify!($first), " := (", $a, ", 1) (", $b, ", 0);\n",
@@ -21,22 +23,19 @@ macro_rules! controller {
             "DEFUZZIFY ", stringify!($output), " RANGE := (", $least, " .. ", $most, ");\n",
             $("TERM ", stringify!($term), " := ", $at, ";\n",)*
             "METHOD : COGS;\nDEFAULT := 0;\nEND_DEFUZZIFY\n",
-            $rules
+            "RULEBLOCK rules", $rules, "END_RULEBLOCK\nEND_FUNCTION_BLOCK\n"
         )
     };
 }
 
 /// A dryer: three inputs of three terms each, and a rule for each three of them.
 pub const DRYER: &str = controller! {
-    "FUNCTION_BLOCK dryer
-VAR_INPUT moisture, air, load : REAL; END_VAR
-VAR_OUTPUT heat : REAL; END_VAR
-"
+    dryer
     input moisture 0 to 100: dry 0, damp 50, wet 100;
     input air 10 to 90: cold 10, warm 50, hot 90;
     input load 0 to 8: light 0, half 4, full 8;
     output heat 0 to 100: off 0, low 25, mid 50, high 75, max 100;
-    "RULEBLOCK rules
+    rules "
 RULE 1 : IF moisture IS dry AND air IS cold AND load IS light THEN heat IS low;
 RULE 2 : IF moisture IS dry AND air IS cold AND load IS half THEN heat IS low;
 RULE 3 : IF moisture IS dry AND air IS cold AND load IS full THEN heat IS mid;
@@ -64,22 +63,17 @@ RULE 24 : IF moisture IS wet AND air IS warm AND load IS full THEN heat IS high;
 RULE 25 : IF moisture IS wet AND air IS hot AND load IS light THEN heat IS mid;
 RULE 26 : IF moisture IS wet AND air IS hot AND load IS half THEN heat IS mid;
 RULE 27 : IF moisture IS wet AND air IS hot AND load IS full THEN heat IS high;
-END_RULEBLOCK
-END_FUNCTION_BLOCK
 "
 };
 
 /// A pump of three inputs, whose terms have shoulders; its rules ask for some of them.
 pub const PUMP: &str = controller! {
-    "FUNCTION_BLOCK pump
-VAR_INPUT level, inflow, price : REAL; END_VAR
-VAR_OUTPUT speed : REAL; END_VAR
-"
+    pump
     input level 0 to 4: low 1, good 2, high 3;
     input inflow 0 to 256: weak 64, usual 128, strong 192;
     input price 0 to 64: cheap 16, fair 32, dear 48;
     output speed 0 to 3000: stop 0, slow 1000, brisk 2000, fast 3000;
-    "RULEBLOCK rules
+    rules "
 RULE 1 : IF level IS low AND inflow IS NOT strong THEN speed IS stop;
 RULE 2 : IF level IS low AND inflow IS strong AND price IS cheap THEN speed IS slow;
 RULE 3 : IF level IS low AND inflow IS strong AND price IS NOT cheap THEN speed IS stop;
@@ -94,22 +88,17 @@ RULE 11 : IF level IS high AND inflow IS weak AND price IS dear THEN speed IS sl
 RULE 12 : IF level IS high AND inflow IS weak AND price IS NOT dear THEN speed IS brisk;
 RULE 13 : IF level IS high AND inflow IS usual THEN speed IS brisk;
 RULE 14 : IF level IS high AND inflow IS strong THEN speed IS fast;
-END_RULEBLOCK
-END_FUNCTION_BLOCK
 "
 };
 
 /// A blind of three inputs, whose slopes are 76.8 bytes wide.
 pub const BLIND: &str = controller! {
-    "FUNCTION_BLOCK blind
-VAR_INPUT sun, room, wind : REAL; END_VAR
-VAR_OUTPUT close : REAL; END_VAR
-"
+    blind
     input sun 0 to 1000: dull 200, clear 500, glaring 800;
     input room 15 to 30: cool 18, right 21, warm 24;
     input wind 0 to 20: calm 5, breeze 10, storm 15;
     output close 0 to 100: open 0, third 30, most 70, shut 100;
-    "RULEBLOCK rules
+    rules "
 RULE 1 : IF sun IS dull AND wind IS NOT storm THEN close IS open;
 RULE 2 : IF sun IS clear AND room IS cool AND wind IS NOT storm THEN close IS open;
 RULE 3 : IF sun IS clear AND room IS right AND wind IS NOT storm THEN close IS third;
@@ -120,8 +109,6 @@ RULE 7 : IF sun IS glaring AND room IS right AND wind IS NOT storm THEN close IS
 RULE 8 : IF sun IS glaring AND room IS warm AND wind IS calm THEN close IS shut;
 RULE 9 : IF sun IS glaring AND room IS warm AND wind IS breeze THEN close IS most;
 RULE 10 : IF wind IS storm THEN close IS open;
-END_RULEBLOCK
-END_FUNCTION_BLOCK
 "
 };
 

@@ -25,64 +25,67 @@ pub enum Flaw {
     Deep,
 }
 
-// A row is the text before a fault, the text from the fault on, and the fault.
+// A row is the text before a fault, the text from the fault on, and the fault, or the number of its kind.
 macro_rules! faulty {
-    ($($front:literal then $back:literal: $fault:expr;)*) => { [$(($front, $back, $fault)),*] };
+    ($($front:literal then $back:literal: $kind:literal;)*) => { [$(($front, $back, $kind)),*] };
+    ($($front:literal then $back:literal: $flaw:ident $($of:expr)?;)*) => {
+        [$(($front, $back, Flaw::$flaw $(($of))?)),*]
+    };
 }
 
 /// Texts that are each written for one fault.
 pub static FAULTS: [(Front, Back, Flaw); 49] = faulty! {
-    b"" then b"x": Flaw::Expected;
-    b"FUNCTION_BLOCK" then b"": Flaw::Expected;
-    b"FUNCTION_BLOCK " then b"term": Flaw::Expected;
-    b"FUNCTION_BLOCK a VAR_INPUT x : " then b"5;": Flaw::Expected;
-    b"FUNCTION_BLOCK a " then b"VAR END_VAR": Flaw::Unsupported(6);
-    b"FUNCTION_BLOCK a VAR_INPUT END_VAR " then b"var": Flaw::Unsupported(6);
-    b"FUNCTION_BLOCK a FUZZIFY x END_FUZZIFY " then b"VAR": Flaw::Expected;
-    b"FUNCTION_BLOCK a " then b"OPTION": Flaw::Unsupported(7);
-    b"FUNCTION_BLOCK a FUZZIFY x END_FUZZIFY " then b"Option": Flaw::Unsupported(7);
-    b"FUNCTION_BLOCK a RULEBLOCK r " then b"OPTION": Flaw::Unsupported(7);
-    b"FUNCTION_BLOCK a RULEBLOCK r ACT : MIN; " then b"OPTION": Flaw::Unsupported(7);
-    b"FUNCTION_BLOCK a RULEBLOCK r END_RULEBLOCK " then b"OPTION": Flaw::Unsupported(7);
-    b"FUNCTION_BLOCK a RULEBLOCK r END_RULEBLOCK " then b"RULEBLOCK": Flaw::Unsupported(8);
-    b"FUNCTION_BLOCK a RULEBLOCK r END_RULEBLOCK " then b"END_OPTION": Flaw::Expected;
-    b"FUNCTION_BLOCK a DEFUZZIFY y METHOD : " then b"COG;": Flaw::Unsupported(1);
-    b"FUNCTION_BLOCK a DEFUZZIFY y METHOD : " then b"rm;": Flaw::Unsupported(1);
-    b"FUNCTION_BLOCK a DEFUZZIFY y METHOD : " then b"COGZ;": Flaw::Expected;
-    b"FUNCTION_BLOCK a RULEBLOCK r AND : " then b"MAX;": Flaw::Expected;
-    b"FUNCTION_BLOCK a RULEBLOCK r OR : " then b"BSUM;": Flaw::Unsupported(3);
-    b"FUNCTION_BLOCK a RULEBLOCK r ACCU : " then b"NSUM;": Flaw::Unsupported(4);
-    b"FUNCTION_BLOCK a DEFUZZIFY y ACCU : " then b"BSUM;": Flaw::Unsupported(4);
-    b"FUNCTION_BLOCK a RULEBLOCK r ACT : " then b"MAX;": Flaw::Expected;
-    b"FUNCTION_BLOCK a FUZZIFY x TERM t := (+ " then b"q, 1)": Flaw::Unsupported(10);
-    b"FUNCTION_BLOCK a FUZZIFY x TERM t := (1, " then b"q)": Flaw::Unsupported(10);
-    b"FUNCTION_BLOCK a FUZZIFY x TERM t := (1, " then b"0.5)": Flaw::Unsupported(11);
-    b"FUNCTION_BLOCK a FUZZIFY x TERM t := (1, -" then b"1)": Flaw::Unsupported(11);
-    b"FUNCTION_BLOCK a FUZZIFY x TERM t := (1, -0) (2, 1.0) (3, 01) " then b"": Flaw::Expected;
-    b"FUNCTION_BLOCK a FUZZIFY x TERM t := " then b"-1": Flaw::Unsupported(14);
-    b"FUNCTION_BLOCK a FUZZIFY x TERM t := " then b"1": Flaw::Unsupported(14);
-    b"FUNCTION_BLOCK a DEFUZZIFY y TERM t := " then b"(1, 0)": Flaw::Unsupported(13);
-    b"FUNCTION_BLOCK a DEFUZZIFY y DEFAULT := nc; DEFAULT := " then b"nd;": Flaw::Expected;
-    b"FUNCTION_BLOCK a RULEBLOCK r RULE 1 : IF " then b"x THEN": Flaw::Unsupported(12);
-    b"FUNCTION_BLOCK a RULEBLOCK r RULE 1 : IF x IS a OR " then b"y )": Flaw::Unsupported(12);
-    b"FUNCTION_BLOCK a RULEBLOCK r RULE 1 : IF x IS a THEN y IS b WITH " then b"w;": Flaw::Unsupported(15);
-    b"FUNCTION_BLOCK a RULEBLOCK r RULE 1 : IF x IS a THEN y IS b WITH + " then b"w;": Flaw::Expected;
-    b"FUNCTION_BLOCK a RULEBLOCK r RULE " then b"1.0 : IF": Flaw::Expected;
+    b"" then b"x": Expected;
+    b"FUNCTION_BLOCK" then b"": Expected;
+    b"FUNCTION_BLOCK " then b"term": Expected;
+    b"FUNCTION_BLOCK a VAR_INPUT x : " then b"5;": Expected;
+    b"FUNCTION_BLOCK a " then b"VAR END_VAR": Unsupported 6;
+    b"FUNCTION_BLOCK a VAR_INPUT END_VAR " then b"var": Unsupported 6;
+    b"FUNCTION_BLOCK a FUZZIFY x END_FUZZIFY " then b"VAR": Expected;
+    b"FUNCTION_BLOCK a " then b"OPTION": Unsupported 7;
+    b"FUNCTION_BLOCK a FUZZIFY x END_FUZZIFY " then b"Option": Unsupported 7;
+    b"FUNCTION_BLOCK a RULEBLOCK r " then b"OPTION": Unsupported 7;
+    b"FUNCTION_BLOCK a RULEBLOCK r ACT : MIN; " then b"OPTION": Unsupported 7;
+    b"FUNCTION_BLOCK a RULEBLOCK r END_RULEBLOCK " then b"OPTION": Unsupported 7;
+    b"FUNCTION_BLOCK a RULEBLOCK r END_RULEBLOCK " then b"RULEBLOCK": Unsupported 8;
+    b"FUNCTION_BLOCK a RULEBLOCK r END_RULEBLOCK " then b"END_OPTION": Expected;
+    b"FUNCTION_BLOCK a DEFUZZIFY y METHOD : " then b"COG;": Unsupported 1;
+    b"FUNCTION_BLOCK a DEFUZZIFY y METHOD : " then b"rm;": Unsupported 1;
+    b"FUNCTION_BLOCK a DEFUZZIFY y METHOD : " then b"COGZ;": Expected;
+    b"FUNCTION_BLOCK a RULEBLOCK r AND : " then b"MAX;": Expected;
+    b"FUNCTION_BLOCK a RULEBLOCK r OR : " then b"BSUM;": Unsupported 3;
+    b"FUNCTION_BLOCK a RULEBLOCK r ACCU : " then b"NSUM;": Unsupported 4;
+    b"FUNCTION_BLOCK a DEFUZZIFY y ACCU : " then b"BSUM;": Unsupported 4;
+    b"FUNCTION_BLOCK a RULEBLOCK r ACT : " then b"MAX;": Expected;
+    b"FUNCTION_BLOCK a FUZZIFY x TERM t := (+ " then b"q, 1)": Unsupported 10;
+    b"FUNCTION_BLOCK a FUZZIFY x TERM t := (1, " then b"q)": Unsupported 10;
+    b"FUNCTION_BLOCK a FUZZIFY x TERM t := (1, " then b"0.5)": Unsupported 11;
+    b"FUNCTION_BLOCK a FUZZIFY x TERM t := (1, -" then b"1)": Unsupported 11;
+    b"FUNCTION_BLOCK a FUZZIFY x TERM t := (1, -0) (2, 1.0) (3, 01) " then b"": Expected;
+    b"FUNCTION_BLOCK a FUZZIFY x TERM t := " then b"-1": Unsupported 14;
+    b"FUNCTION_BLOCK a FUZZIFY x TERM t := " then b"1": Unsupported 14;
+    b"FUNCTION_BLOCK a DEFUZZIFY y TERM t := " then b"(1, 0)": Unsupported 13;
+    b"FUNCTION_BLOCK a DEFUZZIFY y DEFAULT := nc; DEFAULT := " then b"nd;": Expected;
+    b"FUNCTION_BLOCK a RULEBLOCK r RULE 1 : IF " then b"x THEN": Unsupported 12;
+    b"FUNCTION_BLOCK a RULEBLOCK r RULE 1 : IF x IS a OR " then b"y )": Unsupported 12;
+    b"FUNCTION_BLOCK a RULEBLOCK r RULE 1 : IF x IS a THEN y IS b WITH " then b"w;": Unsupported 15;
+    b"FUNCTION_BLOCK a RULEBLOCK r RULE 1 : IF x IS a THEN y IS b WITH + " then b"w;": Expected;
+    b"FUNCTION_BLOCK a RULEBLOCK r RULE " then b"1.0 : IF": Expected;
     b"FUNCTION_BLOCK a\r\n(* \x00\xFF // (* $ *)\r\n// \x80 *) (*\r ( \nvar_Input "
-        then b"END_FUZZIFY": Flaw::Expected;
-    b"function_Block a\r\nVAR_INPUT\r\nx,\r\nY : Real ;\r\nEnd_Var\r\n" then b"END_VAR": Flaw::Expected;
-    b"(* (* *) " then b"*)": Flaw::BadByte;
-    b"" then b"(*)": Flaw::OpenComment;
-    b"FUNCTION_BLOCK " then b"1e5": Flaw::Number(DecFault::Shape);
-    b"x " then b"0.00001 $": Flaw::Number(DecFault::Places);
-    b"RULE " then b"100001": Flaw::Number(DecFault::Large);
-    b"1..2 1 " then b". 2": Flaw::BadByte;
-    b"" then b"": Flaw::Expected;
-    b"FUNCTION_BLOCK a VAR_INPUT x : " then b"INT;": Flaw::Unsupported(5);
-    b"FUNCTION_BLOCK a RULEBLOCK r AND : " then b"PROD;": Flaw::Unsupported(2);
-    b"" then b"(* x": Flaw::OpenComment;
+        then b"END_FUZZIFY": Expected;
+    b"function_Block a\r\nVAR_INPUT\r\nx,\r\nY : Real ;\r\nEnd_Var\r\n" then b"END_VAR": Expected;
+    b"(* (* *) " then b"*)": BadByte;
+    b"" then b"(*)": OpenComment;
+    b"FUNCTION_BLOCK " then b"1e5": Number DecFault::Shape;
+    b"x " then b"0.00001 $": Number DecFault::Places;
+    b"RULE " then b"100001": Number DecFault::Large;
+    b"1..2 1 " then b". 2": BadByte;
+    b"" then b"": Expected;
+    b"FUNCTION_BLOCK a VAR_INPUT x : " then b"INT;": Unsupported 5;
+    b"FUNCTION_BLOCK a RULEBLOCK r AND : " then b"PROD;": Unsupported 2;
+    b"" then b"(* x": OpenComment;
     b"FUNCTION_BLOCK a RULEBLOCK r RULE 1 : IF (((((((((((((((((((((((((((((((((((((((((((((((((((((((((((((((("
-        then b"(": Flaw::Deep;
+        then b"(": Deep;
 };
 
 /// The text before the two parts of a text with a load fault.
