@@ -6,15 +6,14 @@ use test_texts::{FAULTS, Flaw, LOAD_FAULTS, with_load_fault};
 
 /// The line of a fault at an offset.
 fn line_of(alloc: Global, at: usize, flaw: Flaw) -> Result<String, AllocError> {
-    let fault = match flaw {
-        Flaw::BadByte => "bad byte",
-        Flaw::OpenComment => "open comment",
-        Flaw::Number(_) => "number",
-        Flaw::Expected => "expected",
-        Flaw::Unsupported(code) => return format!(in alloc; "fcl: at {at}: unsupported {code}\n"),
-        Flaw::Deep => "too deep",
-    };
-    format!(in alloc; "fcl: at {at}: {fault}\n")
+    match flaw {
+        Flaw::BadByte => format!(in alloc; "fcl: at {at}: bad byte\n"),
+        Flaw::OpenComment => format!(in alloc; "fcl: at {at}: open comment\n"),
+        Flaw::Number(_) => format!(in alloc; "fcl: at {at}: number\n"),
+        Flaw::Expected => format!(in alloc; "fcl: at {at}: expected\n"),
+        Flaw::Unsupported(code) => format!(in alloc; "fcl: at {at}: unsupported {code}\n"),
+        Flaw::Deep => format!(in alloc; "fcl: at {at}: too deep\n"),
+    }
 }
 
 /// Checks that this text is refused with this line.

@@ -1,38 +1,12 @@
-//! Tests of the functions on blocks and certificates against worked values: numbers, answers, bytes,
-//! grades, layouts and errors.
+//! Tests of the libraries' calls against worked values.
 //!
-//! Each expected value was worked out by hand from the public standards, or by a separate program.
+//! Each expected value was worked out by hand from the public standards and the CPU12 Reference Manual, or by a
+//! separate program.
 #![tactic(auto)]
 
 #[cfg(test)]
-mod answers;
+mod machine;
 #[cfg(test)]
-mod blocks;
+mod runs;
 #[cfg(test)]
-mod bounds;
-#[cfg(test)]
-mod bytes;
-#[cfg(test)]
-mod cells;
-#[cfg(test)]
-mod certificates;
-#[cfg(test)]
-mod checks;
-#[cfg(test)]
-mod controllers;
-#[cfg(test)]
-mod decimals;
-#[cfg(test)]
-mod fractions;
-#[cfg(test)]
-mod grades;
-#[cfg(test)]
-mod halving;
-#[cfg(test)]
-mod layouts;
-#[cfg(test)]
-mod leaves;
-#[cfg(test)]
-mod texts;
-#[cfg(test)]
-mod tight;
+mod values;

@@ -1,16 +1,13 @@
 //! Tight Bounds of boxes over one input, and Bounds of their cells.
-ghost use Rattle.std.specs.Prelude.{◌≡◌, IfOk, length};
+ghost use Rattle.std.specs.Prelude.{◌≡◌, length};
 ghost use Rattle.error_bound.specs.Reaches.{IsBlockTable};
-ghost use Rattle.fuzzy_meaning.specs.Blocks.{IsValid};
 
-use super::blocks::block_of;
+use super::blocks::{block_in, block_of};
 use super::leaves::box_of;
 use byte_scaling::Width;
 use byte_scaling::Width::{Byte, Word};
 use cell_bounds::{CellAbove, cells_bounds, sure_cells_bounds};
 use error_bound::{BlockTable, BoxTable};
-use fuzzy_meaning::Block;
-use std::alloc::Global;
 use std::process::Abort;
 use std::test::Fail;
 use test_texts::{BACK, BLOCK, FRONT, HALF_WEIGHT, LATCH, MIDDLE};
@@ -58,17 +55,6 @@ static ROWS: [Row; 5] = [
     },
 ];
 
-/// The block that a text in parts spells.
-fn joined(alloc: Global, parts: &[&str]) -> Result<Block, Fail>
-    ensures { IfOk result IsValid }
-{
-    let mut text = String::new(alloc);
-    for part in parts {
-        text.push_str(part)?;
-    }
-    block_of(alloc, text.as_bytes())
-}
-
 /// Fails if a walk over the cells has another result.
 fn is_walked(rt: &impl Abort, table: &BlockTable, walk: &Walked) -> Result<(), Fail>
     requires table { IsBlockTable table.now }
@@ -92,7 +78,7 @@ fn is_walked(rt: &impl Abort, table: &BlockTable, walk: &Walked) -> Result<(), F
 #[test]
 fn cells_have_bounds(rt: HostRuntime) -> Result<(), Fail> {
     for row in ROWS.iter() {
-        let block = joined(rt.alloc(), row.fcl)?;
+        let block = block_in(rt.alloc(), row.fcl)?;
         assert!(rt; block.inputs.len() == 1);
         assert!(rt; block.outputs.len() == 1);
         for walk in row.walks {
@@ -105,7 +91,7 @@ fn cells_have_bounds(rt: HostRuntime) -> Result<(), Fail> {
 
 #[test]
 fn a_cell_without_a_bound_is_unsure(rt: HostRuntime) -> Result<(), Fail> {
-    let block = joined(rt.alloc(), &[FRONT, "NC", MIDDLE, BACK])?;
+    let block = block_in(rt.alloc(), &[FRONT, "NC", MIDDLE, BACK])?;
     assert!(rt; block.inputs.len() == 1);
     let table = BlockTable::new(rt.alloc(), &block, Byte)?;
     let unsure = sure_cells_bounds(&table, &box_of(&block, 192, 255));

@@ -7,6 +7,7 @@ use fcl_syntax::parse;
 use fuzzy_meaning::Block;
 use std::alloc::Global;
 use std::test::Fail;
+use test_texts::joined;
 
 /// The block of a text.
 pub(crate) fn block_of(alloc: Global, text: &[u8]) -> Result<Block, Fail>
@@ -17,4 +18,11 @@ pub(crate) fn block_of(alloc: Global, text: &[u8]) -> Result<Block, Fail>
     }
     let tree = parse(alloc, text)?;
     Ok(load(alloc, &tree)?)
+}
+
+/// The block of a text in parts.
+pub(crate) fn block_in(alloc: Global, parts: &[&str]) -> Result<Block, Fail>
+    ensures { IfOk result IsValid }
+{
+    block_of(alloc, joined(alloc, parts)?.as_bytes())
 }

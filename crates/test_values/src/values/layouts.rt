@@ -2,13 +2,13 @@
 ghost use Rattle.std.specs.Prelude.{IfOk};
 ghost use Rattle.fuzzy_meaning.specs.Blocks.{IsValid};
 
-use super::blocks::block_of;
+use super::blocks::{block_in, block_of};
 use fuzzy_meaning::Block;
 use rule_layout::{LaidOut, LayoutFault, RuleInstruction, Slot, require_limits, spread};
 use std::alloc::{AllocError, Global};
 use std::process::Abort;
 use std::test::Fail;
-use test_texts::{HALF_WEIGHT, joined};
+use test_texts::HALF_WEIGHT;
 
 /// The text before the condition of a block's only rule. The block has three input terms, each 1 everywhere.
 const HEAD: &str = "FUNCTION_BLOCK a VAR_INPUT x : REAL; END_VAR VAR_OUTPUT y : REAL; END_VAR
@@ -121,7 +121,7 @@ fn is_laid(
 fn rules_are_laid_out(rt: HostRuntime) -> Result<(), Fail> {
     let alloc = rt.alloc();
     for laid in LAID.iter() {
-        let block = block_of(alloc, joined(alloc, laid.fcl)?.as_bytes())?;
+        let block = block_in(alloc, laid.fcl)?;
         let Ok(laid_out) = spread(alloc, &block) else {
             panic!(rt; "a fault");
         };

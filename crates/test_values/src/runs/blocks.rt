@@ -2,10 +2,9 @@
 ghost use Rattle.std.specs.Prelude.{◌≤◌};
 ghost use Rattle.fuzzy_meaning.specs.Blocks.{IsValid};
 
+use crate::values::blocks::{block_in, block_of};
 use byte_scaling::Width;
 use codegen::{Firmware, compile_for};
-use fcl_check::load;
-use fcl_syntax::parse;
 use fuzzy_meaning::Block;
 use fz_run::Row;
 use interrupt_plan::no_interrupts;
@@ -13,7 +12,7 @@ use std::alloc::{AllocError, Global};
 use std::fmt::Write;
 use std::process::Abort;
 use std::test::Fail;
-use test_texts::{BACK, FRONT, HALF_WEIGHT, LATCH, MIDDLE, SECOND, joined};
+use test_texts::{BACK, FRONT, HALF_WEIGHT, LATCH, MIDDLE, SECOND};
 use trace_io::read_trace;
 
 /// A sample's answers, and its instructions and steps, if they are given.
@@ -97,22 +96,6 @@ static WORKED: [(&[&str], Worked); 4] = [
     ),
 ];
 
-/// The block that a text spells.
-fn block_of(rt: &impl Abort, alloc: Global, fcl: &[u8]) -> Block
-    ensures { IsValid result }
-{
-    if fcl.len() > 1_048_576 {
-        panic!(rt; "too long");
-    }
-    let Ok(tree) = parse(alloc, fcl) else {
-        panic!(rt; "no tree");
-    };
-    let Ok(block) = load(alloc, &tree) else {
-        panic!(rt; "no block");
-    };
-    block
-}
-
 /// The block's firmware.
 fn firmware_of(rt: &impl Abort, alloc: Global, width: Width, block: &Block) -> Firmware
     requires { IsValid block.now }
@@ -167,21 +150,22 @@ fn are_rows(rt: &impl Abort, rows: &[Row], wanted: &[Sampled]) {
 }
 
 /// Fails if a block's bound or one of its samples' rows differs.
-fn samples(rt: &impl Abort, alloc: Global, fcl: &[u8], worked: &Worked) {
-    let block = block_of(rt, alloc, fcl);
-    let firmware = firmware_of(rt, alloc, worked.width, &block);
+fn samples(rt: &impl Abort, alloc: Global, block: &Block, worked: &Worked)
+    requires { IsValid block.now }
+{
+    let firmware = firmware_of(rt, alloc, worked.width, block);
     if let Some(bound) = worked.bound {
         assert!(rt; firmware.instr_bound == bound);
     }
-    let rows = rows_of(rt, alloc, &block, &firmware, worked.trace);
+    let rows = rows_of(rt, alloc, block, &firmware, worked.trace);
     are_rows(rt, rows.as_slice(), worked.samples);
 }
 
 #[test]
 fn worked_samples(rt: HostRuntime) -> Result<(), Fail> {
     for (parts, worked) in WORKED.iter() {
-        let fcl = joined(rt.alloc(), parts)?;
-        samples(&rt, rt.alloc(), fcl.as_bytes(), worked);
+        let block = block_in(rt.alloc(), parts)?;
+        samples(&rt, rt.alloc(), &block, worked);
     }
     Ok(())
 }
@@ -291,6 +275,7 @@ static FULL: Worked = Worked {
 #[test]
 fn a_block_at_every_limit(rt: HostRuntime) -> Result<(), Fail> {
     let text = full_text(rt.alloc())?;
-    samples(&rt, rt.alloc(), text.as_bytes(), &FULL);
+    let block = block_of(rt.alloc(), text.as_bytes())?;
+    samples(&rt, rt.alloc(), &block, &FULL);
     Ok(())
 }

@@ -1,5 +1,5 @@
 //! Items, their images, and the records of the images.
-use crate::handlers::push_bytes;
+use super::handlers::push_bytes;
 use cpu12_asm::{AsmFault, Item, assemble_items};
 use cpu12_isa::instr::Instr;
 use srecord::write;

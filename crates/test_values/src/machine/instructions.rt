@@ -1,5 +1,5 @@
 //! The vectors, each decoded, encoded and executed.
-use crate::vectors::{
+use super::vectors::{
     BRANCHES, CONJUNCTIONS_AND_DEGREES, LOADS_AND_STORES, STEPS_AND_COMPARISONS, SUMS,
     TRANSFERS_AND_DIVISIONS, Vector,
 };

@@ -2,12 +2,12 @@
 ghost use Rattle.std.specs.Prelude.{◌∷◌, [], IsTrue};
 ghost use Rattle.fuzzy_meaning.specs.Blocks.{IsValid, AreInputs};
 
-use super::blocks::block_of;
+use super::blocks::block_in;
 use byte_scaling::{to_byte, value};
 use fuzzy_meaning::{Block, exact, heater, mass, strength};
 use fz_num::{Dec, Frac};
 use std::test::Fail;
-use test_texts::{BLOCK, HALF_WEIGHT, joined};
+use test_texts::{BLOCK, HALF_WEIGHT};
 
 #[test]
 fn a_heater_fires_both_rules(rt: HostRuntime) -> Result<(), Fail> {
@@ -69,7 +69,7 @@ fn is_over(fraction: Frac, wanted: (i128, i128)) -> bool {
 fn answers_are_the_mean_of_singletons(rt: HostRuntime) -> Result<(), Fail> {
     let alloc = rt.alloc();
     for row in ANSWERS.iter() {
-        let block = block_of(alloc, joined(alloc, row.fcl)?.as_bytes())?;
+        let block = block_in(alloc, row.fcl)?;
         let x = Dec(640_000);
         assert!(rt; is_input(&block, x));
         assert!(rt; block.outputs.len() == 1);
