@@ -1,10 +1,11 @@
 //! For every command, each read, write and put fails in turn.
+use super::files::files_of;
 use fz_shelf::MemShelf;
 use std::alloc::Global;
 use std::test::Fail;
 use test_program_calls::{
     BEFORE, Difference, Faults, Left, NONE, bytes_of, call, calls_are, file_holds, push_bytes,
-    push_file, push_room, shelf_of,
+    push_room, shelf_of,
 };
 use test_texts::{
     BLOCK, CELLS, HALVES, MAILBOX_RECORDS, RECORDS, RECORDS_OF_BOTH, SOURCE, SOURCE_RECORDS,
@@ -236,10 +237,7 @@ static WORKLOAD: [Accepted; 1] = accepted! {
 
 /// The shelf with all files, and with these records for answers of 16 bits.
 fn house(alloc: Global, wide: &[u8], faults: &Faults) -> Result<MemShelf, Difference> {
-    let mut files = Vec::new(alloc);
-    for (name, text) in FILES.iter() {
-        push_file(alloc, &mut files, name, text)?;
-    }
+    let mut files = files_of(alloc, &FILES)?;
     push_bytes(alloc, &mut files, "wide.s19", wide)?;
     push_room(alloc, &mut files, "out")?;
     shelf_of(alloc, files, faults)

@@ -15,6 +15,8 @@ mod exec;
 #[cfg(test)]
 mod failures;
 #[cfg(test)]
+mod files;
+#[cfg(test)]
 mod five_files;
 #[cfg(test)]
 mod generate;

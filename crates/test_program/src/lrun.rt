@@ -1,10 +1,9 @@
 //! Runs of two blocks at two levels: fast runs inside the interrupts of a slow block.
+use super::files::succeeds;
 use fz_shelf::MemShelf;
 use std::alloc::Global;
 use std::test::Fail;
-use test_program_calls::{
-    Difference, Left, NONE, call, code_of, push_file, push_room, rows, shelf_of,
-};
+use test_program_calls::{Difference, Left, NONE, call, push_file, push_room, rows, shelf_of};
 use test_texts::{
     BLOCK, CELLS, HALF_WEIGHT, HALVES, LATCH, NODES_OF_THE_LATCH, RECORDS, RECORDS_OF_BOTH,
 };
@@ -241,31 +240,23 @@ fn shelf(alloc: Global, run: &AtLevels) -> Result<MemShelf, Difference> {
     let mut files = Vec::new(alloc);
     push_file(alloc, &mut files, "slow", run.slow)?;
     push_file(alloc, &mut files, "fast", run.fast)?;
-    match run.image {
-        Some(image) => push_file(alloc, &mut files, "image", &[image])?,
-        None => push_room(alloc, &mut files, "image")?,
-    }
     push_file(alloc, &mut files, "slow.cert", run.slow_cert)?;
     push_file(alloc, &mut files, "fast.cert", run.fast_cert)?;
     push_file(alloc, &mut files, "slow.csv", &[run.slow_trace])?;
     push_file(alloc, &mut files, "fast.csv", &[run.fast_trace])?;
     push_file(alloc, &mut files, "levels", &[run.levels])?;
-    shelf_of(alloc, files, &NONE)
-}
-
-/// Writes the image of the shelf's texts.
-fn compile(alloc: Global, shelf: &mut MemShelf) -> Result<(), Difference> {
-    let line = ["fuzz12", "lcompile", "slow", "fast", "image"];
-    match code_of(alloc, &line, shelf)? {
-        0 => Ok(()),
-        code => Err(Difference::Status(code)),
+    match run.image {
+        Some(image) => push_file(alloc, &mut files, "image", &[image])?,
+        None => push_room(alloc, &mut files, "image")?,
     }
+    shelf_of(alloc, files, &NONE)
 }
 
 fn case(alloc: Global, command: &str, run: &AtLevels) -> Result<(), Difference> {
     let mut shelf = shelf(alloc, run)?;
     if run.image.is_none() {
-        compile(alloc, &mut shelf)?;
+        let line = ["fuzz12", "lcompile", "slow", "fast", "image"];
+        succeeds(alloc, &line, &mut shelf)?;
     }
     let line = [
         "fuzz12",

@@ -276,17 +276,15 @@ fn case(alloc: Global, given: &Given) -> Result<(), Difference> {
     }
     push_room(alloc, &mut files, "out")?;
     let mut shelf = shelf_of(alloc, files, &NONE)?;
-    match given.left {
-        Leaves::Lines(parts) => {
-            let lines = long(alloc, parts)?;
-            let left = Left::Lines(lines.as_str());
-            call(alloc, given.line, &mut shelf, &NONE, &left)
-        }
-        Leaves::Refused(code, line) => {
-            let left = Left::Refused(code, line);
-            call(alloc, given.line, &mut shelf, &NONE, &left)
-        }
-    }
+    let lines = match given.left {
+        Leaves::Lines(parts) => long(alloc, parts)?,
+        Leaves::Refused(_, line) => String::from_str(alloc, line)?,
+    };
+    let left = match given.left {
+        Leaves::Lines(_) => Left::Lines(lines.as_str()),
+        Leaves::Refused(code, _) => Left::Refused(code, lines.as_str()),
+    };
+    call(alloc, given.line, &mut shelf, &NONE, &left)
 }
 
 fn cases(alloc: Global, table: &[Given]) -> Result<(), Difference> {

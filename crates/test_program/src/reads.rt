@@ -1,10 +1,9 @@
 //! The files of a run: which of them are read, and which one is reported.
+use super::files::files_of;
 use fz_shelf::MemShelf;
 use std::alloc::{AllocError, Global};
 use std::test::Fail;
-use test_program_calls::{
-    Difference, Left, NONE, call, calls_are, push_bytes, push_file, shelf_of,
-};
+use test_program_calls::{Difference, Left, NONE, call, calls_are, push_bytes, shelf_of};
 use test_texts::{BLOCK, HALVES, RECORDS, RECORDS_OF_ANOTHER};
 
 // A heater's files, and some that are not.
@@ -26,10 +25,7 @@ fn long(alloc: Global) -> Result<Vec<u8>, AllocError> {
 }
 
 fn house(alloc: Global) -> Result<MemShelf, Difference> {
-    let mut files = Vec::new(alloc);
-    for (name, text) in HOUSE.iter() {
-        push_file(alloc, &mut files, name, text)?;
-    }
+    let mut files = files_of(alloc, &HOUSE)?;
     push_bytes(alloc, &mut files, "long", &long(alloc)?)?;
     shelf_of(alloc, files, &NONE)
 }

@@ -1,11 +1,10 @@
 //! Runs with five files: worked samples under worked plans.
+use super::files::succeeds;
 use super::reads::RUN;
 use fz_shelf::MemShelf;
 use std::alloc::Global;
 use std::test::Fail;
-use test_program_calls::{
-    Difference, Left, NONE, call, code_of, push_file, push_room, rows, shelf_of,
-};
+use test_program_calls::{Difference, Left, NONE, call, push_file, push_room, rows, shelf_of};
 use test_texts::{
     BACK, BLOCK, COLD, FRONT, HALF_WEIGHT, HALVES, LATCH, NODES_OF_THE_LATCH, NOTS, OPENED,
     QUARTERS, SECOND, TWO_OUTPUTS,
@@ -175,19 +174,11 @@ left 208
 fn shelf(alloc: Global, ran: &Ran) -> Result<MemShelf, Difference> {
     let mut files = Vec::new(alloc);
     push_file(alloc, &mut files, "n.fcl", ran.fcl)?;
-    push_room(alloc, &mut files, "n.s19")?;
     push_file(alloc, &mut files, "n.cert", ran.cert)?;
     push_file(alloc, &mut files, "n.csv", &[ran.trace])?;
     push_file(alloc, &mut files, "n.plan", &[ran.plan])?;
+    push_room(alloc, &mut files, "n.s19")?;
     shelf_of(alloc, files, &NONE)
-}
-
-/// Writes the image of the shelf's text.
-fn compile(alloc: Global, command: &str, shelf: &mut MemShelf) -> Result<(), Difference> {
-    match code_of(alloc, &["fuzz12", command, "n.fcl", "n.s19"], shelf)? {
-        0 => Ok(()),
-        code => Err(Difference::Status(code)),
-    }
 }
 
 /// Checks a run of the image that `compile` writes first.
@@ -195,7 +186,7 @@ fn run(alloc: Global, ran: &Ran) -> Result<(), Difference> {
     let mut shelf = shelf(alloc, ran)?;
     let wide = matches!(ran.command, "run16" | "trun16");
     let command = if wide { "compile16" } else { "compile" };
-    compile(alloc, command, &mut shelf)?;
+    succeeds(alloc, &["fuzz12", command, "n.fcl", "n.s19"], &mut shelf)?;
     let line = [
         "fuzz12",
         ran.command,

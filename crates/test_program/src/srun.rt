@@ -1,11 +1,10 @@
 //! Runs with six files: worked samples while the firmware's tables are upset.
+use super::files::succeeds;
 use fz_shelf::MemShelf;
 use std::alloc::{AllocError, Global};
 use std::fmt::Write;
 use std::test::Fail;
-use test_program_calls::{
-    Difference, Left, NONE, call, code_of, push_file, push_room, rows, shelf_of,
-};
+use test_program_calls::{Difference, Left, NONE, call, push_file, push_room, rows, shelf_of};
 use test_texts::{BLOCK, CELLS, HALF_WEIGHT, HALVES, LATCH, NODES_OF_THE_LATCH};
 
 /// What `srun` or `tsrun` is given, the command that writes its image, and what it leaves.
@@ -154,20 +153,12 @@ frame 1 7 C02B 1FF5 9
 fn shelf(alloc: Global, ran: &Ran, trace: &str, upsets: &str) -> Result<MemShelf, Difference> {
     let mut files = Vec::new(alloc);
     push_file(alloc, &mut files, "n.fcl", ran.fcl)?;
-    push_room(alloc, &mut files, "n.s19")?;
     push_file(alloc, &mut files, "n.cert", ran.cert)?;
     push_file(alloc, &mut files, "n.csv", &[trace])?;
     push_file(alloc, &mut files, "n.plan", &[ran.plan])?;
     push_file(alloc, &mut files, "n.upsets", &[upsets])?;
+    push_room(alloc, &mut files, "n.s19")?;
     shelf_of(alloc, files, &NONE)
-}
-
-/// Writes the image of the shelf's text.
-fn write_image(alloc: Global, command: &str, shelf: &mut MemShelf) -> Result<(), Difference> {
-    match code_of(alloc, &["fuzz12", command, "n.fcl", "n.s19"], shelf)? {
-        0 => Ok(()),
-        code => Err(Difference::Status(code)),
-    }
 }
 
 /// Checks a run of the image that is written first, with this trace and these upsets.
@@ -179,7 +170,11 @@ fn run_over(
     left: &Left,
 ) -> Result<(), Difference> {
     let mut shelf = shelf(alloc, ran, trace, upsets)?;
-    write_image(alloc, ran.image_by, &mut shelf)?;
+    succeeds(
+        alloc,
+        &["fuzz12", ran.image_by, "n.fcl", "n.s19"],
+        &mut shelf,
+    )?;
     let line = [
         "fuzz12",
         ran.command,
