@@ -11,7 +11,7 @@ use Rattle.fz_num.proofs.Algebra.{le-up_div, up_div-le}
 use Rattle.cell_error.specs.declared.{ranges.MassRange.MassRange, ranges.Deviation.Deviation, means.Scale.Scale}
 use Rattle.cell_error.specs.declared.{means.Pull.Pull, cuts.Cut.Cut}
 use Rattle.cell_error.specs.declared.cuts.Cut.TheVariants.{Nowhere, From, UpTo}
-use Rattle.cell_error.specs.{Errors.AreBetween, Errors.IsRange, Errors.sure_mass, Errors.total, Errors.weighted}
+use Rattle.cell_error.specs.{Errors.AreBetween, Errors.sure_mass, Errors.total, Errors.weighted}
 use Rattle.cell_error.specs.{Cuts.masses, Cuts.is_high, Cuts.chosen}
 use Rattle.cell_error.specs.Means.{pull, up, down, pulled_num, pulled_den, IsPulledWithin}
 use Rattle.cell_error.specs.Means.{IsMeanError, IsSome, IsOrdered, IsByteRange, IsGreaterPull, MeansHaveErrors}
@@ -251,12 +251,6 @@ cut_some c ts h some =
 
 pub mass_by : (u w m : ℕ) → u ≤ w → w ≤ 2000010000 → m ≤ 3825 → u * m ≤ 7650038250000
 mass_by u w m h k l = mul-le u m 2000010000 3825 (omega arith) l
-
-pub ranges_wide : (w : ℕ) (ts : List MassRange) → All (IsByteRange w) ts → All (IsRange w) ts
-ranges_wide w ts h k d l =
-    let r = h k d l in
-    let s = r.high_to in
-    record { at_to = r.at_to; low_to = r.ordered; high_to = omega arith }
 
 pub num_small : (x n e l m d : ℕ) → x ≤ 16646400 → n ≤ 350000000000000000000000 → e ≤ 130562652810000
     → l ≤ 3825000000000 → m ≤ 3825 → d ≤ 130560652800000

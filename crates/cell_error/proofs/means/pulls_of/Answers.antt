@@ -1,45 +1,43 @@
-use Rattle.std.proofs.Common.{◌≡◌, ◌≤◌, ◌*◌, ◌+◌, ◌-◌, get_or, ap, ap₂, ◌∙◌, sym, subst, arith}
-use Rattle.cell_error.specs.declared.{ranges.MassRange.MassRange, ranges.Deviation.Deviation}
+use Rattle.std.proofs.Common.{◌≡◌, ℕ, ◌<◌, ◌≤◌, ◌*◌, ◌+◌, ◌-◌, List, length, get_or, ap, ap₂, ◌∙◌, sym, subst, arith}
+use Rattle.std.proofs.Common.{mul-le-mul_right}
+use Rattle.std.specs.Prelude.{All}
+use Rattle.cell_error.specs.declared.{cuts.Cut.Cut, ranges.MassRange.MassRange, ranges.Deviation.Deviation}
+use Rattle.cell_error.specs.{Errors.total, Errors.sure_mass, Cuts.masses, Means.IsByteRange, Means.IsSmallPull}
 use Rattle.cell_error.proofs.MeanLemmas.{pull_back, cut_small, cut_some, ordered, mass_by}
 use Rattle.cell_error.proofs.means.pulls_of.Goals as goal
 
+-- the singletons weighted by the masses of a cut, and one by their sum
+module _ (w : ℕ) (cut : Cut) (ts : List MassRange) (g : ℕ) (w_to : w ≤ 2000010000) (ranges : All (IsByteRange w) ts)
+    (few : length ts ≤ 15) (mass : g ≡ total (masses cut ts)) where
+  mean_small : (s : ℕ) → s ≤ w * g → s ≤ 7650038250000
+  mean_small s within =
+      let m = mass_by w w g (omega arith) w_to (subst (λ n. n ≤ 3825) (sym mass) (cut_small w cut ts ranges few)) in
+      omega arith
+
+  here_small : (k n : ℕ) (t : MassRange) → 0 < k → k ≤ length ts → n ≡ (get_or ts (k - 1) t).at → n * g ≤ 7650038250000
+  here_small k n t from to is =
+      let l = (ranges (k - 1) t (omega arith)).at_to in
+      mean_small (n * g) (subst (λ u. u * g ≤ w * g) (sym is) (mul-le-mul_right g l))
+
 pub pull_of-up-requires-clause-here : goal.pull_of-up-requires-clause-here
 pull_of-up-requires-clause-here c =
-    let k = c.loop-k.k in
-    let some = c.loop-k-test.true in
-    let upto = c.loop-k.auto.k in
-    let r = c.requires.terms (k - 1) (record { at = 0; low = 0; high = 0 }) (omega arith) in
-    let m = mass_by _ c.args.width c.sums-sum.result.1 r.at_to c.requires.width
-    (subst (λ n. n ≤ 3825) (sym c.sums-sum.ensures.mass)
-    (cut_small c.args.width c.args.cut c.args.terms.now c.requires.terms c.requires.count)) in
-    subst (λ n. n * c.sums-sum.result.1 ≤ 7650038250000) (sym c.from.ensures) m
+    here_small c.args.width c.args.cut c.args.terms.now c.sums-sum.result.1 c.requires.width c.requires.terms
+    c.requires.count c.sums-sum.ensures.mass c.loop-k.k _ _ c.loop-k-test.true c.loop-k.auto.k c.from.ensures
 
 pub pull_of-up-requires-clause-mean : goal.pull_of-up-requires-clause-mean
 pull_of-up-requires-clause-mean c =
-    let m = mass_by c.args.width c.args.width c.sums-sum.result.1 (omega arith) c.requires.width
-    (subst (λ n. n ≤ 3825) (sym c.sums-sum.ensures.mass)
-    (cut_small c.args.width c.args.cut c.args.terms.now c.requires.terms c.requires.count)) in
-    let l = c.sums-sum.ensures.within in
-    omega arith
+    mean_small c.args.width c.args.cut c.args.terms.now c.sums-sum.result.1 c.requires.width c.requires.terms
+    c.requires.count c.sums-sum.ensures.mass c.sums-sum.result.0 c.sums-sum.ensures.within
 
 pub pull_of-down-requires-clause-here : goal.pull_of-down-requires-clause-here
 pull_of-down-requires-clause-here c =
-    let k = c.loop-k.k in
-    let some = c.loop-k-test.true in
-    let upto = c.loop-k.auto.k in
-    let r = c.requires.terms (k - 1) (record { at = 0; low = 0; high = 0 }) (omega arith) in
-    let m = mass_by _ c.args.width c.sums-sum.result.1 r.at_to c.requires.width
-    (subst (λ n. n ≤ 3825) (sym c.sums-sum.ensures.mass)
-    (cut_small c.args.width c.args.cut c.args.terms.now c.requires.terms c.requires.count)) in
-    subst (λ n. n * c.sums-sum.result.1 ≤ 7650038250000) (sym c.from.ensures) m
+    here_small c.args.width c.args.cut c.args.terms.now c.sums-sum.result.1 c.requires.width c.requires.terms
+    c.requires.count c.sums-sum.ensures.mass c.loop-k.k _ _ c.loop-k-test.true c.loop-k.auto.k c.from.ensures
 
 pub pull_of-down-requires-clause-mean : goal.pull_of-down-requires-clause-mean
 pull_of-down-requires-clause-mean c =
-    let m = mass_by c.args.width c.args.width c.sums-sum.result.1 (omega arith) c.requires.width
-    (subst (λ n. n ≤ 3825) (sym c.sums-sum.ensures.mass)
-    (cut_small c.args.width c.args.cut c.args.terms.now c.requires.terms c.requires.count)) in
-    let l = c.sums-sum.ensures.within in
-    omega arith
+    mean_small c.args.width c.args.cut c.args.terms.now c.sums-sum.result.1 c.requires.width c.requires.terms
+    c.requires.count c.sums-sum.ensures.mass c.sums-sum.result.0 c.sums-sum.ensures.within
 
 pub loop-k-preserved : goal.loop-k-preserved
 loop-k-preserved c =
@@ -69,26 +67,21 @@ loop-k-preserved c =
       down_small = (let s = c.pull_of-down.ensures.small in omega arith);
     }
 
+small : (w g n : ℕ) (cut : Cut) (ts : List MassRange) → All (IsByteRange w) ts → length ts ≤ 15 → 1 ≤ sure_mass ts
+    → g ≡ total (masses cut ts) → (k : ℕ) → n ≤ (length ts - k) * 22950114750000000000000
+    → IsSmallPull (record { pull = n; mass = g })
+small w g n cut ts ranges few some mass k below = record {
+  pull_to = omega arith;
+  mass_from = subst (λ n. 1 ≤ n) (sym mass) (cut_some cut ts (ordered w ts ranges) some);
+  mass_to = subst (λ n. n ≤ 3825) (sym mass) (cut_small w cut ts ranges few);
+}
+
 pub returns-clause-up_small : goal.returns-clause-up_small
 returns-clause-up_small c =
-    let s = c.loop-k.invariant.up_small in
-    let few = c.requires.count in
-    record {
-      pull_to = omega arith;
-      mass_from = subst (λ n. 1 ≤ n) (sym c.sums-sum.ensures.mass)
-          (cut_some c.args.cut c.args.terms.now (ordered c.args.width c.args.terms.now c.requires.terms) c.requires.some);
-      mass_to = subst (λ n. n ≤ 3825) (sym c.sums-sum.ensures.mass)
-          (cut_small c.args.width c.args.cut c.args.terms.now c.requires.terms c.requires.count);
-    }
+    small c.args.width c.sums-sum.result.1 c.loop-k.up c.args.cut c.args.terms.now c.requires.terms c.requires.count
+    c.requires.some c.sums-sum.ensures.mass c.loop-k.k c.loop-k.invariant.up_small
 
 pub returns-clause-down_small : goal.returns-clause-down_small
 returns-clause-down_small c =
-    let s = c.loop-k.invariant.down_small in
-    let few = c.requires.count in
-    record {
-      pull_to = omega arith;
-      mass_from = subst (λ n. 1 ≤ n) (sym c.sums-sum.ensures.mass)
-          (cut_some c.args.cut c.args.terms.now (ordered c.args.width c.args.terms.now c.requires.terms) c.requires.some);
-      mass_to = subst (λ n. n ≤ 3825) (sym c.sums-sum.ensures.mass)
-          (cut_small c.args.width c.args.cut c.args.terms.now c.requires.terms c.requires.count);
-    }
+    small c.args.width c.sums-sum.result.1 c.loop-k.down c.args.cut c.args.terms.now c.requires.terms c.requires.count
+    c.requires.some c.sums-sum.ensures.mass c.loop-k.k c.loop-k.invariant.down_small
