@@ -1,7 +1,7 @@
 -- A flat condition reaches as far as the one that it is made of, and so do its parts, from the last on.
 use Rattle.std.proofs.Common.{◌≡◌, ℕ, zero, suc, ◌+◌, ◌-◌, ◌<◌, ◌≤◌, Bool, true, false, List, [], ◌∷◌, ◌++◌, drop}
 use Rattle.std.proofs.Common.{length, get_or, Option, Some, None, refl, sym, ap, ap₂, ◌∙◌, arith, subst}
-use Rattle.std.proofs.{lemmas.List.at_drop_more, lemmas.List.at_drop_all, lemmas.List.drop_all, Math.Seq.drop-cons}
+use Rattle.std.proofs.{lemmas.List.at_drop_more, lemmas.List.at_drop_all, lemmas.List.drop_all}
 use mathlib.Core.Bool.{beq}
 use Rattle.std.specs.{Prelude.not, Prelude.◌==◌, Prelude.slice_get, Option.option_map_or}
 use Rattle.fz_num.specs.Fractions.{IsProper, AtMost, one, none, one_minus}
@@ -26,7 +26,7 @@ use Rattle.error_bound.specs.declared.ends.Side.TheVariants.{Low, High}
 use Rattle.error_bound.proofs.SpanLemmas.{IsGrouping, AreGood, IsDegree, nothing_degree, spans_de_morgan}
 use Rattle.error_bound.proofs.SpanLemmas.{spans_grouping, truths_de_morgan, truths_grouping, levels_de_morgan}
 use Rattle.error_bound.proofs.SpanLemmas.{levels_grouping, errors_de_morgan, errors_grouping}
-use Rattle.error_bound.proofs.{CellErrors.low_proper, CellErrors.high_proper, Literals.grade-le}
+use Rattle.error_bound.proofs.{CellErrors.low_proper, CellErrors.high_proper, ListLemmas.drop_back, Literals.grade-le}
 use Rattle.error_bound.proofs.Sides.{rise_all, fall_all, end_all}
 
 -- ---- the code's lists
@@ -318,10 +318,7 @@ module _ {A : Type 0} (minus : A → A) (j : Joins A) (s : ℕ → ℕ → Span 
 -- the conditions from a place on: that of the place, and those behind
 pub from_place : (parts : List Condition) (k : ℕ) (part : Condition) → 1 ≤ k → k ≤ length parts
     → part ≡ get_or parts (k - 1) part → conditions (drop (k - 1) parts) ≡ also part (conditions (drop k parts))
-from_place parts k part from to here_is =
-    let within : k - 1 < length parts = omega arith in
-    let back : suc (k - 1) ≡ k = omega arith in
-    ap conditions (drop-cons parts (k - 1) part within ∙ ap₂ (λ x n. x ∷ drop n parts) (sym here_is) back)
+from_place parts k part from to here_is = ap conditions (drop_back parts k part part from to here_is)
 
 pub end_from : (b : Block) (box : List Interval) (or : Bool) (side : Side) (parts : List Condition) (k : ℕ) (part : Condition)
     (p r s : End) → 1 ≤ k → k ≤ length parts → part ≡ get_or parts (k - 1) part

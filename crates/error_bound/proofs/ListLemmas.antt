@@ -1,6 +1,7 @@
 -- What a slice reads at a place is what the list that it is of has there, and is valid where all its parts are.
 use Rattle.std.proofs.Common.{◌≡◌, ℕ, ◌+◌, ◌-◌, ◌*◌, ◌<◌, ◌≤◌, ◌⊎◌, ⊎_elim, List, [], ◌∷◌, ◌++◌, length, length-append}
-use Rattle.std.proofs.Common.{get_or, Some, refl, sym, ap, ◌∙◌, subst, arith, Vec, Global}
+use Rattle.std.proofs.Common.{get_or, suc, drop, Some, refl, sym, ap, ap₂, ◌∙◌, subst, arith, Vec, Global}
+use Rattle.std.proofs.Math.Seq.{drop-cons}
 use Rattle.std.proofs.lemmas.Option.{slice_get_read, slice_get-get_or, get_or_from_slice_get}
 use Rattle.std.specs.Prelude.{slice_get}
 use Rattle.fz_list.proofs.Algebra.{AreFilled, AreFilled-push}
@@ -45,6 +46,13 @@ AreFilled-read P xs read t x same x_is ys new y before new_is here =
       subst (λ zs. AreFilled P xs zs (t + 1)) (sym new_is) (AreFilled-push P xs ys t y before.0 before.1
           (λ z e. subst (λ w. P t w y) (x_is ∙ get_or-slice read xs t x z same e) here)),
     )
+
+-- where a loop goes down over a list, the element that it comes to and those behind
+pub drop_back : {X : Type 0} (xs : List X) (k : ℕ) (x d : X) → 1 ≤ k → k ≤ length xs → x ≡ get_or xs (k - 1) d
+    → drop (k - 1) xs ≡ x ∷ drop k xs
+drop_back xs k x d some upto is =
+    let back : suc (k - 1) ≡ k = omega arith in
+    drop-cons xs (k - 1) d (omega arith) ∙ ap₂ (λ y n. y ∷ drop n xs) (sym is) back
 
 -- ---- the parts of a valid AND or OR are valid
 

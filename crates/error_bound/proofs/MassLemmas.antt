@@ -1,8 +1,7 @@
 -- The ends of masses, under NOT and AND, and of rules.
 use Rattle.std.proofs.Common.{◌≡◌, ℕ, zero, suc, ◌+◌, ◌-◌, ◌*◌, ◌/◌, ◌<◌, ◌≤◌, min, List, [], ◌∷◌}
-use Rattle.std.proofs.Common.{Some, drop, length, get_or, sym, ap, subst, arith, mul-le-mul_right, ⊎_elim, ◌∙◌}
-use Rattle.std.proofs.{Math.Nat.div-mul-le_self, Math.Seq.drop-cons}
-use Rattle.std.proofs.{lemmas.Nat.le-div, lemmas.Bool.cases_lt}
+use Rattle.std.proofs.Common.{Some, drop, length, get_or, refl, sym, ap, subst, arith, mul-le-mul_right, ⊎_elim, ◌∙◌}
+use Rattle.std.proofs.{Math.Nat.div-mul-le_self, lemmas.Nat.le-div, lemmas.Bool.cases_lt}
 use Rattle.std.specs.Prelude.{map, slice_get}
 use Rattle.fz_num.specs.Fractions.{Fraction, IsProper, lesser, one_minus, times, up_div}
 use Rattle.fz_num.proofs.Algebra.{by_lesser, le-up_div, up_div-le}
@@ -16,7 +15,7 @@ use Rattle.error_bound.specs.Masses.{AreMassEnds, IsAtMost, AreEndsOfCondition, 
 use Rattle.error_bound.specs.Masses.{IsRuleMass, IsRuleWithin}
 use Rattle.error_bound.specs.Reaches.{AreLiteralsOf, literal_of}
 use Rattle.error_bound.proofs.{FlatteningLemmas.span_to_itself, TightLawLemmas.part-mono, TightLawLemmas.up-mono}
-use Rattle.error_bound.proofs.TightLawLemmas.{low_part-same, up-same}
+use Rattle.error_bound.proofs.{ListLemmas.drop_back, TightLawLemmas.low_part-same, TightLawLemmas.up-same}
 
 -- ---- rounding, and the lesser of two fractions and what a fraction leaves of 1
 
@@ -158,10 +157,7 @@ module _ (b : Block) (box : List Interval) where
       → o.byte_high ≡ min m.byte_high n.byte_high → AreEndsOfCondition b box (AndOf (drop (k - 1) ls)) o
   ends_from ls k l m n o from to hm hn low high byte_low byte_high =
       let x = get_or ls (k - 1) l in
-      let back : suc (k - 1) ≡ k = omega arith in
-      let here : drop (k - 1) ls ≡ x ∷ drop k ls =
-      drop-cons ls (k - 1) l (omega arith) ∙ ap (λ j. x ∷ drop j ls) back in
-      subst (λ ys. AreEndsOfCondition b box (AndOf ys) o) (sym here)
+      subst (λ ys. AreEndsOfCondition b box (AndOf ys) o) (sym (drop_back ls k x l from to refl))
       (ends_more x (drop k ls) m n o hm hn low high byte_low byte_high)
 
   -- more literals reach no further

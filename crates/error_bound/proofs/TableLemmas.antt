@@ -3,7 +3,7 @@ use Rattle.std.proofs.Common.{◌≡◌, ℕ, ◌+◌, ◌-◌, ◌*◌, ◌/◌
 use Rattle.std.proofs.Common.{refl, [], None, sym, ap, ◌∙◌, subst, arith, ⊎_elim, zero, suc, ◌∷◌, ap₂}
 use Rattle.std.proofs.{lemmas.Option.get_or_from_slice_get, lemmas.Option.slice_get_within}
 use Rattle.std.proofs.lemmas.Bool.{cases_eq, cases_lt}
-use Rattle.std.specs.Prelude.{slice_get, pos, slice_set, map, Option, IfSome}
+use Rattle.std.specs.Prelude.{slice_get, pos, slice_set, Option, IfSome}
 use Rattle.std.specs.Global.{Vec}
 use Rattle.fz_num.specs.Fractions.{Fraction, times}
 use Rattle.fuzzy_meaning.specs.{declared.block.Trapezoid.Trapezoid, declared.block.Block.Block, Conditions.Condition}
@@ -14,8 +14,7 @@ use Rattle.fz_list.proofs.Algebra.{IsSomeAnd-some, IsSomeAnd-within, some_at, sl
 use Rattle.error_bound.specs.Reaches.{AreTermCells, AreInputCells, AreRows, IsReachOfTerm, IsReachOfLiteral}
 use Rattle.error_bound.specs.Boxes.{literal_span, literal_byte_span, rule_span, rule_byte_span}
 use Rattle.error_bound.specs.Reaches.{IsEndOfCondition, IsEndOfRule, AreInputReaches, AreRuleLiterals, AreLiteralsOf}
-use Rattle.error_bound.specs.{Reaches.literal_of, declared.reaches.Literal.Literal}
-use Rattle.fuzzy_meaning.specs.Conditions.{all, conditions}
+use Rattle.error_bound.specs.declared.reaches.Literal.{Literal}
 use Rattle.error_bound.specs.{Flattening.IsSame, Flattening.AreSame, Flattening.ReachesAlike, declared.ends.End.End}
 use Rattle.error_bound.specs.{declared.tables.InputCells.InputCells, declared.cells.TermCells.TermCells}
 use Rattle.error_bound.specs.{Spans.Span, Spans.span, Spans.byte_span, Spans.end_of, declared.ends.Side.Side}
@@ -78,13 +77,6 @@ kept_literals b r lists k o v each found read is =
     let q = each k r found in
     let same : q.0 ≡ Some v = sym (get_or_from_slice_get lists k q.0 o q.1) ∙ sym read ∙ is in
     subst (λ p. IfSome p (λ w. AreLiteralsOf b r w.items)) same q.2
-
--- those of a condition that reaches as far as a rule's
-pub literals_alike : (b : Block) (r : Rule) (d : Condition) (o : Option (Vec Literal)) → ReachesAlike b r.cond d
-    → IfSome o (λ v. (r.weight ≡ None) × (d ≡ all (conditions (map literal_of v.items))))
-    → IfSome o (λ v. AreLiteralsOf b r v.items)
-literals_alike b r d None alike h = h
-literals_alike b r d (Some v) alike h = record { plain = h.0; alike = subst (ReachesAlike b r.cond) h.1 alike }
 
 -- of a rule by a condition that reaches as far as its own
 same_ends : (side : Side) (s r : Span Fraction) → AreSame IsSame s r → IsSame (end_of side s) (end_of side r)

@@ -2,8 +2,7 @@
 use Rattle.std.proofs.Common.{◌≡◌, ℕ, suc, ◌+◌, ◌-◌, ◌*◌, ◌/◌, ◌<◌, ◌≤◌, max, min, Bool, true, false, List, [], ◌∷◌}
 use Rattle.std.proofs.Common.{length, get_or, Option, Some, None, refl, sym, ap, ◌∙◌, arith, mul-le-mul_right}
 use Rattle.std.proofs.Common.{le_of_mul-le-mul_right, mul-pos, drop, ap₂, subst}
-use Rattle.std.proofs.{lemmas.Bool.Decides.nat_tests, lemmas.Nat.mul-le, lemmas.Nat.le-div, Math.Seq.drop-cons}
-use Rattle.std.proofs.lemmas.Int.{ints}
+use Rattle.std.proofs.{lemmas.Bool.Decides.nat_tests, lemmas.Nat.mul-le, lemmas.Nat.le-div}
 use Rattle.std.specs.Prelude.{All, IsTrue, ◌==◌, ◌&&◌, ◌<ℤ◌, slice_index, IfSome, IfNone, if◌then◌else◌}
 use Rattle.std.specs.Option.{option_map_or}
 use Rattle.fz_list.proofs.Algebra.{All-slice_get, All-none, All-cons}
@@ -31,7 +30,7 @@ use Rattle.error_bound.specs.{Leaves.Holds, Leaves.strong, Leaves.silent, Leaves
 use Rattle.error_bound.specs.{Boxes.rule_span, Boxes.rule_byte_span, Boxes.IsBox, declared.boxes.Interval.Interval}
 use Rattle.error_bound.specs.Errors.{billion, AreTermErrors, rule_rise, rule_fall}
 use Rattle.error_bound.specs.{CellErrors.term_errors, Flattening.IsSame, Best.silent_leaf}
-use Rattle.error_bound.specs.{declared.tight.Masses.Masses}
+use Rattle.error_bound.specs.declared.tight.Masses.{Masses}
 use Rattle.error_bound.specs.{Ratios.value_of, Laws.IsInside, Spans.Span}
 use Rattle.error_bound.proofs.Nested.{moved, bound_strong, bound_silent, rule_narrow, IsNarrow, less_rise, less_fall}
 use Rattle.error_bound.proofs.Nested.{leaves_hold_inside, inside_itself}
@@ -39,11 +38,8 @@ use Rattle.error_bound.proofs.TightLemmas.{bytes_ordered_at, greatest_of-mono, s
 use Rattle.error_bound.proofs.TightLemmas.{strong_sure, sure_has}
 use Rattle.error_bound.proofs.RuleLemmas.{bytes_ordered, none_below, IsStill-test, none_same}
 use Rattle.error_bound.proofs.{TightLemmas.strong_least, AnswerLemmas.quiet_rules, Literals.term_errors-are}
-use Rattle.error_bound.proofs.{LeafLemmas.any-some, Shares.within_width}
+use Rattle.error_bound.proofs.{LeafLemmas.any-some, ListLemmas.drop_back, Shares.within_width}
 use Rattle.fz_num.proofs.Algebra.{le-up_div, up_div-le}
-
-width_pos : (x : Output) → x.lo.0 <ℤ x.hi.0 → 0 < distance x.lo x.hi
-width_pos x range = omega (arith, ints)
 
 -- ---- at most those of leaves
 
@@ -232,6 +228,15 @@ less_if false false h l = l
 none_test : (n m : ℕ) → n ≤ m → (m == 0) ≡ true → (n == 0) ≡ true
 none_test n m h e = grind (arith, nat_tests)
 
+-- the numbers of the rules that are not still
+moving_less : (b : Block) (small box : List Interval) (o : ℕ) (f g : Rule → ℕ)
+    → ((r : Rule) → is_still b box r ≡ true → is_still b small r ≡ true)
+    → ((k : ℕ) (r : Rule) → k < length b.rules → f (get_or b.rules k r) ≤ g (get_or b.rules k r)) → (t : ℕ)
+    → greatest_of (λ r. if_moving b small r (f r)) o t b.rules ≤ greatest_of (λ r. if_moving b box r (g r)) o t b.rules
+moving_less b small box o f g still less t =
+    greatest_of-mono (λ r. if_moving b small r (f r)) (λ r. if_moving b box r (g r)) o t b.rules (λ k d l.
+    let r = get_or b.rules k d in less_if (is_still b small r) (is_still b box r) (still r) (less k d l))
+
 module _ (b : Block) (small box : List Interval) (valid : IsValid b) (count : length box ≡ length b.inputs)
     (ins : IsInside small box) (some : IsBox small) (o : ℕ) (x : Output) where
   narrow : (r : Rule) → IsNarrow (rule_span b small r) (rule_span b box r) (rule_byte_span b small r)
@@ -290,18 +295,12 @@ module _ (b : Block) (small box : List Interval) (valid : IsValid b) (count : le
 
   module _ (e f : ℕ → ℕ → Span ℕ) (es : AreTermErrors b small e) (fs : AreTermErrors b box f) where
     rise_falls : (t : ℕ) → rise_of b small e o t ≤ rise_of b box f o t
-    rise_falls t = greatest_of-mono (λ r. if_moving b small r (rule_rise e r)) (λ r. if_moving b box r (rule_rise f r)) o t
-        b.rules (λ k d l.
-        let r = get_or b.rules k d in
-        less_if (is_still b small r) (is_still b box r) (still_inside r)
-        (less_rise b small box e f count ins es fs r (valid.rules k d l)))
+    rise_falls = moving_less b small box o (rule_rise e) (rule_rise f) still_inside
+        (λ k d l. less_rise b small box e f count ins es fs (get_or b.rules k d) (valid.rules k d l))
 
     fall_falls : (t : ℕ) → fall_of b small e o t ≤ fall_of b box f o t
-    fall_falls t = greatest_of-mono (λ r. if_moving b small r (rule_fall e r)) (λ r. if_moving b box r (rule_fall f r)) o t
-        b.rules (λ k d l.
-        let r = get_or b.rules k d in
-        less_if (is_still b small r) (is_still b box r) (still_inside r)
-        (less_fall b small box e f count ins es fs r (valid.rules k d l)))
+    fall_falls = moving_less b small box o (rule_fall e) (rule_fall f) still_inside
+        (λ k d l. less_fall b small box e f count ins es fs (get_or b.rules k d) (valid.rules k d l))
 
     sure_falls : (h n m : ℕ) → 1 ≤ h → IsSure b box o x → IsSureBound b small e o x h n → IsSureBound b box f o x h m
         → n ≤ m
@@ -374,19 +373,13 @@ module _ (b : Block) (box : List Interval) (valid : IsValid b) (count : length b
     (x : Output) where
   rise_below : (e f : ℕ → ℕ → Span ℕ) → AreTermErrors b box e → AreTermErrors b box f → (t : ℕ)
       → rise_of b box e o t ≤ rise_of b box f o t
-  rise_below e f es fs t = greatest_of-mono (λ r. if_moving b box r (rule_rise e r))
-      (λ r. if_moving b box r (rule_rise f r)) o t b.rules (λ k d l.
-      let r = get_or b.rules k d in
-      less_if (is_still b box r) (is_still b box r) (λ s. s)
-      (less_rise b box box e f count (inside_itself box) es fs r (valid.rules k d l)))
+  rise_below e f es fs = moving_less b box box o (rule_rise e) (rule_rise f) (λ r s. s)
+      (λ k d l. less_rise b box box e f count (inside_itself box) es fs (get_or b.rules k d) (valid.rules k d l))
 
   fall_below : (e f : ℕ → ℕ → Span ℕ) → AreTermErrors b box e → AreTermErrors b box f → (t : ℕ)
       → fall_of b box e o t ≤ fall_of b box f o t
-  fall_below e f es fs t = greatest_of-mono (λ r. if_moving b box r (rule_fall e r))
-      (λ r. if_moving b box r (rule_fall f r)) o t b.rules (λ k d l.
-      let r = get_or b.rules k d in
-      less_if (is_still b box r) (is_still b box r) (λ s. s)
-      (less_fall b box box e f count (inside_itself box) es fs r (valid.rules k d l)))
+  fall_below e f es fs = moving_less b box box o (rule_fall e) (rule_fall f) (λ r s. s)
+      (λ k d l. less_fall b box box e f count (inside_itself box) es fs (get_or b.rules k d) (valid.rules k d l))
 
   sure_below : (e f : ℕ → ℕ → Span ℕ) → AreTermErrors b box e → AreTermErrors b box f → (h n m : ℕ)
       → IsSureBound b box e o x h n → IsSureBound b box f o x h m → n ≤ m
@@ -441,20 +434,13 @@ tight_parts have b box o x h n valid ex hh (sure e es s is) =
 
 -- ---- from the last term on
 
-drop_back : (us : List Dec) (k : ℕ) (d : Dec) → 1 ≤ k → k ≤ length us
-    → drop (k - 1) us ≡ get_or us (k - 1) d ∷ drop k us
-drop_back us k d some upto =
-    let within : k - 1 < length us = omega arith in
-    let back : suc (k - 1) ≡ k = omega arith in
-    drop-cons us (k - 1) d within ∙ ap (λ n. get_or us (k - 1) d ∷ drop n us) back
-
 pub sum_back : (f : ℕ → Dec → ℕ) (us : List Dec) (k : ℕ) (d : Dec) → 1 ≤ k → k ≤ length us
     → f (k - 1 + 1) (get_or us (k - 1) d) + sum_over f (k + 1) (drop k us)
     ≡ sum_over f (k - 1 + 1) (drop (k - 1) us)
 sum_back f us k d some upto =
     let next : k + 1 ≡ k - 1 + 1 + 1 = omega arith in
     ap (λ n. f (k - 1 + 1) (get_or us (k - 1) d) + sum_over f n (drop k us)) next
-    ∙ sym (ap (sum_over f (k - 1 + 1)) (drop_back us k d some upto))
+    ∙ sym (ap (sum_over f (k - 1 + 1)) (drop_back us k _ d some upto refl))
 
 greatest_back : (f : ℕ → Dec → ℕ) (us : List Dec) (k : ℕ) (d : Dec) → 1 ≤ k → k ≤ length us
     → max (f (k - 1 + 1) (get_or us (k - 1) d)) (greatest_over f (k + 1) (drop k us))
@@ -462,7 +448,7 @@ greatest_back : (f : ℕ → Dec → ℕ) (us : List Dec) (k : ℕ) (d : Dec) �
 greatest_back f us k d some upto =
     let next : k + 1 ≡ k - 1 + 1 + 1 = omega arith in
     ap (λ n. max (f (k - 1 + 1) (get_or us (k - 1) d)) (greatest_over f n (drop k us))) next
-    ∙ sym (ap (greatest_over f (k - 1 + 1)) (drop_back us k d some upto))
+    ∙ sym (ap (greatest_over f (k - 1 + 1)) (drop_back us k _ d some upto refl))
 
 pub chosen_small : {n m : ℕ} (c : Bool) → n ≤ m → (if c then 0 else n) ≤ m
 chosen_small true h = omega arith
@@ -489,7 +475,7 @@ greatest_if_some f m highs us k d n chosen old new some upto n_is small chosen_i
 
 -- ---- of rules
 
-raised-le : (p : Bool) (x y a n : ℕ) → a ≡ (if p then max x y else y) → x ≤ n → y ≤ n → a ≤ n
+pub raised-le : (p : Bool) (x y a n : ℕ) → a ≡ (if p then max x y else y) → x ≤ n → y ≤ n → a ≤ n
 raised-le true x y a n e hx hy = omega arith
 raised-le false x y a n e hx hy = omega arith
 

@@ -89,16 +89,6 @@ greatest_over-mono f g h t (u ∷ us) each =
     max-mono (h t u (each 0 u (omega arith)))
     (greatest_over-mono f g h (t + 1) us (λ k d l. each (suc k) d (omega arith)))
 
-pub greatest_over-below : {P : Dec → Type 0} (f : ℕ → Dec → ℕ) (m : ℕ) → ((t : ℕ) (u : Dec) → P u → f t u ≤ m)
-    → (t : ℕ) (us : List Dec) → All P us → greatest_over f t us ≤ m
-greatest_over-below f m h t [] each = omega arith
-greatest_over-below f m h t (u ∷ us) each =
-    both (h t u (each 0 u (omega arith)))
-    (greatest_over-below f m h (t + 1) us (λ k d l. each (suc k) d (omega arith)))
-  where
-    both : {p q : ℕ} → p ≤ m → q ≤ m → max p q ≤ m
-    both h k = omega arith
-
 -- what one term has the sum has
 pub sum_over-least : (f : ℕ → ℕ) (t t' : ℕ) (us : List Dec) → t ≤ t' → t' < t + length us
     → f t' ≤ sum_over (λ t u. f t) t us

@@ -1,7 +1,7 @@
-use Rattle.std.proofs.Common.{◌≡◌, ℕ, suc, ◌+◌, ◌-◌, ◌<◌, max, ◌∷◌, length, drop, get_or, sym, ap, ◌∙◌, subst, arith}
-use Rattle.std.proofs.{lemmas.List.length-set, Math.Seq.drop-cons}
+use Rattle.std.proofs.Common.{◌≡◌, ℕ, ◌+◌, ◌-◌, ◌<◌, max, length, drop, get_or, refl, sym, ap, ◌∙◌, subst, arith}
+use Rattle.std.proofs.lemmas.List.{length-set}
 use Rattle.std.specs.Prelude.{slice_index, slice_set, if◌then◌else◌}
-use Rattle.error_bound.proofs.LeafLemmas.{concludes_among, raised_by}
+use Rattle.error_bound.proofs.{LeafLemmas.concludes_among, LeafLemmas.raised_by, ListLemmas.drop_back}
 use Rattle.error_bound.proofs.bounds.raise_terms.Goals as goal
 
 pub loop-k-preserved-then-output-out : goal.loop-k-preserved-then-output-out
@@ -15,8 +15,7 @@ loop-k-preserved-then-output-out c =
     let named : get_or c.as_slice-conclusions.result.now j (0, 0) ≡ x =
     ap (λ l. get_or l j (0, 0)) c.as_slice-conclusions.ensures in
     let term = c.requires j (0, 0) within in
-    let back : suc j ≡ c.loop-k.k = omega arith in
-    let next : drop j cs ≡ x ∷ drop c.loop-k.k cs = drop-cons cs j (0, 0) within ∙ ap (λ n. x ∷ drop n cs) back in
+    let next = drop_back cs c.loop-k.k x (0, 0) (omega arith) (omega arith) refl in
     record {
       count = omega (arith, length-set {A = ℕ}, count);
       each = λ t few.

@@ -1,4 +1,4 @@
-use Rattle.std.proofs.Common.{arith}
+use Rattle.std.proofs.Common.{ℕ, ◌<◌, ◌≤◌, arith}
 use Rattle.error_bound.proofs.CellErrors.{AreCellsBefore-none, AreCellsBefore-more}
 use Rattle.error_bound.proofs.cells.cells_under.Goals as goal
 
@@ -14,22 +14,15 @@ loop-b-preserved c =
     (omega (arith, c.loop-b-test.true, c.from-b-end.ensures)) c.grade.ensures
     (record { rise = e.rise; fall = e.fall; rise_small = e.rise_small; fall_small = e.fall_small })
 
-pub returns-clause-grades : goal.returns-clause-grades
-returns-clause-grades c =
-    λ n l u. c.loop-b.invariant.grades n l (omega (arith, c.loop-b-test.false, c.from-b-end.ensures))
-
-pub returns-clause-rises : goal.returns-clause-rises
-returns-clause-rises c =
-    λ n l u. c.loop-b.invariant.rises n l (omega (arith, c.loop-b-test.false, c.from-b-end.ensures))
-
-pub returns-clause-falls : goal.returns-clause-falls
-returns-clause-falls c =
-    λ n l u. c.loop-b.invariant.falls n l (omega (arith, c.loop-b-test.false, c.from-b-end.ensures))
-
-pub returns-clause-rises_small : goal.returns-clause-rises_small
-returns-clause-rises_small c =
-    λ n l u. c.loop-b.invariant.rises_small n l (omega (arith, c.loop-b-test.false, c.from-b-end.ensures))
-
-pub returns-clause-falls_small : goal.returns-clause-falls_small
-returns-clause-falls_small c =
-    λ n l u. c.loop-b.invariant.falls_small n l (omega (arith, c.loop-b-test.false, c.from-b-end.ensures))
+pub returns : goal.returns
+returns c =
+    let i = c.loop-b.invariant in
+    let passed : (n : ℕ) → n ≤ c.args.bytes.to → n < c.loop-b.b =
+    λ n u. omega (arith, c.loop-b-test.false, c.from-b-end.ensures) in
+    record {
+      grades = λ n l u. i.grades n l (passed n u);
+      rises = λ n l u. i.rises n l (passed n u);
+      falls = λ n l u. i.falls n l (passed n u);
+      rises_small = λ n l u. i.rises_small n l (passed n u);
+      falls_small = λ n l u. i.falls_small n l (passed n u);
+    }

@@ -1,8 +1,8 @@
-use Rattle.std.proofs.Common.{◌≡◌, ◌≤◌, ℕ, suc, ◌+◌, ◌-◌, ◌<◌, min, Bool, true, false, List, ◌∷◌, length, drop, get_or}
+use Rattle.std.proofs.Common.{◌≡◌, ◌≤◌, ℕ, ◌+◌, ◌-◌, min, Bool, true, false, List, length, drop, get_or}
 use Rattle.std.proofs.Common.{refl, ap, ◌∙◌, subst, arith}
-use Rattle.std.proofs.{Math.Seq.drop-cons, lemmas.Bool.Decides.nat_tests}
+use Rattle.std.proofs.lemmas.Bool.Decides.{nat_tests}
 use Rattle.std.specs.Prelude.{slice_index, ◌==◌, ◌&&◌, ◌||◌}
-use Rattle.error_bound.proofs.LeafLemmas.{concludes_among}
+use Rattle.error_bound.proofs.{LeafLemmas.concludes_among, ListLemmas.drop_back}
 use Rattle.error_bound.proofs.tight.least_masses.Invariants.{IsLeast}
 use Rattle.error_bound.proofs.tight.least_masses.Goals as goal
 
@@ -19,11 +19,10 @@ loop-k-preserved-then-output-out c =
     let cs = c.args.rule.now.concl in
     let j = c.loop-k.k - 1 in
     let x = get_or cs j (0, 0) in
-    let within : j < length cs = omega (arith, ap length c.as_slice-conclusions.ensures) in
     let named : get_or c.as_slice-conclusions.result.now j (0, 0) ≡ x =
     ap (λ l. get_or l j (0, 0)) c.as_slice-conclusions.ensures in
-    let back : suc j ≡ c.loop-k.k = omega arith in
-    let next : drop j cs ≡ x ∷ drop c.loop-k.k cs = drop-cons cs j (0, 0) within ∙ ap (λ n. x ∷ drop n cs) back in
+    let next = drop_back cs c.loop-k.k x (0, 0) (omega arith) (omega (arith, ap length c.as_slice-conclusions.ensures))
+    refl in
     let rest = drop c.loop-k.k cs in
     let o = c.args.out in
     let raised : (least value : ℕ) (values : List ℕ) → IsLeast o least rest values
@@ -52,11 +51,10 @@ loop-k-preserved c =
     let cs = c.args.rule.now.concl in
     let j = c.loop-k.k - 1 in
     let x = get_or cs j (0, 0) in
-    let within : j < length cs = omega (arith, ap length c.as_slice-conclusions.ensures) in
     let named : get_or c.as_slice-conclusions.result.now j (0, 0) ≡ x =
     ap (λ l. get_or l j (0, 0)) c.as_slice-conclusions.ensures in
-    let back : suc j ≡ c.loop-k.k = omega arith in
-    let next : drop j cs ≡ x ∷ drop c.loop-k.k cs = drop-cons cs j (0, 0) within ∙ ap (λ n. x ∷ drop n cs) back in
+    let next = drop_back cs c.loop-k.k x (0, 0) (omega arith) (omega (arith, ap length c.as_slice-conclusions.ensures))
+    refl in
     let rest = drop c.loop-k.k cs in
     let o = c.args.out in
     let differs = subst (λ (y : ℕ × ℕ). y.0 ≡ o → ⊥) named c.if-output-out.false in

@@ -1,6 +1,5 @@
-use Rattle.std.proofs.Common.{◌≡◌, ℕ, ◌+◌, ◌-◌, ◌≤◌, min, max, ap, sym, ◌∙◌, subst, arith}
+use Rattle.std.proofs.Common.{◌≡◌, ℕ, ◌+◌, ◌-◌, ◌≤◌, min, max, ap, sym, ◌∙◌, arith}
 use Rattle.std.specs.Prelude.{slice_index}
-use Rattle.error_bound.specs.Boxes.{greatest_from}
 use Rattle.error_bound.proofs.CellErrors.{least_more, greatest_more}
 use Rattle.error_bound.proofs.cells.TermCells.over.Goals as goal
 
@@ -26,32 +25,16 @@ loop-b-preserved c =
       fall = fall ∙ ap (λ m. max m (d (b + 1))) i.fall ∙ sym (greatest_more d p b from);
     }
 
-pub returns-clause-greatest : goal.returns-clause-greatest
-returns-clause-greatest c =
-    let g = λ (n : ℕ). slice_index c.args.self.now.grades n in
+pub returns : goal.returns
+returns c =
     let start = c.from-from.ensures in
     let end = c.from-b-end.ensures in
-    let at : c.loop-b.b ≡ c.args.bytes.to =
+    let last : c.loop-b.b ≡ c.args.bytes.to =
     omega (arith, c.loop-b-test.false, c.loop-b.auto.b-end, start, end, c.requires) in
-    subst (λ k. c.loop-b.grades.greatest ≡ greatest_from g c.args.bytes.from (k - c.args.bytes.from)) at
-    c.loop-b.invariant.greatest
-
-pub returns-clause-rise : goal.returns-clause-rise
-returns-clause-rise c =
-    let g = λ (n : ℕ). slice_index c.args.self.now.rises n in
-    let start = c.from-from.ensures in
-    let end = c.from-b-end.ensures in
-    let at : c.loop-b.b ≡ c.args.bytes.to =
-    omega (arith, c.loop-b-test.false, c.loop-b.auto.b-end, start, end, c.requires) in
-    subst (λ k. c.loop-b.grades.rise ≡ greatest_from g c.args.bytes.from (k - c.args.bytes.from)) at
-    c.loop-b.invariant.rise
-
-pub returns-clause-fall : goal.returns-clause-fall
-returns-clause-fall c =
-    let g = λ (n : ℕ). slice_index c.args.self.now.falls n in
-    let start = c.from-from.ensures in
-    let end = c.from-b-end.ensures in
-    let at : c.loop-b.b ≡ c.args.bytes.to =
-    omega (arith, c.loop-b-test.false, c.loop-b.auto.b-end, start, end, c.requires) in
-    subst (λ k. c.loop-b.grades.fall ≡ greatest_from g c.args.bytes.from (k - c.args.bytes.from)) at
-    c.loop-b.invariant.fall
+    let i = c.loop-b.invariant in
+    record {
+      least = rw last at i.least;
+      greatest = rw last at i.greatest;
+      rise = rw last at i.rise;
+      fall = rw last at i.fall;
+    }

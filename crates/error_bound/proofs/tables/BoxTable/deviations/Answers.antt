@@ -1,9 +1,7 @@
-use Rattle.std.proofs.Common.{◌≡◌, suc, ◌-◌, ◌<◌, ◌∷◌, length, drop, Some, refl, sym, ap, ap₂, ◌∙◌, subst}
-use Rattle.std.proofs.{Common.arith, Math.Seq.drop-cons, lemmas.Option.slice_get_read}
-use Rattle.std.specs.Prelude.{slice_get}
+use Rattle.std.proofs.Common.{◌≡◌, ◌-◌, drop, ap, ◌∙◌, arith}
 use Rattle.error_bound.specs.{CellErrors.term_errors, Errors.rule_rise, Errors.rule_fall, Tight.if_moving}
 use Rattle.error_bound.proofs.TightLawLemmas.{AreGreatest-raised, AreGreatest-skipped}
-use Rattle.error_bound.proofs.TightLemmas.{still_moves}
+use Rattle.error_bound.proofs.{ListLemmas.drop_back, ListLemmas.slice_get-slice, TightLemmas.still_moves}
 use Rattle.error_bound.proofs.tables.BoxTable.deviations.Goals as goal
 
 pub loop-n-preserved-then-may_fire : goal.loop-n-preserved-then-may_fire
@@ -14,13 +12,10 @@ loop-n-preserved-then-may_fire c =
     let rules = c.as_slice-rules.result.now in
     let o = c.args.out in
     let j = c.loop-n.n - 1 in
-    let within : j < length rules = omega (arith, c.loop-n-test.true, c.loop-n.auto.n) in
-    let back : suc j ≡ c.loop-n.n = omega (arith, c.loop-n-test.true) in
     let r = c.index-rules-n.result in
-    let here : drop j rules ≡ r ∷ drop c.loop-n.n rules = drop-cons rules j r within
-    ∙ ap₂ (λ q n. q ∷ drop n rules) (sym c.index-rules-n.is) back in
-    let found : slice_get b.rules j ≡ Some r = subst (λ l. slice_get l j ≡ Some r) c.as_slice-rules.ensures
-    (slice_get_read rules (length rules) j r refl within c.index-rules-n.is) in
+    let here = drop_back rules c.loop-n.n r r c.loop-n-test.true c.loop-n.auto.n c.index-rules-n.is in
+    let found = slice_get-slice rules b.rules j r c.as_slice-rules.ensures
+    (omega (arith, c.loop-n-test.true, c.loop-n.auto.n)) c.index-rules-n.is in
     let deviation = c.moving_deviation-deviation.result in
     let m = c.moving_deviation-deviation.ensures in
     let rest = drop c.loop-n.n rules in
@@ -44,13 +39,10 @@ loop-n-preserved c =
     let rules = c.as_slice-rules.result.now in
     let o = c.args.out in
     let j = c.loop-n.n - 1 in
-    let within : j < length rules = omega (arith, c.loop-n-test.true, c.loop-n.auto.n) in
-    let back : suc j ≡ c.loop-n.n = omega (arith, c.loop-n-test.true) in
     let r = c.index-rules-n.result in
-    let here : drop j rules ≡ r ∷ drop c.loop-n.n rules = drop-cons rules j r within
-    ∙ ap₂ (λ q n. q ∷ drop n rules) (sym c.index-rules-n.is) back in
-    let found : slice_get b.rules j ≡ Some r = subst (λ l. slice_get l j ≡ Some r) c.as_slice-rules.ensures
-    (slice_get_read rules (length rules) j r refl within c.index-rules-n.is) in
+    let here = drop_back rules c.loop-n.n r r c.loop-n-test.true c.loop-n.auto.n c.index-rules-n.is in
+    let found = slice_get-slice rules b.rules j r c.as_slice-rules.ensures
+    (omega (arith, c.loop-n-test.true, c.loop-n.auto.n)) c.index-rules-n.is in
     let still = c.may_fire.ensures.still c.if-may_fire.false r found in
     let rest = drop c.loop-n.n rules in
     let before = c.loop-n.invariant in

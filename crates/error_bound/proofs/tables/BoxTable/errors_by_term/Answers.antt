@@ -1,16 +1,11 @@
-use Rattle.std.proofs.Common.{◌≡◌, ℕ, suc, ◌+◌, ◌-◌, ◌<◌, ◌≤◌, max, Bool, true, false, ◌∷◌, length, drop, refl, sym}
-use Rattle.std.proofs.{lemmas.Option.slice_get_read, Common.ap, Common.ap₂, Common.◌∙◌, Common.arith}
-use Rattle.std.proofs.Math.Seq.{drop-cons}
+use Rattle.std.proofs.Common.{◌≡◌, ℕ, ◌+◌, ◌-◌, max, Bool, true, false, refl, sym, ap, ap₂, ◌∙◌, arith}
 use Rattle.std.specs.Prelude.{if◌then◌else◌}
 use Rattle.fuzzy_meaning.specs.{declared.block.Rule.Rule, Meaning.concludes}
 use Rattle.error_bound.specs.{Errors.output_error_among, Errors.rule_error, CellErrors.term_errors}
 use Rattle.error_bound.specs.Leaves.{concludes_some}
-use Rattle.error_bound.proofs.LeafLemmas.{any-some}
+use Rattle.error_bound.proofs.{LeafLemmas.any-some, ListLemmas.drop_back, ListLemmas.slice_get-slice}
+use Rattle.error_bound.proofs.TightLawLemmas.{raised-le}
 use Rattle.error_bound.proofs.tables.BoxTable.errors_by_term.Goals as goal
-
-raised-le : (p : Bool) (x y a n : ℕ) → a ≡ (if p then max x y else y) → x ≤ n → y ≤ n → a ≤ n
-raised-le true x y a n e hx hy = omega arith
-raised-le false x y a n e hx hy = omega arith
 
 pub loop-n-preserved-then-concludes_some : goal.loop-n-preserved-then-concludes_some
 loop-n-preserved-then-concludes_some c =
@@ -20,16 +15,12 @@ loop-n-preserved-then-concludes_some c =
     let o = c.args.out in
     let j = c.loop-n.n - 1 in
     let r0 = c.index-rules-n-then-concludes_some.result in
-    let all : rules ≡ b.rules = c.as_slice-rules.ensures in
-    let some = c.loop-n-test.true in
-    let upto = c.loop-n.auto.n in
-    let within : j < length rules = omega arith in
-    let found = slice_get_read rules (length rules) j r0 refl within c.index-rules-n-then-concludes_some.is in
-    let q = c.error_of_rule-error.ensures r0 (rw all at found) in
+    let here = drop_back rules c.loop-n.n r0 r0 c.loop-n-test.true c.loop-n.auto.n
+    c.index-rules-n-then-concludes_some.is in
+    let found = slice_get-slice rules b.rules j r0 c.as_slice-rules.ensures
+    (omega (arith, c.loop-n-test.true, c.loop-n.auto.n)) c.index-rules-n-then-concludes_some.is in
+    let q = c.error_of_rule-error.ensures r0 found in
     let error = c.error_of_rule-error.result in
-    let back : suc j ≡ c.loop-n.n = omega arith in
-    let here : drop j rules ≡ r0 ∷ drop c.loop-n.n rules = drop-cons rules j r0 within
-    ∙ ap₂ (λ r n. r ∷ drop n rules) (sym c.index-rules-n-then-concludes_some.is) back in
     let before = c.loop-n.invariant in
     let raised = c.raise_terms.ensures in
     record {
@@ -54,13 +45,8 @@ loop-n-preserved c =
     let rules = c.as_slice-rules.result.now in
     let e = term_errors c.args.self.now.table.now.block.now c.args.self.now.bytes.0.items in
     let o = c.args.out in
-    let j = c.loop-n.n - 1 in
     let r0 = c.index-rules-n.result in
-    let some = c.loop-n-test.true in
-    let upto = c.loop-n.auto.n in
-    let back : suc j ≡ c.loop-n.n = omega arith in
-    let here : drop j rules ≡ r0 ∷ drop c.loop-n.n rules = drop-cons rules j r0 (omega arith)
-    ∙ ap₂ (λ r n. r ∷ drop n rules) (sym c.index-rules-n.is) back in
+    let here = drop_back rules c.loop-n.n r0 r0 c.loop-n-test.true c.loop-n.auto.n c.index-rules-n.is in
     let before = c.loop-n.invariant in
     record {
       count = before.count;

@@ -1,10 +1,8 @@
-use Rattle.std.proofs.Common.{◌≡◌, ℕ, suc, true, false, ◌+◌, ◌-◌, ◌<◌, ◌∷◌, length, drop, Some, refl, sym, ap₂, ◌∙◌}
-use Rattle.std.proofs.{Common.ap, Common.subst, Common.arith, Math.Seq.drop-cons, lemmas.Option.slice_get_read}
-use Rattle.std.specs.Prelude.{slice_get}
+use Rattle.std.proofs.Common.{◌≡◌, ℕ, true, false, ◌+◌, ◌-◌, drop, sym, ap, ◌∙◌, arith}
 use Rattle.fuzzy_meaning.specs.declared.block.Rule.{Rule}
 use Rattle.error_bound.specs.{Tight.low_part, Tight.high_part, Leaves.concludes_some, Boxes.rule_byte_span}
 use Rattle.error_bound.proofs.TightLawLemmas.{AreGreatest-raised, AreGreatest-skipped, AreGreatest-within}
-use Rattle.error_bound.proofs.{TightLemmas.ends_ordered}
+use Rattle.error_bound.proofs.{ListLemmas.drop_back, ListLemmas.slice_get-slice, TightLemmas.ends_ordered}
 use Rattle.error_bound.proofs.tables.BoxTable.masses.Goals as goal
 
 pub loop-n-preserved-in-Some : goal.loop-n-preserved-in-Some
@@ -14,13 +12,10 @@ loop-n-preserved-in-Some c =
     let rules = c.as_slice-rules.result.now in
     let o = c.args.out in
     let j = c.loop-n.n - 1 in
-    let within : j < length rules = omega (arith, c.loop-n-test.true, c.loop-n.auto.n) in
-    let back : suc j ≡ c.loop-n.n = omega (arith, c.loop-n-test.true) in
     let r = c.index-rules-n.result in
-    let here : drop j rules ≡ r ∷ drop c.loop-n.n rules = drop-cons rules j r within
-    ∙ ap₂ (λ q n. q ∷ drop n rules) (sym c.index-rules-n.is) back in
-    let found : slice_get b.rules j ≡ Some r = subst (λ l. slice_get l j ≡ Some r) c.as_slice-rules.ensures
-    (slice_get_read rules (length rules) j r refl within c.index-rules-n.is) in
+    let here = drop_back rules c.loop-n.n r r c.loop-n-test.true c.loop-n.auto.n c.index-rules-n.is in
+    let found = slice_get-slice rules b.rules j r c.as_slice-rules.ensures
+    (omega (arith, c.loop-n-test.true, c.loop-n.auto.n)) c.index-rules-n.is in
     let m = c.in-Some.ensures.mass r found in
     let mass = c.in-Some.mass in
     let rest = drop c.loop-n.n rules in
@@ -50,13 +45,10 @@ loop-n-preserved-in_default c =
     let rules = c.as_slice-rules.result.now in
     let o = c.args.out in
     let j = c.loop-n.n - 1 in
-    let within : j < length rules = omega (arith, c.loop-n-test.true, c.loop-n.auto.n) in
-    let back : suc j ≡ c.loop-n.n = omega (arith, c.loop-n-test.true) in
     let r = c.index-rules-n.result in
-    let here : drop j rules ≡ r ∷ drop c.loop-n.n rules = drop-cons rules j r within
-    ∙ ap₂ (λ q n. q ∷ drop n rules) (sym c.index-rules-n.is) back in
-    let found : slice_get b.rules j ≡ Some r = subst (λ l. slice_get l j ≡ Some r) c.as_slice-rules.ensures
-    (slice_get_read rules (length rules) j r refl within c.index-rules-n.is) in
+    let here = drop_back rules c.loop-n.n r r c.loop-n-test.true c.loop-n.auto.n c.index-rules-n.is in
+    let found = slice_get-slice rules b.rules j r c.as_slice-rules.ensures
+    (omega (arith, c.loop-n-test.true, c.loop-n.auto.n)) c.index-rules-n.is in
     let m = c.in_default.ensures.within r found in
     let so_far = c.least_masses-so_far.ensures in
     let rest = drop c.loop-n.n rules in
@@ -86,11 +78,8 @@ loop-n-preserved c =
     let rules = c.as_slice-rules.result.now in
     let o = c.args.out in
     let j = c.loop-n.n - 1 in
-    let within : j < length rules = omega (arith, c.loop-n-test.true, c.loop-n.auto.n) in
-    let back : suc j ≡ c.loop-n.n = omega (arith, c.loop-n-test.true) in
     let r = c.index-rules-n.result in
-    let here : drop j rules ≡ r ∷ drop c.loop-n.n rules = drop-cons rules j r within
-    ∙ ap₂ (λ q n. q ∷ drop n rules) (sym c.index-rules-n.is) back in
+    let here = drop_back rules c.loop-n.n r r c.loop-n-test.true c.loop-n.auto.n c.index-rules-n.is in
     let none = sym c.concludes_some.ensures ∙ c.if-concludes_some.false in
     let rest = drop c.loop-n.n rules in
     let before = c.loop-n.invariant in

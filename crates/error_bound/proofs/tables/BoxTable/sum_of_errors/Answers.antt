@@ -1,8 +1,8 @@
-use Rattle.std.proofs.Common.{◌≡◌, suc, ◌+◌, ◌-◌, ◌<◌, ◌∷◌, length, drop, get_or, sym, ap, ap₂, ◌∙◌, arith}
+use Rattle.std.proofs.Common.{◌≡◌, ◌+◌, ◌-◌, ◌<◌, drop, refl, sym, ap, ap₂, ◌∙◌, arith}
 use Rattle.std.specs.Prelude.{pos}
-use Rattle.std.proofs.Math.Seq.{drop-cons}
 use Rattle.fz_num.specs.declared.dec.Dec.{Dec}
 use Rattle.error_bound.specs.{CellErrors.term_errors, Bounds.errors_from}
+use Rattle.error_bound.proofs.ListLemmas.{drop_back}
 use Rattle.error_bound.proofs.tables.BoxTable.sum_of_errors.Goals as goal
 
 pub loop-k-preserved : goal.loop-k-preserved
@@ -16,11 +16,8 @@ loop-k-preserved c =
     let some = c.loop-k-test.true in
     let upto = c.loop-k.auto.k in
     let count = c.len-k.ensures in
-    let within : k - 1 < length us = omega arith in
-    let back : suc (k - 1) ≡ k = omega arith in
     let next : k - 1 + 1 + 1 ≡ k + 1 = omega arith in
-    let here : drop (k - 1) us ≡ get_or us (k - 1) none ∷ drop k us = drop-cons us (k - 1) none within
-    ∙ ap (λ n. get_or us (k - 1) none ∷ drop n us) back in
+    let here = drop_back us k _ none some (omega arith) refl in
     let before = c.loop-k.invariant in
     let few = before.0 in
     let terms = c.requires.output.few_terms in
