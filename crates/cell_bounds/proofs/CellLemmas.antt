@@ -21,7 +21,7 @@ use Rattle.error_bound.specs.{MassRanges.ranges, MassRanges.answer_at, MassRange
 use Rattle.error_bound.specs.{TightLaws.TightBoundsAreOne, TightLaws.TightBoundsAreSmall, Tight.of_bound as count_of}
 use Rattle.error_bound.specs.{Spans.Span, Spans.only, Spans.reversed, Spans.spans, Spans.byte_span, Leaves.Holds}
 use Rattle.error_bound.specs.{declared.boxes.Interval.Interval, Boxes.greatest_from, Boxes.IsBoxOf, Best.silent_leaf}
-use Rattle.cell_error.specs.{Errors.Covers, Errors.IsRange, Errors.IsCellError, declared.ranges.MassRange.MassRange}
+use Rattle.cell_error.specs.{Errors.Covers, Errors.IsRange, declared.ranges.MassRange.MassRange}
 use Rattle.cell_error.specs.Errors.{sure_mass}
 use Rattle.cell_error.specs.declared.ranges.Answer.{Answer}
 use Rattle.cell_bounds.specs.Cells.{unsure, silent, ErrorsOnCellsAreOne, UnsureCellsHaveNone, IsErrorOnCell, IsUnsure}
@@ -154,17 +154,6 @@ pub unanswered : (b : Block) (box : List Interval) (o : ℕ) (x : Output) → ou
     → ((bytes : List ℕ) → LieIn box bytes → total_mass (byte_shares b bytes o x) ≡ 0)
     → IfSome (output_at b o) (IsUnsure b box o)
 unanswered b box o x ex nc none = rw ex (silent nc none)
-
-pub error_on : (b : Block) (box : List Interval) (o : ℕ) (x : Output) (h n : ℕ) (c : CellMasses)
-    → AreCellMasses b box o x h c → IsCellError c.answer (terms_of c) c.rest n → IsErrorOnCell b box o x h n
-error_on b box o x h n c m e = record {
-  answer = c.answer.value;
-  is_answer = m.answers;
-  sure = m.sure;
-  error = subst (λ a. IsCellError a (ranges b box o x) (rest_of x) n) m.answer_is
-      (subst (λ ts. IsCellError c.answer ts (rest_of x) n) m.terms_are
-      (subst (λ r. IsCellError c.answer (terms_of c) r n) m.rest_is e));
-}
 
 -- ---- on a cell the answer over bytes is one
 

@@ -1,7 +1,6 @@
 -- Laws of claims, by cases.
 use Rattle.std.proofs.Common.{◌≡◌, ◌⊎◌, ⊎_elim, ℕ, ◌≤◌, List, length, Option, Some, None, refl, sym, subst, ◌∙◌, arith}
 use Rattle.std.proofs.lemmas.Bool.{cases_eq}
-use Rattle.std.specs.Prelude.{IfSome}
 use Rattle.fz_num.specs.{declared.dec.Dec.Dec, Fractions.Quotient}
 use Rattle.fuzzy_meaning.specs.{declared.block.Output.Output, declared.block.Block.Block, Meaning.answer_after}
 use Rattle.fuzzy_meaning.specs.Blocks.{IsValid}
@@ -124,13 +123,3 @@ pub cell_counts : BoxCountsAreOne → CountsAreOne
 cell_counts boxes kind.Named b bytes o x h n m valid count p q =
     boxes kind.Named b (cell_of bytes) o x h n m valid (sym (long bytes) ∙ count) p q
 cell_counts boxes kind.Tight b bytes o x h n m valid count p q = counts_one b (cell_of bytes) o x h n m p q
-
--- ---- what the code finds
-
-pub each_some : {X : Type 0} (P : X → Type 0) (r : Option X) → ((x : X) → P x) → IfSome r P
-each_some P None h = tt
-each_some P (Some x) h = h x
-
-pub each_more : {X : Type 0} (P Q : X → Type 0) (r : Option X) → ((x : X) → P x → Q x) → IfSome r P → IfSome r Q
-each_more P Q None h p = tt
-each_more P Q (Some x) h p = h x p

@@ -298,10 +298,6 @@ first_in Good Bad (v ∷ vs) judge =
 
 -- ---- their Bounds
 
-at_some : {X : Type 0} {P : X → Type 0} (r : Option X) → ((x : X) → r ≡ Some x → P x) → IfSome r P
-at_some None p = tt
-at_some (Some x) p = p x refl
-
 module _ (b : Block) (h : ℕ) (box : List Interval) (valid : IsValid b) (is : IsBoxOf b box) (hh : 1 ≤ h)
     (counts : EachCellHasACount) where
   count_of : (ns : List ℕ) → Lie box ns → (o : ℕ) (x : Output) → output_at b o ≡ Some x

@@ -1,7 +1,7 @@
 -- The cells of a box, and numbers raised to their Bounds part by part.
 use Rattle.std.proofs.Common.{◌≡◌, ℕ, zero, suc, ◌≤◌, List, [], ◌∷◌, length, Some, refl, sym, subst, ap, ◌∙◌, arith}
 use Rattle.std.proofs.Common.{◌≢◌, ◌⊎◌, inl, inr, ⊎_elim, ◌+◌, ◌-◌, ◌<◌, ap₂, max, Option, None}
-use Rattle.std.proofs.lemmas.List.{length-set, get_or-set_same, get_or-set_other, get_or_past}
+use Rattle.std.proofs.lemmas.List.{length-set, get_or-set_same, get_or-set_other}
 use Rattle.std.proofs.lemmas.Option.{slice_get_within, get_or_from_slice_get}
 use Rattle.std.proofs.{lemmas.Bool.cases_lt, lemmas.Bool.cases_eq, lemmas.List.Sums.sum_by-set}
 use Rattle.std.specs.Prelude.{slice_get, set, IfSome, IfOk, IfErr, Result, Ok, Err, slice_index, slice_set}
@@ -636,11 +636,6 @@ range_whole (suc zero) l = refl
 range_whole (suc (suc zero)) l = refl
 range_whole (suc (suc (suc zero))) l = refl
 range_whole (suc (suc (suc (suc k)))) l = absurd (omega arith)
-
-pub ranges_whole : (k : ℕ) → slice_index whole_ranges k ≤ 1000000
-ranges_whole k = ⊎_elim (λ (l : k < 4). let e = range_whole k l in omega arith)
-    (λ (l : 4 ≤ k). let e : slice_index whole_ranges k ≡ 0 = get_or_past whole_ranges k 0 l in omega arith)
-    (cases_lt k 4)
 
 -- where the numbers of one output stay within the whole range it is unsure nowhere
 pub sure_next : (b : Block) (h place : ℕ) (box : List Interval) (olds news : List ℕ) → place < 4

@@ -13,21 +13,6 @@ use error_bound::{BoxTable, Masses};
 
 /// The error of a table's cell for an output: how far its answer may be from the exact ones, in millionths of the
 /// output's range. With NC it is `None` if no mass is sure to be above 0, or all masses over bytes are 0.
-pub fn cell_error(table: &BoxTable, out: u8) -> Option<u32>
-    requires table { IsTable table.now }
-    requires cell { IsCell (box_of table.now) }
-    requires out_from { 1 ≤ out }
-    requires out_to { out ≤ length (block_of table.now).outputs }
-    ensures error { IfSome result (λ n. IfSome (output_at (block_of table.now) out)
-        (λ x. IsErrorOnCell (block_of table.now) (box_of table.now) out x (parts_of table.now) n)) }
-    ensures small { IfSome result (λ n. n ≤ 1000000) }
-    ensures none { IfNone result
-        (IfSome (output_at (block_of table.now) out) (IsUnsure (block_of table.now) (box_of table.now) out)) }
-{
-    error_by(table, out, &table.masses(out))
-}
-
-/// The same, from masses that are known already.
 fn error_by(table: &BoxTable, out: u8, masses: &Masses) -> Option<u32>
     requires table { IsTable table.now }
     requires cell { IsCell (box_of table.now) }
@@ -49,23 +34,6 @@ fn error_by(table: &BoxTable, out: u8, masses: &Masses) -> Option<u32>
 
 /// The Bound of a table's cell for an output: the lesser of its tight Bound and its error, or `None` if it has
 /// neither.
-pub fn cell_bound(table: &BoxTable, out: u8) -> Option<u32>
-    requires table { IsTable table.now }
-    requires cell { IsCell (box_of table.now) }
-    requires out_from { 1 ≤ out }
-    requires out_to { out ≤ length (block_of table.now).outputs }
-    ensures bound { IfSome result (λ n. IfSome (output_at (block_of table.now) out)
-        (λ x. IsCellBound (block_of table.now) (box_of table.now) out x (parts_of table.now) n)) }
-    ensures small { IfSome result (λ n. n ≤ 1000000) }
-    ensures none { IfNone result (IfSome (output_at (block_of table.now) out)
-        (λ x. (n : ℕ) → HasCellBound (block_of table.now) (box_of table.now) out x (parts_of table.now) n → ⊥)) }
-{
-    let masses = table.masses(out);
-    let tight = table.tight_bound_by(out, &masses);
-    bound_by(table, out, &masses, tight)
-}
-
-/// The same, from masses and a tight Bound that are known already.
 fn bound_by(table: &BoxTable, out: u8, masses: &Masses, tight: Option<u32>) -> Option<u32>
     requires table { IsTable table.now }
     requires cell { IsCell (box_of table.now) }

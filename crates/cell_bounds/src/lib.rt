@@ -8,6 +8,5 @@ pub mod laws;
 mod masses;
 mod walks;
 
-pub use cells::{cell_bound, cell_error};
-pub use claims::{Claim, best_claim};
+pub use claims::Claim;
 pub use walks::{CellAbove, MOST_CELLS, cells_bounds, has_few_cells, low_bytes, sure_cells_bounds};
