@@ -29,7 +29,8 @@ use Rattle.cert_check.specs.Laws.{WideTextsAreAccepted, tight_line, tight_node, 
 use Rattle.cert_check.specs.Trees.{Part, IsTree, lies, whole, leaf, split, left_of, right_of}
 use Rattle.cert_check.specs.Acceptance.{HasBound, IsGreatestBound, IsAccepted, claim_at}
 use Rattle.cert_check.specs.Laws.{TightTextsAreAccepted}
-use Rattle.cert_check.proofs.TreeLemmas.{one_leaf, leaf_with, LieIn-lies, All-both, boxes_are, whole_is, lines_are}
+use Rattle.cert_check.proofs.TreeLemmas.{one_leaf, leaf_with, LieIn-lies, All-both, boxes_are, whole_is, lines_are, listed}
+use Rattle.cert_check.proofs.TreeLemmas.{some_leaf}
 use Rattle.box_tree.specs.declared.cert.CertKind.TheVariants as kind
 use Rattle.box_tree.specs.declared.cert.LeafLine.TheVariants as leaf_line
 
@@ -151,35 +152,6 @@ accepted_near in_cells answers b h cert errors o x e samples valid some acc from
 at_least : {a c d : ℕ} → a ≤ c → c ≤ d → a ≤ d
 at_least h k = omega arith
 
--- a tree has a leaf
-some_leaf : (box : List Interval) (ns r : List Node) (ps : List Part) → IsTree box ns ps r → 0 < length ps
-some_leaf box ns r ps (leaf x stated rest) = omega arith
-some_leaf box ns r ps (split x i c m mid rest left right h cut tl tq) = appended left right (some_leaf _ _ _ left tl)
-  where
-    appended : {X : Type 0} (xs ys : List X) → 0 < length xs → 0 < length (xs ++ ys)
-    appended [] ys h = absurd (omega arith)
-    appended (x ∷ xs) ys h = omega arith
-
--- a number for each element
-choice : {X : Type 0} (Q : ℕ → X → ℕ → Type 0) (xs : List X)
-    → ((k : ℕ) (x : X) → slice_get xs k ≡ Some x → (f : ℕ) × Q k x f)
-    → (fs : List ℕ) × (length fs ≡ length xs)
-    × ((k : ℕ) (x : X) (f : ℕ) → slice_get xs k ≡ Some x → slice_get fs k ≡ Some f → Q k x f)
-choice Q [] h = ([], refl, λ k x f e g. absurd (let z : ⊥ = cc in z))
-choice {X} Q (x ∷ xs) h = step (h 0 x refl) (choice (λ k. Q (suc k)) xs (λ k y e. h (suc k) y e))
-  where
-    step : ((f : ℕ) × Q 0 x f)
-        → ((fs : List ℕ) × (length fs ≡ length xs)
-        × ((k : ℕ) (y : X) (f : ℕ) → slice_get xs k ≡ Some y → slice_get fs k ≡ Some f → Q (suc k) y f))
-        → (fs : List ℕ) × (length fs ≡ length (x ∷ xs))
-        × ((k : ℕ) (y : X) (f : ℕ) → slice_get (x ∷ xs) k ≡ Some y → slice_get fs k ≡ Some f → Q k y f)
-    step head tail = (head.0 ∷ tail.0, ap suc tail.1, at)
-      where
-        at : (k : ℕ) (y : X) (f : ℕ) → slice_get (x ∷ xs) k ≡ Some y → slice_get (head.0 ∷ tail.0) k ≡ Some f → Q k y f
-        at zero y f e g = let e1 : x ≡ y = cc in let e2 : head.0 ≡ f = cc in
-            subst (λ z. Q 0 z f) e1 (subst (λ n. Q 0 x n) e2 head.1)
-        at (suc k) y f e g = tail.2 k y f e g
-
 -- a part that is good, with a Bound for answers in h parts to a byte, has one no greater for g when it is moved
 module _ (b : Block) (h g : ℕ) (Good : Part → Type 0) (move : Part → Part)
     (falls : (o : ℕ) (x : Output) (p : Part) (n : ℕ) → output_at b o ≡ Some x → Good p → HasBound b o x h p n
@@ -272,7 +244,7 @@ module _ (b : Block) (h g : ℕ) (Good : Part → Type 0) (move : Part → Part)
           let ek : k ≡ k + 1 - 1 = omega arith in
           let ex' : output_at b (k + 1) ≡ Some x = subst (λ j. slice_get b.outputs j ≡ Some x) ek ex in
           let s = a.greatest (k + 1) x e.0 (omega arith) ex' (subst (λ j. slice_get es j ≡ Some e.0) ek e.1) in
-          let w = greatest_of (k + 1) x ex' a.parts e.0 (some_leaf (whole b) cert.nodes [] a.parts a.tree)
+          let w = greatest_of (k + 1) x ex' a.parts e.0 (some_leaf (whole b) cert.nodes a.parts [] a.tree)
           (λ j d i. (good j d i, s.each j d i)) in
           (w.0, w.1, λ d ed. same_le w.2 e.1 ed)
         where
@@ -282,7 +254,7 @@ module _ (b : Block) (h g : ℕ) (Good : Part → Type 0) (move : Part → Part)
       c : (fs : List ℕ) × (length fs ≡ length b.outputs)
           × ((k : ℕ) (x : Output) (f : ℕ) → slice_get b.outputs k ≡ Some x → slice_get fs k ≡ Some f
           → IsGreatestBound b (k + 1) x g (map move a.parts) f × ((e : ℕ) → slice_get es k ≡ Some e → f ≤ e))
-      c = choice (λ k x f. IsGreatestBound b (k + 1) x g (map move a.parts) f
+      c = listed (λ k x f. IsGreatestBound b (k + 1) x g (map move a.parts) f
           × ((e : ℕ) → slice_get es k ≡ Some e → f ≤ e))
           b.outputs (λ k x ex. let w = pick k x ex in (w.0, (w.1, w.2)))
 

@@ -1,8 +1,8 @@
 -- Each certificate is accepted or has a fault, and so each text.
 use Rattle.std.proofs.Common.{◌≡◌, ◌⊎◌, inl, inr, ℕ, zero, suc, ◌+◌, ◌-◌, ◌<◌, ◌≤◌, List, [], ◌∷◌, ◌++◌, length}
-use Rattle.std.proofs.Common.{Some, refl, ap, ◌∙◌, subst, arith}
+use Rattle.std.proofs.Common.{Some, refl, ◌∙◌, subst, arith}
 use Rattle.std.proofs.{lemmas.Bool.cases_lt, lemmas.Bool.cases_eq, lemmas.Option.slice_get_within}
-use Rattle.std.proofs.{lemmas.List.Elements.All-append, lemmas.List.length-append}
+use Rattle.std.proofs.lemmas.List.Elements.{All-append}
 use Rattle.std.specs.Prelude.{All, slice_get, Ok, Err}
 use Rattle.fuzzy_meaning.specs.{declared.block.Output.Output, declared.block.Block.Block}
 use Rattle.fuzzy_meaning.specs.Blocks.{IsValid, output_at}
@@ -13,7 +13,7 @@ use Rattle.box_tree.specs.declared.{cert.CertKind.CertKind, cert.LeafLine.LeafLi
 use Rattle.box_tree.specs.declared.cert.Node.TheVariants.{Split, Leaf}
 use Rattle.box_tree.specs.{Certificates.IsCert, Certificates.IsNode, Trees.open_from, Laws.EachTextIsJudged}
 use Rattle.cell_bounds.specs.CellBounds.{EachBoxHasACellsBound}
-use Rattle.cert_check.specs.declared.{checker.CheckFault.CheckFault}
+use Rattle.cert_check.specs.declared.checker.CheckFault.{CheckFault}
 use Rattle.cert_check.specs.declared.checker.CheckFault.TheVariants as fault
 use Rattle.cert_check.specs.declared.text.TextFault.TheVariants as refusal
 use Rattle.cert_check.specs.Trees.{Part, part_of, IsTree, leaf, split, left_of, right_of, IsCut, whole}
@@ -23,30 +23,10 @@ use Rattle.cert_check.specs.Faults.{AreClaimed, IsFirstOver, HasCheckFault, outp
 use Rattle.cert_check.specs.TextFaults.{of_text, of_cert}
 use Rattle.cert_check.specs.Laws.{BoundedTreesAreAccepted, EachCertIsJudged, EachCertTextIsJudged}
 use Rattle.cert_check.proofs.FaultLemmas.{left_count, right_count}
-use Rattle.cert_check.proofs.TreeLemmas.{IsBox-halves, whole_is, one_of, All-tail}
+use Rattle.cert_check.proofs.TreeLemmas.{IsBox-halves, whole_is, one_of, All-tail, listed, some_leaf}
 use Rattle.cert_check.proofs.JudgedLeaves.{part_judged}
 
 -- ---- a tree with a Bound at each leaf is accepted
-
--- one number for each of a list
-listed : {X : Type 0} (P : ℕ → X → ℕ → Type 0) (xs : List X)
-    → ((j : ℕ) (x : X) → slice_get xs j ≡ Some x → (e : ℕ) × P j x e)
-    → (es : List ℕ) × (length es ≡ length xs)
-    × ((j : ℕ) (x : X) (e : ℕ) → slice_get xs j ≡ Some x → slice_get es j ≡ Some e → P j x e)
-listed {X} P [] each = ([], refl, λ j x e at here. absurd (let z : ⊥ = cc in z))
-listed {X} P (x ∷ xs) each =
-    let first = each 0 x refl in
-    let rest = listed (λ j. P (suc j)) xs (λ j y at. each (suc j) y at) in
-    (first.0 ∷ rest.0, ap suc rest.1, at first.0 rest.0 first.1 rest.2)
-  where
-    at : (e : ℕ) (es : List ℕ) → P 0 x e
-        → ((j : ℕ) (y : X) (d : ℕ) → slice_get xs j ≡ Some y → slice_get es j ≡ Some d → P (suc j) y d)
-        → (j : ℕ) (y : X) (d : ℕ) → slice_get (x ∷ xs) j ≡ Some y → slice_get (e ∷ es) j ≡ Some d → P j y d
-    at e es first rest zero y d here there =
-        let same : x ≡ y = cc in
-        let alike : e ≡ d = cc in
-        subst (P 0 y) alike (subst (λ z. P 0 z e) same first)
-    at e es first rest (suc j) y d here there = rest j y d here there
 
 module _ (b : Block) (h o : ℕ) (x : Output) where
   abbrev IsBounded : Part → Type 0
@@ -95,13 +75,6 @@ module _ (b : Block) (h o : ℕ) (x : Output) where
   of_some : (ps : List Part) → 0 < length ps → All IsBounded ps → (e : ℕ) × IsGreatestBound b o x h ps e
   of_some [] some all = absurd (omega (arith, some))
   of_some (p ∷ ps) some all = greatest p ps all
-
-some_leaf : (box : List Interval) (nodes : List Node) (parts : List Part) (rest : List Node) → IsTree box nodes parts rest
-    → 0 < length parts
-some_leaf _ _ _ _ (leaf box stated rest) = omega arith
-some_leaf _ _ _ _ (split box i c nodes mid rest left right from cut l r) =
-    let some = some_leaf (left_of (i - 1) c box) nodes left mid l in
-    omega (arith, some, length-append left right)
 
 pub bounded_accepted : BoundedTreesAreAccepted
 bounded_accepted b h nodes parts is_tree bounds =

@@ -1,6 +1,6 @@
 -- Cuts and halves of a box: each list of bytes of it lies in exactly one leaf of a tree over it.
 use Rattle.std.proofs.Common.{◌≡◌, ℕ, zero, suc, ◌+◌, ◌-◌, ◌<◌, ◌≤◌, List, [], ◌∷◌, ◌++◌, length, map, take, Some}
-use Rattle.std.proofs.Common.{None, refl, ap, subst, arith, Bool, true, false, ◌&&◌, sym, ap₂, ◌∙◌}
+use Rattle.std.proofs.Common.{None, refl, ap, subst, arith, Bool, true, false, ◌&&◌, sym, ap₂, ◌∙◌, length-append}
 use Rattle.std.proofs.{lemmas.List.Elements.All-append, lemmas.Bool.Decides.nat_tests}
 use Rattle.std.specs.Prelude.{slice_get, set, nat_le, if◌then◌else◌, All}
 use Rattle.fuzzy_meaning.specs.{declared.block.Block.Block, declared.block.Input.Input}
@@ -317,3 +317,31 @@ leaf_around b h cert errors o x e bytes a from ex ee count small =
       bound_is = bound.bound_is;
       within = p.2.1.1.2;
     }
+
+-- a tree has a leaf
+pub some_leaf : (box : List Interval) (nodes : List Node) (parts : List Part) (rest : List Node) → IsTree box nodes parts rest
+    → 0 < length parts
+some_leaf _ _ _ _ (leaf box stated rest) = omega arith
+some_leaf _ _ _ _ (split box i c nodes mid rest left right from cut l r) =
+    let some = some_leaf (left_of (i - 1) c box) nodes left mid l in
+    omega (arith, some, length-append left right)
+
+-- one number for each of a list
+pub listed : {X : Type 0} (P : ℕ → X → ℕ → Type 0) (xs : List X)
+    → ((j : ℕ) (x : X) → slice_get xs j ≡ Some x → (e : ℕ) × P j x e)
+    → (es : List ℕ) × (length es ≡ length xs)
+    × ((j : ℕ) (x : X) (e : ℕ) → slice_get xs j ≡ Some x → slice_get es j ≡ Some e → P j x e)
+listed {X} P [] each = ([], refl, λ j x e at here. absurd (let z : ⊥ = cc in z))
+listed {X} P (x ∷ xs) each =
+    let first = each 0 x refl in
+    let rest = listed (λ j. P (suc j)) xs (λ j y at. each (suc j) y at) in
+    (first.0 ∷ rest.0, ap suc rest.1, at first.0 rest.0 first.1 rest.2)
+  where
+    at : (e : ℕ) (es : List ℕ) → P 0 x e
+        → ((j : ℕ) (y : X) (d : ℕ) → slice_get xs j ≡ Some y → slice_get es j ≡ Some d → P (suc j) y d)
+        → (j : ℕ) (y : X) (d : ℕ) → slice_get (x ∷ xs) j ≡ Some y → slice_get (e ∷ es) j ≡ Some d → P j y d
+    at e es first rest zero y d here there =
+        let same : x ≡ y = cc in
+        let alike : e ≡ d = cc in
+        subst (P 0 y) alike (subst (λ z. P 0 z e) same first)
+    at e es first rest (suc j) y d here there = rest j y d here there

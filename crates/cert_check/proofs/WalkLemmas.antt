@@ -22,7 +22,7 @@ use Rattle.cert_check.specs.Faults.{in_right, bad_cut, bad_leaf, tree, IsFirstOv
 use Rattle.cert_check.specs.Walks.{HasWalked, cert_over, IsBehind, HasTaken, AreFirst}
 use Rattle.cert_check.specs.Acceptance.{HasBound, IsGreatestBound, IsAccepted}
 use Rattle.cert_check.specs.{declared.checker.CheckFault.CheckFault, declared.walk.Walk.Walk}
-use Rattle.cert_check.proofs.TreeLemmas.{IsBox-halves, one_of, whole_is}
+use Rattle.cert_check.proofs.TreeLemmas.{IsBox-halves, All-tail, one_of, whole_is}
 use Rattle.cert_check.proofs.{FaultLemmas.left_count, FaultLemmas.right_count, LeafLemmas.bounds_hold}
 use Rattle.fz_list.proofs.Algebra.{All-cons}
 use Rattle.cert_check.specs.declared.checker.CheckFault.TheVariants as fault
@@ -69,7 +69,7 @@ reached_leaf : (b : Block) (h : ℕ) (box : List Interval) (boxes : List (List I
 reached_leaf b h box boxes stated nodes found rest hold more = inr
     (part_of box stated ∷ [], nodes, leaf box stated nodes, one_of (AllHold b h) (part_of box stated) hold, more)
 
-Any-left : {X : Type 0} (P : X → Type 0) (xs ys : List X) → Any P xs → Any P (xs ++ ys)
+pub Any-left : {X : Type 0} (P : X → Type 0) (xs ys : List X) → Any P xs → Any P (xs ++ ys)
 Any-left P [] ys (k, x, l, e, p) = absurd (omega arith)
 Any-left P (z ∷ xs) ys (zero, x, l, e, p) = (zero, x, omega arith, e, p)
 Any-left P (z ∷ xs) ys (suc k, x, l, e, p) = let r = Any-left P xs ys (k, x, omega arith, e, p) in let l' = r.2 in
@@ -111,9 +111,6 @@ greatest_all b o x h (p ∷ parts) zero l g =
 
 All-head : {X : Type 0} (P : X → Type 0) (x : X) (xs : List X) → All P (x ∷ xs) → P x
 All-head P x xs a = a 0 x (omega arith)
-
-All-tail : {X : Type 0} (P : X → Type 0) (x : X) (xs : List X) → All P (x ∷ xs) → All P xs
-All-tail P x xs a k d l = a (suc k) d (omega arith)
 
 zero_at : (n k : ℕ) → slice_index (replicate {A = ℕ} n 0) k ≡ 0
 zero_at zero k = refl
@@ -478,19 +475,6 @@ few_lines_taken w nodes node behind first =
     behind.walked in
     let at = behind.line in
     omega (arith, l, at)
-
--- a fault that was met stays the first
-pub passed_by : (w : Walk) (nodes : List Node) (node : Node) (f : CheckFault) → w.fault ≡ Some f → HasTaken nodes w
-    → HasTaken (nodes ++ node ∷ []) w
-passed_by w nodes node f some taken = record {
-  claims = taken.claims;
-  table = taken.table;
-  so_far = subst (λ g. MatchOption g (IsBehind (nodes ++ node ∷ []) w)
-      (λ fault. (rest : List Node)
-      → HasWalkFault w ((nodes ++ node ∷ []) ++ rest) fault)) (sym some)
-      (λ rest. subst (λ ns. HasWalkFault w ns f)
-      (sym (append_assoc nodes (node ∷ []) rest)) (as_fault w nodes (node ∷ rest) f some taken));
-}
 
 -- ---- a walk's first moment and its last
 
