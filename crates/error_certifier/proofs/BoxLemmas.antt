@@ -5,13 +5,14 @@ use Rattle.std.proofs.{lemmas.List.Elements.All-append, lemmas.Option.slice_get_
 use Rattle.std.proofs.Common.{append_assoc, Bool, true, false, Option}
 use Rattle.std.specs.{Prelude.if◌then◌else◌, Prelude.slice_get, Prelude.All, Prelude.◌⊎◌, Prelude.slice_index}
 use Rattle.std.specs.{Global.Vec, List.Any}
-use Rattle.fuzzy_meaning.specs.{declared.block.Output.Output, declared.block.Block.Block, declared.block.Input.Input}
+use Rattle.fuzzy_meaning.specs.{declared.block.Output.Output, declared.block.Block.Block}
 use Rattle.error_bound.specs.{declared.boxes.Interval.Interval, Boxes.IsBox, Boxes.IsBoxOf}
 use Rattle.error_bound.specs.{Matters.matters, Matters.narrowed_from}
 use Rattle.cell_bounds.specs.{CellBounds.cell_count, Cells.cell_of}
-use Rattle.cert_check.specs.Trees.{whole, left_of, right_of, Part, IsTree, leaf, split, part_of, IsCut}
+use Rattle.cert_check.specs.Trees.{left_of, right_of, Part, IsTree, leaf, split, part_of, IsCut}
 use Rattle.cert_check.specs.{BoxLaws.HasHalves, BoxLaws.CutsHaveHalves, Walks.cuts_of, Walks.AreRaised}
 use Rattle.cert_check.specs.Acceptance.{HasBound}
+use Rattle.cert_check.proofs.{TreeLemmas.one_of, WalkLemmas.Any-left}
 use Rattle.error_certifier.specs.Halving.{IsWidest, IsHalvedAt, middle_of, IsToCut, Halves, leaf as halved_leaf}
 use Rattle.error_certifier.specs.{declared.leaves.FoundLeaf.FoundLeaf, Trees.IsFoundLeaf, Trees.RisesTo, Trees.Grows}
 use Rattle.error_certifier.specs.{Halving.split as halved_split, declared.halving.Tree.Tree}
@@ -59,25 +60,6 @@ pub right_box : {by : List Interval} → CutsHaveHalves → (b : Block) (box : L
 right_box cuts b box k c at is =
     let h = halves_of cuts box k c at in
     record { count = ap length (sym h.right_is) ∙ length-set box k _ ∙ is.count; intervals = h.right_box is.intervals }
-
-abbrev all_bytes : List Input → List Interval
-all_bytes is = map (λ (_ : Input). record { from = 0; to = 255 }) is
-
-length-all_bytes : (is : List Input) → length (all_bytes is) ≡ length is
-length-all_bytes [] = refl
-length-all_bytes (i ∷ is) = ap suc (length-all_bytes is)
-
-all_boxes : (is : List Input) (k : ℕ) (v : Interval) → slice_get (all_bytes is) k ≡ Some v
-    → (v.from ≤ v.to) × (v.to ≤ 255)
-all_boxes [] k v e = absurd (let z : ⊥ = cc in z)
-all_boxes (i ∷ is) zero v e =
-    let all : Interval = record { from = 0; to = 255 } in
-    let same : v ≡ all = cc in
-    subst (λ (u : Interval). (u.from ≤ u.to) × (u.to ≤ 255)) (sym same) (omega arith, omega arith)
-all_boxes (i ∷ is) (suc k) v e = all_boxes is k v e
-
-pub whole_box : (b : Block) → IsBoxOf b (whole b)
-whole_box b = record { count = length-all_bytes b.inputs; intervals = record { some = all_boxes b.inputs } }
 
 -- ---- one widest interval
 
@@ -221,24 +203,12 @@ narrowed_at b box i (w ∷ vs) (suc k) v e l = narrowed_at b box (i + 1) vs k v 
 
 -- ---- of some in a list
 
-Any-left : {X : Type 0} (P : X → Type 0) (xs ys : List X) → Any P xs → Any P (xs ++ ys)
-Any-left P [] ys (k, x, l, e, p) = absurd (omega arith)
-Any-left P (z ∷ xs) ys (zero, x, l, e, p) = (zero, x, omega arith, e, p)
-Any-left P (z ∷ xs) ys (suc k, x, l, e, p) =
-    let r = Any-left P xs ys (k, x, omega arith, e, p) in
-    let l' = r.2 in
-    (suc r.0, r.1, omega arith, r.3, r.4)
-
 Any-right : {X : Type 0} (P : X → Type 0) (xs ys : List X) → Any P ys → Any P (xs ++ ys)
 Any-right P [] ys a = a
 Any-right P (z ∷ xs) ys a = let r = Any-right P xs ys a in let l = r.2 in (suc r.0, r.1, omega arith, r.3, r.4)
 
 Any-one : {X : Type 0} (P : X → Type 0) (x : X) → P x → Any P (x ∷ [])
 Any-one P x p = (zero, x, omega arith, refl, p)
-
-pub All-one : {X : Type 0} (P : X → Type 0) (x : X) → P x → All P (x ∷ [])
-All-one P x p zero d l = p
-All-one P x p (suc k) d l = absurd (omega arith)
 
 -- ---- errors
 
@@ -277,7 +247,7 @@ module _ (kind : CertKind) (b : Block) (h : ℕ) (targets : List ℕ) (box : Lis
       record {
         rises = omega arith;
         within = λ l. omega arith;
-        each = All-one (λ r. (m : ℕ) × HasBound b (k + 1) x h r m × (m ≤ new)) part (n, has, omega arith);
+        each = one_of (λ r. (m : ℕ) × HasBound b (k + 1) x h r m × (m ≤ new)) part (n, has, omega arith);
         some = ⊎_elim
             (λ (l : old < n).
             let same : n ≡ new = omega arith in
@@ -301,7 +271,7 @@ module _ (kind : CertKind) (b : Block) (h : ℕ) (targets : List ℕ) (box : Lis
     halves = subst (λ m. Halves kind b h targets box old.leaves (Leaf found.stated ∷ []) m) (sym more)
         (halved_leaf box old.leaves found.stated leaf_is.settled few);
     tree = λ rest. leaf box found.stated rest;
-    good = All-one (IsNode kind (length b.outputs)) (Leaf found.stated) leaf_is.good;
+    good = one_of (IsNode kind (length b.outputs)) (Leaf found.stated) leaf_is.good;
     count = raised.count;
     errors = λ k x e.
         let inside : k < length old.errors.items =

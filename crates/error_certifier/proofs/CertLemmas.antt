@@ -1,22 +1,23 @@
 -- The certificate of a whole tree.
 use Rattle.std.proofs.Common.{◌≡◌, ⊎_elim, ℕ, zero, suc, ◌+◌, ◌-◌, ◌<◌, ◌≤◌, List, [], ◌∷◌, ◌++◌, length, get_or}
-use Rattle.std.proofs.Common.{replicate, Some, refl, sym, ap, ◌∙◌, subst, arith, length-append}
-use Rattle.std.specs.Prelude.{slice_get, slice_index, All}
+use Rattle.std.proofs.Common.{replicate, Some, refl, sym, ap, ◌∙◌, subst, arith}
+use Rattle.std.specs.Prelude.{slice_get, slice_index}
 use Rattle.std.specs.List.{Any}
 use Rattle.std.proofs.lemmas.List.{append-nil, length-replicate}
-use Rattle.std.proofs.lemmas.Option.{slice_get_within, slice_get-get_or, get_or_from_slice_get}
+use Rattle.std.proofs.lemmas.Option.{get_or_from_slice_get}
 use Rattle.fz_list.proofs.Algebra.{some_at}
 use Rattle.fuzzy_meaning.specs.declared.{block.Block.Block, block.Output.Output}
 use Rattle.fuzzy_meaning.specs.Blocks.{IsValid, output_at}
 use Rattle.error_bound.specs.declared.boxes.Interval.{Interval}
 use Rattle.box_tree.specs.declared.{cert.CertKind.CertKind, cert.Node.Node, cert.Cert.Cert}
 use Rattle.box_tree.specs.declared.cert.Node.TheVariants.{Split, Leaf}
-use Rattle.box_tree.specs.{Certificates.IsNode, Certificates.IsCert, Trees.open_from, Trees.leaf_count}
+use Rattle.box_tree.specs.{Trees.open_from, Trees.leaf_count}
 use Rattle.box_tree.specs.Laws.{OpenBoxesGoOn}
-use Rattle.cert_check.specs.Trees.{Part, IsTree, leaf, split, whole}
+use Rattle.cert_check.specs.Trees.{Part, IsTree, whole}
 use Rattle.cert_check.specs.Acceptance.{HasBound, IsGreatestBound, IsAccepted}
+use Rattle.cert_check.proofs.TreeLemmas.{some_leaf}
 use Rattle.error_certifier.specs.{declared.halving.Tree.Tree, Trees.RisesTo, Trees.Grows}
-use Rattle.error_certifier.specs.{Targets.AreTargets, Laws.AreWithin}
+use Rattle.error_certifier.specs.Targets.{AreTargets}
 use Rattle.error_certifier.specs.Halving.{Halves, leaf as halved_leaf, split as halved_split, IsHalvingFor}
 
 -- ---- nodes that are one tree
@@ -45,13 +46,6 @@ halved_leaves kind b h targets _ _ _ _ (halved_split box k c n m r left right cu
     let q0 = q.0 in
     let sum = leaf_count-append left right in
     (omega arith, q.1)
-
-some_part : (box : List Interval) (nodes rest : List Node) (parts : List Part) → IsTree box nodes parts rest
-    → 0 < length parts
-some_part _ _ _ _ (leaf box stated rest) = omega arith
-some_part _ _ _ _ (split box i c nodes mid rest left right from cut l r) =
-    let some = some_part _ nodes mid left l in
-    omega (arith, length-append left right)
 
 -- ---- errors from 0 on
 
@@ -118,7 +112,7 @@ module _ (kind : CertKind) (b : Block) (h : ℕ) (targets : List ℕ) (old new :
       (subst (λ n. RisesTo b h target (o - 1 + 1) x g.parts (slice_index old.errors.items (o - 1)) n)
       (error_at (o - 1) e ee) r) in
       greatest_of b h target o x g.parts (slice_index old.errors.items (o - 1)) e
-      (some_part (whole b) cert.nodes [] g.parts tree) (zero_at (o - 1)) rises
+      (some_leaf (whole b) cert.nodes g.parts [] tree) (zero_at (o - 1)) rises
 
   accepted : IsAccepted b h cert cert.claims
   accepted = record {
@@ -132,37 +126,3 @@ module _ (kind : CertKind) (b : Block) (h : ℕ) (targets : List ℕ) (old new :
 
   pub is_halving : IsHalvingFor kind b h targets cert
   is_halving = record { targets_are = targets_are; leaves = new.leaves; nodes = halved; claims = accepted }
-
-  pub claims_within : AreWithin targets cert.claims
-  claims_within k e is =
-      let c = count in
-      let inside : k < length b.outputs = omega (arith, slice_get_within cert.claims k e is) in
-      let x = some_at b.outputs k inside in
-      let r = g.errors k x.0 x.1 in
-      let z = zero_at k in
-      let at = error_at k e is in
-      let most = r.within (omega arith) in
-      omega arith
-
-  pub is_cert : OpenBoxesGoOn → IsCert kind cert
-  is_cert on =
-      let leaves = halved_leaves kind b h targets (whole b) 0 new.leaves cert.nodes halved in
-      let leaves0 = leaves.0 in
-      let leaves1 = leaves.1 in
-      let c = count in
-      let some = valid.some_output in
-      let few = valid.few_outputs in
-      record {
-        claims = record {
-          some = omega arith;
-          few = omega arith;
-          millionths = λ k d l.
-              let w = claims_within k (get_or cert.claims k d) (slice_get-get_or cert.claims k d l) in
-              let small = targets_are.millionths k 0 (let t = targets_are.count in omega arith) in
-              omega arith;
-        };
-        nodes = subst (λ n. All (IsNode kind n) cert.nodes) (sym count)
-            (subst (λ (xs : List Node). All (IsNode kind (length b.outputs)) xs) all_added g.good);
-        tree = halved_open on kind b h targets (whole b) 0 new.leaves cert.nodes halved 0;
-        few_leaves = omega arith;
-      }

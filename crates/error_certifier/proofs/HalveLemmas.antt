@@ -25,6 +25,7 @@ use Rattle.cell_bounds.specs.{declared.claims.Claim.TheVariants.Pair, Walks.AreA
 use Rattle.cert_check.specs.BoxLaws.{CutsHaveHalves, LeavesAreAround, IsLineOf, IsNodeOf}
 use Rattle.cert_check.specs.{Trees.part_of, Trees.whole, Trees.left_of, Trees.right_of, Walks.cuts_of, Walks.AreRaised}
 use Rattle.cert_check.specs.Acceptance.{HasBound, claim_at}
+use Rattle.cert_check.proofs.{LeafLemmas.IfSome-at, TreeLemmas.whole_is}
 use Rattle.error_certifier.specs.Halving.{IsWithinTarget, IsFirstAbove, IsAbove, IsWidest, IsHalvedAt, middle_of}
 use Rattle.error_certifier.specs.Trees.{IsBestPair, AreBestPairs, AreTightBounds, IsFoundLeaf, IsTreeFor, IsSplit}
 use Rattle.error_certifier.specs.Laws.{IsComparable, IsLeastError, IsOutOfReach, SaysOutOfReachFor, CellsAreOutOfReach}
@@ -33,7 +34,7 @@ use Rattle.error_certifier.specs.Halving.{counted, halving, outputs, IsToCut, St
 use Rattle.error_certifier.specs.Halving.{IsStuck}
 use Rattle.error_certifier.specs.{declared.certifier.NotReached.NotReached, declared.leaves.FoundLeaf.FoundLeaf}
 use Rattle.error_certifier.specs.{declared.halving.Tree.Tree, Trees.Grows, Targets.AreTargets}
-use Rattle.error_certifier.proofs.BoxLemmas.{whole_box, left_box, right_box, halves_fewer, middle_inside, cell_is}
+use Rattle.error_certifier.proofs.BoxLemmas.{left_box, right_box, halves_fewer, middle_inside, cell_is}
 use Rattle.error_certifier.proofs.BoxLemmas.{narrowed_at, one_cell, grows_leaf, grows_split, bytes_count, cell_small}
 use Rattle.error_bound.specs.declared.boxes.Leaf as the
 use Rattle.box_tree.specs.declared.cert.LeafLine.TheVariants as leaf_line
@@ -50,9 +51,6 @@ pair_of_best b box o _ valid small (strong n k quiet c first) =
     let from = c.from in
     let some = c.some in
     record { rule = omega arith; part = small; both = (λ z. absurd (omega arith), λ z. absurd (omega arith)) }
-
-pub IfSome-at : {X : Type 0} (P : X → Type 0) {q : Option X} {x : X} → q ≡ Some x → IfSome q P → P x
-IfSome-at P e h = subst (λ r. IfSome r P) e h
 
 -- what holds of the output of a number holds of the one at its place
 pub at_place : (b : Block) (k : ℕ) (x : Output) (P : Output → Type 0) → slice_get b.outputs k ≡ Some x
@@ -226,13 +224,11 @@ if_err : {T E : Type 0} (P Q : E → Type 0) (r : Result T E) → IfErr r P → 
 if_err P Q (Ok x) p f = tt
 if_err P Q (Err e) p f = f e p
 
--- ---- places
-
--- of an interval
-pub interval-place : {b : Block} {box : List Interval} {k : ℕ} {v : Interval} → IsValid b → IsBoxOf b box
-    → slice_get box k ≡ Some v → k < 8
-interval-place {b} {box} {k} {v} valid is at =
-    omega (arith, slice_get_within box k v at, is.count, valid.few_inputs)
+-- the index of the interval to be cut
+pub split-place : {kind : CertKind} {b : Block} {h : ℕ} {targets : List ℕ} {box : List Interval} {k : ℕ} {v : Interval}
+    → IsSplit kind b h targets box k v → IsValid b → IsBoxOf b box → k < 8
+split-place {box = box} {k = k} {v = v} split valid is =
+    omega (arith, slice_get_within box k v split.is_at, is.count, valid.few_inputs)
 
 -- ---- a box that is a leaf
 
@@ -416,7 +412,7 @@ module _ {kind : CertKind} {b : Block} {h : ℕ} {targets : List ℕ} {box : Lis
 
 pub box_for : (a b : Block) (box : List Interval) → a ≡ b → box ≡ whole b → IsBoxOf a box
 box_for a b box e f =
-    subst (λ (y : Block). IsBoxOf y box) (sym e) (subst (λ (x : List Interval). IsBoxOf b x) (sym f) (whole_box b))
+    subst (λ (y : Block). IsBoxOf y box) (sym e) (subst (λ (x : List Interval). IsBoxOf b x) (sym f) (whole_is b))
 
 pub grows_for : (j k : CertKind) (a b : Block) (g h : ℕ) (s t : List ℕ) (box : List Interval) (old new : Tree) → j ≡ k → a ≡ b
     → g ≡ h → s ≡ t → box ≡ whole b
@@ -519,4 +515,4 @@ module _ (around : LeavesAreAround) (least : CountsAreLeast) (cuts : CutsHaveHal
 pub cells_out_of_reach : LeavesAreAround → CountsAreLeast → CutsHaveHalves → CellsAreOutOfReach
 cells_out_of_reach around least cuts k b h targets _ valid parts (outputs other) = tt
 cells_out_of_reach around least cuts k b h targets stop valid parts (halving _ count stops) =
-    out_of_reach around least cuts b h targets valid parts k (whole b) 0 stop (whole_box b) stops
+    out_of_reach around least cuts b h targets valid parts k (whole b) 0 stop (whole_is b) stops

@@ -19,13 +19,14 @@ use Rattle.cell_bounds.specs.declared.claims.Claim.TheVariants as claim
 use Rattle.cert_check.specs.Trees.{Part, part_of, IsTree, leaf, left_of, right_of, whole}
 use Rattle.cert_check.specs.{Acceptance.HasBound, BoxLaws.CutsHaveHalves, Laws.BoundedTreesAreAccepted, Walks.cuts_of}
 use Rattle.error_bound.specs.declared.boxes.Leaf as the
+use Rattle.cert_check.proofs.TreeLemmas.{one_of, whole_is}
 use Rattle.error_certifier.specs.Halving.{IsSettled, IsToCut, Halves, leaf as halved_leaf, split as halved_split, Stops}
 use Rattle.error_certifier.specs.Halving.{cell, limit, in_left, in_right, outputs as other_outputs, halving}
 use Rattle.error_certifier.specs.Halving.{IsHalvingFor}
 use Rattle.error_certifier.specs.declared.certifier.NotReached.{NotReached}
 use Rattle.error_certifier.specs.declared.certifier.NotReached.TheVariants.{Cell, LeafLimit, Memory, Outputs}
 use Rattle.error_certifier.specs.{Targets.AreTargets, Laws.EachBlockIsHalved}
-use Rattle.error_certifier.proofs.BoxLemmas.{halves_of, left_box, right_box, halves_fewer, whole_box, All-one, split_tree}
+use Rattle.error_certifier.proofs.BoxLemmas.{halves_of, left_box, right_box, halves_fewer, split_tree}
 use Rattle.error_certifier.proofs.{JudgedBoxes.box_judged}
 
 module _ (kind : CertKind) (b : Block) (h : ℕ) (targets : List ℕ) (valid : IsValid b) (hh : 1 ≤ h)
@@ -140,7 +141,7 @@ module _ (kind : CertKind) (b : Block) (h : ℕ) (targets : List ℕ) (valid : I
       part_of box f ∷ [],
       leaf box f rest,
       λ o x from ex.
-          All-one (λ p. (n : ℕ) × HasBound b o x h p n) (part_of box f) (settled_bound kind box f settled o x from ex),
+          one_of (λ p. (n : ℕ) × HasBound b o x h p n) (part_of box f) (settled_bound kind box f settled o x from ex),
     )
     tree_of cuts _ _ _ _ rest (halved_split box k c n m r left right cut lower upper) =
         let l = tree_of cuts (left_of k c box) n m left (right ++ rest) lower in
@@ -170,7 +171,7 @@ blocks_halved counts cells hold small cuts accepted kind b h targets valid hh fe
       | inl count ↦
           let are : AreTargets b targets = record { count = count; millionths = few } in
           elim (halve kind b h targets valid hh are counts cells cuts (cuts_of (whole b)) 0 (whole b) (omega arith)
-          (whole_box b)) [
+          (whole_is b)) [
             | inl (nodes, m, halved) ↦
                 let c = halving_of kind b h targets valid hh are hold small cuts accepted nodes m halved in
                 (Ok c.0, c.1, λ e. (let z : ⊥ = cc in z))

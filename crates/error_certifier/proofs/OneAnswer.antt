@@ -19,13 +19,14 @@ use Rattle.cell_bounds.specs.Claims.{IsBoxCount, BoxCountsAreOne}
 use Rattle.cert_check.specs.{Trees.whole, Trees.left_of, Trees.right_of, Trees.IsTree, Laws.ErrorsAreDetermined}
 use Rattle.cert_check.specs.{BoxLaws.CutsHaveHalves, Acceptance.IsAccepted}
 use Rattle.cell_bounds.specs.CellBounds.{number_of}
+use Rattle.cert_check.proofs.{LeafLemmas.IfSome-at, TreeLemmas.whole_is}
 use Rattle.error_certifier.specs.Halving.{IsFirstAbove, IsAbove, AreWithinTarget, IsTightWithin, AreCellsWithin}
 use Rattle.error_certifier.specs.Halving.{halving, outputs}
 use Rattle.error_certifier.specs.Halving.{IsSettled, IsStuck, IsToCut, Halves, leaf, split, Stops, cell, limit}
 use Rattle.error_certifier.specs.{declared.certifier.NotReached.TheVariants.Cell, Halving.in_left, Halving.in_right}
 use Rattle.error_certifier.specs.{declared.certifier.NotReached.NotReached, Laws.AnswersForTargetsAreOne}
-use Rattle.error_certifier.proofs.BoxLemmas.{same_items, left_box, right_box, whole_box, one_halving, cell_bytes}
-use Rattle.error_certifier.proofs.{BoxLemmas.cell_not_halved, HalveLemmas.IfSome-at}
+use Rattle.error_certifier.proofs.BoxLemmas.{same_items, left_box, right_box, one_halving, cell_bytes}
+use Rattle.error_certifier.proofs.BoxLemmas.{cell_not_halved}
 use Rattle.error_bound.specs.declared.boxes.Leaf as the
 use Rattle.box_tree.specs.declared.cert.LeafLine.TheVariants as leaf_line
 
@@ -461,21 +462,21 @@ pub one_answer : ErrorsAreDetermined → BestLeavesAreOne → BoxCountsAreOne �
 one_answer errors_one best_one counts_one cells_one cuts kind b h targets (Ok p) (Ok q) valid x y =
     let nodes =
     (one_tree best_one counts_one cells_one b h targets valid cuts kind (whole b) (whole b) 0 0 x.leaves y.leaves
-    p.nodes q.nodes (whole_box b) x.nodes y.nodes refl refl).0 in
+    p.nodes q.nodes (whole_is b) x.nodes y.nodes refl refl).0 in
     let claims = one_claims errors_one b h p.claims q.claims p.nodes q.nodes valid nodes x.claims y.claims in
     let same : p ≡ q = ap₂ (λ (cs : List ℕ) (ns : List Node). let c : Cert = record { claims = cs; nodes = ns } in c)
     claims nodes in
     ap (λ (c : Cert). let r : Result Cert NotReached = Ok c in r) same
 one_answer errors_one best_one counts_one cells_one cuts kind b h targets (Ok p) (Err t) valid x (halving _ count y) =
     absurd (no_stop best_one counts_one cells_one b h targets valid cuts kind (whole b) (whole b) 0 0 x.leaves p.nodes t
-    (whole_box b) x.nodes y refl refl)
+    (whole_is b) x.nodes y refl refl)
 one_answer errors_one best_one counts_one cells_one cuts kind b h targets (Ok p) (Err _) valid x (outputs other) =
     absurd (other x.targets_are.count)
 one_answer errors_one best_one counts_one cells_one cuts kind b h targets (Err _) (Ok q) valid (outputs other) y =
     absurd (other y.targets_are.count)
 one_answer errors_one best_one counts_one cells_one cuts kind b h targets (Err s) (Ok q) valid (halving _ count x) y =
     absurd (no_stop best_one counts_one cells_one b h targets valid cuts kind (whole b) (whole b) 0 0 y.leaves q.nodes s
-    (whole_box b) y.nodes x refl refl)
+    (whole_is b) y.nodes x refl refl)
 one_answer errors_one best_one counts_one cells_one cuts kind b h targets (Err _) (Err _) valid (outputs _) (outputs _) =
     refl
 one_answer errors_one best_one counts_one cells_one cuts kind b h targets (Err _) (Err t) valid (outputs other)
@@ -485,5 +486,5 @@ one_answer errors_one best_one counts_one cells_one cuts kind b h targets (Err s
 one_answer errors_one best_one counts_one cells_one cuts kind b h targets (Err s) (Err t) valid (halving _ count x)
     (halving _ same_count y) =
     let same = one_stop best_one counts_one cells_one b h targets valid cuts kind (whole b) (whole b) 0 0 s t
-    (whole_box b) x y refl refl in
+    (whole_is b) x y refl refl in
     ap (λ (n : NotReached). let r : Result Cert NotReached = Err n in r) same

@@ -14,6 +14,7 @@ use Rattle.box_tree.specs.declared.{cert.Node.Node, cert.Cert.Cert}
 use Rattle.cell_bounds.specs.CellBounds.{cell_count, IsFirstCellAbove, IsCellCount, of_bound, of_none}
 use Rattle.cell_bounds.specs.{CellBounds.DefaultsHaveCellBounds, Cells.cell_of}
 use Rattle.cert_check.specs.{Trees.left_of, Trees.right_of, Trees.whole, BoxLaws.CutsHaveHalves}
+use Rattle.cert_check.proofs.TreeLemmas.{whole_is}
 use Rattle.error_certifier.specs.Halving.{IsHalvedAt, IsToCut, middle_of, Halves, Stops, StopsFor, cell, limit, in_left}
 use Rattle.error_certifier.specs.Halving.{in_right, leaf as halved_leaf, split as halved_split, halving, outputs}
 use Rattle.error_certifier.specs.Halving.{IsHalvingFor, one_for_all}
@@ -22,7 +23,7 @@ use Rattle.error_certifier.specs.declared.certifier.NotReached.TheVariants.{Cell
 use Rattle.error_certifier.specs.Laws.{SmallBlocksMeetNoLimit, DefaultsHaveHalvings, TightHalvingDecides}
 use Rattle.error_certifier.specs.Laws.{EachBlockIsHalved, CellsAreOutOfReach, IsAnswerFor}
 use Rattle.error_certifier.specs.{Targets.AreTargets}
-use Rattle.error_certifier.proofs.BoxLemmas.{left_box, right_box, whole_box, cell_at, length-cell}
+use Rattle.error_certifier.proofs.BoxLemmas.{left_box, right_box, cell_at, length-cell}
 use Rattle.error_certifier.proofs.HalveLemmas.{lies_small}
 use Rattle.error_certifier.proofs.TargetLists.{one_target}
 
@@ -203,7 +204,7 @@ module _ (b : Block) (h : ℕ) (targets : List ℕ) (valid : IsValid b) (few : l
         → IsStoppedAt stop
     stop_of _ count (outputs other) = absurd (other count)
     stop_of _ _ (halving stop count stops) =
-        stopped (whole b) 0 stop stops (whole_box b) (omega (arith, whole_cells b.inputs few))
+        stopped (whole b) 0 stop stops (whole_is b) (omega (arith, whole_cells b.inputs few))
 
 pub no_limit : CutsHaveHalves → SmallBlocksMeetNoLimit
 no_limit cuts b h targets valid few stops = by_stop LeafLimit stops refl

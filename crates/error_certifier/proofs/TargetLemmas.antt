@@ -22,9 +22,10 @@ use Rattle.cell_bounds.specs.{declared.claims.Claim.Claim, Claims.HasClaimBound,
 use Rattle.cert_check.specs.{Trees.Part, Trees.IsTree, Trees.leaf, Trees.split, Trees.whole, Trees.left_of}
 use Rattle.cert_check.specs.{Trees.right_of, BoxLaws.CutsHaveHalves}
 use Rattle.cert_check.specs.Acceptance.{IsAccepted, IsGreatestBound, claim_at}
+use Rattle.cert_check.proofs.TreeLemmas.{whole_is}
 use Rattle.error_certifier.specs.Halving.{Halves, leaf as halved_leaf, split as halved_split, IsHalvingFor, IsSettled}
 use Rattle.error_certifier.specs.Laws.{AreWithin}
-use Rattle.error_certifier.proofs.BoxLemmas.{whole_box, left_box, right_box, split_node, middle_inside}
+use Rattle.error_certifier.proofs.BoxLemmas.{left_box, right_box, split_node, middle_inside}
 use Rattle.error_certifier.proofs.CertLemmas.{halved_open, halved_leaves}
 use Rattle.error_bound.specs.declared.boxes.Leaf as the
 use Rattle.box_tree.specs.declared.cert.LeafLine.TheVariants as leaf_line
@@ -211,7 +212,7 @@ module _ (cuts : CutsHaveHalves) (one : ClaimBoundsAreOne) (open_on : OpenBoxesG
 
     all : AreGood cuts kind b h targets valid accepted.parts [] [] cert.nodes
     all = told cuts kind b h targets valid (whole b) (whole b) 0 is.leaves cert.nodes cert.nodes [] [] accepted.parts
-        is.nodes accepted.tree refl (sym (append-nil cert.nodes)) (whole_box b)
+        is.nodes accepted.tree refl (sym (append-nil cert.nodes)) (whole_is b)
         (recursion_from_All (HasBounds b h) accepted.parts bounds)
 
     claim_within : (k : ℕ) (x : Output) → slice_get b.outputs k ≡ Some x

@@ -1,7 +1,7 @@
 -- One target for all outputs.
 use Rattle.std.proofs.Common.{◌≡◌, ℕ, zero, suc, ◌<◌, ◌≤◌, List, length, replicate, get_or, arith}
 use Rattle.std.proofs.lemmas.{List.length-replicate, Option.slice_get-get_or}
-use Rattle.std.specs.Prelude.{All, slice_index, IfOk, Result, Ok, Err}
+use Rattle.std.specs.Prelude.{All, slice_index}
 use Rattle.std.proofs.Common.{⊎_elim, ◌≢◌, sym, ◌∙◌, subst}
 use Rattle.std.proofs.{lemmas.List.get_or_past, lemmas.Bool.cases_lt}
 use Rattle.fuzzy_meaning.specs.{declared.block.Block.Block, Blocks.IsValid}
@@ -34,10 +34,6 @@ within_one n t errors within k d l =
     let w = within k (get_or errors k d) (slice_get-get_or errors k d l) in
     let m = at_most n t k in
     omega arith
-
-pub more_ok : {A E : Type 0} {P Q : A → Type 0} (r : Result A E) → ((a : A) → P a → Q a) → IfOk r P → IfOk r Q
-more_ok (Ok a) f p = f a p
-more_ok (Err e) f p = tt
 
 -- each target is a number of millionths
 pub small_each : (targets : List ℕ) → All (λ n. n ≤ 1000000) targets → (k : ℕ) → slice_index targets k ≤ 1000000

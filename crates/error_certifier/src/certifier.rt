@@ -8,10 +8,9 @@ ghost use Rattle.error_certifier.specs.{Halving.IsHalvingFor, Halving.StopsFor, 
 ghost use Rattle.error_certifier.specs.Targets.{AreTargets, targets_of};
 
 use crate::halving::{Task, Tree};
-use crate::laws::cells_are_out_of_reach;
+use crate::laws::{cells_are_out_of_reach, halvings_are_within_their_targets};
 use crate::targets::Targets;
 use arrayvec::ArrayVec;
-use box_tree::laws::open_boxes_go_on;
 use box_tree::{Cert, CertFormat, CertKind};
 use byte_scaling::Width;
 use cert_check::whole_box;
@@ -128,7 +127,7 @@ fn certified(
     ensures out_of_reach { IfErr result (SaysOutOfReachFor kind block.now (parts_of width) targets.items) }
 {
     cells_are_out_of_reach();
-    open_boxes_go_on();
+    halvings_are_within_their_targets();
     let Ok(task) = Task::new(alloc, kind, block, targets, width) else {
         return Err(NotReached::Memory);
     };

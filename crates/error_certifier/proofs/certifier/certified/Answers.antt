@@ -2,7 +2,7 @@ use Rattle.std.proofs.Common.{◌≤◌, ap, ◌∙◌, replicate, arith}
 use Rattle.byte_scaling.specs.Widths.{parts as parts_of}
 use Rattle.byte_scaling.specs.declared.{width.Width.Width, width.Width.TheVariants.Byte, width.Width.TheVariants.Word}
 use Rattle.error_certifier.proofs.HalveLemmas.{box_for, tree_for, grows_for}
-use Rattle.error_certifier.proofs.CertLemmas.{is_halving, claims_within, is_cert}
+use Rattle.error_certifier.proofs.CertLemmas.{is_halving}
 use Rattle.error_certifier.proofs.TargetLists.{stops_for, says}
 use Rattle.error_certifier.proofs.certifier.certified.Goals as goal
 
@@ -42,20 +42,11 @@ returns-in-Ok-halve c =
     e.kind e.block (ap parts_of e.width) e.targets c.whole_box-2.ensures c.in-Ok-halve.ensures.grows in
     let claims = c.into_cert.ensures.claims in
     let made = c.into_cert.ensures.nodes in
-    record {
-      halved = is_halving c.args.kind b (parts_of c.args.width) c.args.targets.items old new c.into_cert.result c.requires.block c.requires.targets nodes
-          errors leaves
-          grows claims made;
-      within = claims_within c.args.kind b (parts_of c.args.width) c.args.targets.items old new c.into_cert.result c.requires.block c.requires.targets
-          nodes errors
-          leaves grows claims made;
-      cert = is_cert c.args.kind b (parts_of c.args.width) c.args.targets.items old new c.into_cert.result c.requires.block c.requires.targets nodes errors
-          leaves grows
-          claims made
-          c.open_boxes_go_on.ensures;
-      stops = tt;
-      out_of_reach = tt;
-    }
+    let halved = is_halving c.args.kind b (parts_of c.args.width) c.args.targets.items old new c.into_cert.result
+    c.requires.block c.requires.targets nodes errors leaves grows claims made in
+    let within = c.halvings_are_within_their_targets.ensures c.args.kind b (parts_of c.args.width) c.args.targets.items
+    c.into_cert.result c.requires.block halved in
+    record { halved = halved; within = within.1; cert = within.0; stops = tt; out_of_reach = tt }
 
 pub returns-clause-stops : goal.returns-clause-stops
 returns-clause-stops c = λ other.

@@ -1,9 +1,7 @@
 use Rattle.std.proofs.Common.{rules, arith}
 use Rattle.std.proofs.lemmas.Result.{err_from_is_err_and}
-use Rattle.byte_scaling.specs.Widths.{parts as parts_of}
-use Rattle.error_certifier.proofs.HalveLemmas.{interval-place, Grows-leaf, Stops-leaf, left_half, right_half}
+use Rattle.error_certifier.proofs.HalveLemmas.{split-place, Grows-leaf, Stops-leaf, left_half, right_half}
 use Rattle.error_certifier.proofs.HalveLemmas.{Stops-left, Grows-halves, Stops-right}
-use Rattle.error_certifier.specs.Trees.{IsSplit}
 use Rattle.error_certifier.proofs.halving.Task.+halve.Goals as goal
 
 pub returns-in-Ok-Leaf-clause-grows : goal.returns-in-Ok-Leaf-clause-grows
@@ -20,27 +18,19 @@ returns-in-Ok-Leaf-clause-stops t c =
 
 pub overflow_cast-place : goal.overflow_cast-place
 overflow_cast-place t c =
-    let s = c.args.self.now in
-    let large : IsSplit s.kind s.table.block.now (parts_of s.table.width) s.targets.items c.args.bytes.0.items c.in-Ok-Cut.place
-    c.in-Ok-Cut.interval = rw c.in-Ok-Cut.field-0-is at c.in-Ok-Cut.ensures.piece in
-    let few = interval-place {k = c.in-Ok-Cut.place} {v = c.in-Ok-Cut.interval} c.requires.task.table.valid c.requires.bytes
-    large.is_at in
+    let few = split-place (rw c.in-Ok-Cut.field-0-is at c.in-Ok-Cut.ensures.piece) c.requires.task.table.valid
+    c.requires.bytes in
     omega arith
 
 pub overflow_add-place : goal.overflow_add-place
 overflow_add-place t c =
-    let s = c.args.self.now in
-    let large : IsSplit s.kind s.table.block.now (parts_of s.table.width) s.targets.items c.args.bytes.0.items c.in-Ok-Cut.place
-    c.in-Ok-Cut.interval = rw c.in-Ok-Cut.field-0-is at c.in-Ok-Cut.ensures.piece in
-    let few = interval-place {k = c.in-Ok-Cut.place} {v = c.in-Ok-Cut.interval} c.requires.task.table.valid c.requires.bytes
-    large.is_at in
+    let few = split-place (rw c.in-Ok-Cut.field-0-is at c.in-Ok-Cut.ensures.piece) c.requires.task.table.valid
+    c.requires.bytes in
     omega arith
 
 pub halve-requires : goal.halve-requires
 halve-requires t c =
-    let s = c.args.self.now in
-    let large : IsSplit s.kind s.table.block.now (parts_of s.table.width) s.targets.items c.args.bytes.0.items c.in-Ok-Cut.place
-    c.in-Ok-Cut.interval = rw c.in-Ok-Cut.field-0-is at c.in-Ok-Cut.ensures.piece in
+    let large = rw c.in-Ok-Cut.field-0-is at c.in-Ok-Cut.ensures.piece in
     let left = left_half c.requires.bytes large c.middle-cut.ensures.middle
     c.cuts_have_halves.ensures _ c.halves-left.ensures.left in
     let r = c.requires.tree in (
@@ -50,18 +40,14 @@ halve-requires t c =
 
 pub returns-in_err-halve-clause-stops : goal.returns-in_err-halve-clause-stops
 returns-in_err-halve-clause-stops t c =
-    let s = c.args.self.now in
-    let large : IsSplit s.kind s.table.block.now (parts_of s.table.width) s.targets.items c.args.bytes.0.items c.in-Ok-Cut.place
-    c.in-Ok-Cut.interval = rw c.in-Ok-Cut.field-0-is at c.in-Ok-Cut.ensures.piece in
+    let large = rw c.in-Ok-Cut.field-0-is at c.in-Ok-Cut.ensures.piece in
     let p = err_from_is_err_and c.from_residual.result c.from_residual.ensures.1 in
     rw (p.1, p.2) (λ found. Stops-left c.requires.bytes large
     c.middle-cut.ensures.middle c.halves-left.ensures.left (c.in_err-halve.ensures.stops found))
 
 pub halve-requires-2 : goal.halve-requires-2
 halve-requires-2 t c =
-    let s = c.args.self.now in
-    let large : IsSplit s.kind s.table.block.now (parts_of s.table.width) s.targets.items c.args.bytes.0.items c.in-Ok-Cut.place
-    c.in-Ok-Cut.interval = rw c.in-Ok-Cut.field-0-is at c.in-Ok-Cut.ensures.piece in
+    let large = rw c.in-Ok-Cut.field-0-is at c.in-Ok-Cut.ensures.piece in
     let right = right_half c.requires.bytes large c.middle-cut.ensures.middle
     c.cuts_have_halves.ensures _ c.halves-left.ensures.right in (
       omega (arith, c.decreases, right.0),
@@ -70,9 +56,7 @@ halve-requires-2 t c =
 
 pub returns-clause-grows : goal.returns-clause-grows
 returns-clause-grows t c =
-    let s = c.args.self.now in
-    let large : IsSplit s.kind s.table.block.now (parts_of s.table.width) s.targets.items c.args.bytes.0.items c.in-Ok-Cut.place
-    c.in-Ok-Cut.interval = rw c.in-Ok-Cut.field-0-is at c.in-Ok-Cut.ensures.piece in
+    let large = rw c.in-Ok-Cut.field-0-is at c.in-Ok-Cut.ensures.piece in
     Grows-halves c.requires.bytes large c.middle-cut.ensures.middle
     c.halves-left.ensures.left c.halves-left.ensures.right c.args.tree.now c.halve.new.tree
     c.push.new.self c.in_ok-halve.ensures.grows c.halve-2.new.tree c.halve-2.result c.cuts_have_halves.ensures
@@ -80,9 +64,7 @@ returns-clause-grows t c =
 
 pub returns-clause-stops : goal.returns-clause-stops
 returns-clause-stops t c =
-    let s = c.args.self.now in
-    let large : IsSplit s.kind s.table.block.now (parts_of s.table.width) s.targets.items c.args.bytes.0.items c.in-Ok-Cut.place
-    c.in-Ok-Cut.interval = rw c.in-Ok-Cut.field-0-is at c.in-Ok-Cut.ensures.piece in
+    let large = rw c.in-Ok-Cut.field-0-is at c.in-Ok-Cut.ensures.piece in
     Stops-right c.requires.bytes large c.middle-cut.ensures.middle
     c.halves-left.ensures.left c.halves-left.ensures.right c.args.tree.now c.halve.new.tree
     c.push.new.self c.in_ok-halve.ensures.grows c.halve-2.result c.halve-2.ensures.stops
