@@ -62,6 +62,7 @@ pub fn cells_bounds(
         end: table.block.outputs.len() as u8,
     };
     let mut cell = BoxTable::over(table, bytes.copied());
+    cell.mark_still_rules();
     walk.over(bytes.copied(), &mut cell, [0; 4])
 }
 

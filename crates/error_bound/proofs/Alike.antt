@@ -8,7 +8,7 @@ use Rattle.std.specs.{Option.option_map_or, List.list_any}
 use Rattle.fz_list.proofs.Algebra.{All-slice_get, some_at, IsSomeAnd-some, IsSomeAnd-within}
 use Rattle.fz_num.specs.Fractions.{Fraction, IsProper, AtMost, IsNear, up_div, one_minus, none}
 use Rattle.fz_num.specs.{declared.dec.Dec.Dec, Decimals.distance}
-use Rattle.fz_num.proofs.Algebra.{AtMost-trans, IsNear-between, up_div-le}
+use Rattle.fz_num.proofs.Algebra.{AtMost-trans, IsNear-between}
 use Rattle.fuzzy_meaning.specs.Blocks.{IsValid, IsValidInput, IsValidTerm, IsValidRule, HasTerm, input_at}
 use Rattle.fuzzy_meaning.specs.Conditions.{Condition, is, negation, all, any, Conditions, end, also, HasLiterals}
 use Rattle.fuzzy_meaning.specs.Conditions.{SomeHaveLiterals, AllHaveLiterals, evaluate_parts}
@@ -38,11 +38,11 @@ use Rattle.error_bound.specs.Best.{silent_leaf}
 use Rattle.cell_error.specs.declared.{ranges.MassRange.MassRange, ranges.Deviation.Deviation, means.Scale.Scale}
 use Rattle.cell_error.specs.Means.{IsMeanError}
 use Rattle.error_bound.proofs.SpanLemmas.{AreOrdered, same, minus_ordered, nothing_degree, truths_same}
-use Rattle.error_bound.proofs.Nested.{IsNarrow, rule_narrow, by_input as literal_narrow}
-use Rattle.error_bound.proofs.TightLemmas.{IsSomewhere, start_in, by_input as somewhere, rule_parts_ordered}
+use Rattle.error_bound.proofs.Nested.{IsNarrow, by_input as literal_narrow}
+use Rattle.error_bound.proofs.TightLemmas.{IsSomewhere, start_in, by_input as somewhere}
+use Rattle.error_bound.proofs.StillLemmas.{IsStill-inside, still_parts}
 use Rattle.error_bound.proofs.TightLawLemmas.{both_tests, low_part-same, up-mono, back_same, test-same}
-use Rattle.error_bound.proofs.RuleLemmas.{least_to_greatest, times_same, none_same, bytes_ordered, IsStill-test}
-use Rattle.error_bound.proofs.RuleLemmas.{none_below}
+use Rattle.error_bound.proofs.RuleLemmas.{least_to_greatest, times_same, none_same, IsStill-test}
 use Rattle.error_bound.proofs.Literals.{at_place, width_pos, term_deviation-are, term_errors-are}
 use Rattle.error_bound.proofs.FlatteningLemmas.{at_literal-holds}
 
@@ -462,31 +462,15 @@ module _ (b : Block) (box small other : List Interval) (valid : IsValid b) (coun
     still_part : (part : List Interval) → IsInside part box → IsBox part → is_still b box r ≡ true
         → is_still b part r ≡ true
     still_part part inside box_is still =
-        let n = rule_narrow b part box valid count inside box_is r in
-        let s = IsStill-test b box r still in
-        let high = n.byte_span.high in
-        let byte_high = s.byte_high in
-        both_tests (rule_span b part r).high.num (rule_byte_span b part r).high
-        (none_below (rule_span b part r).high (rule_span b box r).high n.span.high.right n.span.high.below s.high)
-        (omega arith)
+        let inner = IsStill-inside b part box valid count inside box_is r (IsStill-test b box r still) in
+        both_tests (rule_span b part r).high.num (rule_byte_span b part r).high inner.high inner.byte_high
 
     -- of one that is still on the box all numbers are 0
     nothing : (part : List Interval) → IsInside part box → IsBox part → is_still b box r ≡ true
         → (low_part b part r ≡ 0) × (high_part b part r ≡ 0) × ((rule_byte_span b part r).low ≡ 0)
         × ((rule_byte_span b part r).high ≡ 0)
-    nothing part inside box_is still =
-        let inner = IsStill-test b part r (still_part part inside box_is still) in
-        let n = rule_narrow b part box valid count inside box_is r in
-        let top = rule_parts_ordered b part valid (inside.count ∙ count) box_is r in
-        let bytes = bytes_ordered b part r in
-        let none_high = no_part (rule_span b part r).high n.span.high.left inner.high in
-        let byte_high = inner.byte_high in
-        (omega arith, none_high, omega arith, inner.byte_high)
-      where
-        no_part : (f : Fraction) → IsProper f → f.num ≡ 0 → up_div (255 * billion * f.num) f.den ≡ 0
-        no_part f p z =
-            let l = up_div-le (255 * billion * f.num) f.den 0 p.pos (omega arith) in
-            omega arith
+    nothing part inside box_is still = still_parts b part valid (inside.count ∙ count) box_is r
+        (IsStill-test b part r (still_part part inside box_is still))
 
     one_still : is_still b box r ≡ true → IsOneRule r
     one_still still =

@@ -2,6 +2,7 @@ pub mod Sides
 pub mod Rows
 pub mod CellErrors
 pub mod SpanLemmas
+pub mod StillLemmas
 pub mod Literals
 pub mod RuleLemmas
 pub mod Shares

@@ -3,6 +3,8 @@ use Rattle.std.proofs.Common.{◌≡◌, ℕ, ◌+◌, ◌-◌, ◌*◌, ◌/◌
 use Rattle.std.proofs.Common.{refl, [], None, sym, ap, ◌∙◌, subst, arith, ⊎_elim, zero, suc, ◌∷◌, ap₂}
 use Rattle.std.proofs.{lemmas.Option.get_or_from_slice_get, lemmas.Option.slice_get_within}
 use Rattle.std.proofs.lemmas.Bool.{cases_eq, cases_lt}
+use Rattle.std.proofs.lemmas.List.{get_or-replicate, get_or_past, length-replicate}
+use Rattle.std.proofs.Common.{replicate, false}
 use Rattle.std.specs.Prelude.{slice_get, pos, slice_set, Option, IfSome}
 use Rattle.std.specs.Global.{Vec}
 use Rattle.fz_num.specs.Fractions.{Fraction, times}
@@ -197,3 +199,11 @@ module _ (b : Block) (box new_box : List Interval) (rows new_rows : List Row) (i
       subst (λ z. HasRow k z) input_same (subst (λ j. HasRow j x) (sym same) here))
       (λ (apart : k ≡ i → ⊥). elsewhere k y e apart)
       (cases_eq k i)
+
+-- no rule is marked in what is false throughout
+pub unmarked : (k n : ℕ) → get_or (replicate k false) n false ≡ false
+unmarked k n =
+    ⊎_elim
+    (λ (few : n < k). get_or-replicate k n false false few)
+    (λ (past : k ≤ n). get_or_past (replicate k false) n false (let l = length-replicate k false in omega arith))
+    (cases_lt n k)

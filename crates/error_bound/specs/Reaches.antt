@@ -1,6 +1,7 @@
 -- What the code's reaches stand for.
 -- Beside the promise.
-use Rattle.std.specs.Prelude.{◌≡◌, ℕ, ◌-◌, ◌≤◌, List, Option, IfSome, Some, None, map, slice_get, slice_index}
+use Rattle.std.specs.Prelude.{◌≡◌, ℕ, ◌-◌, ◌≤◌, Bool, List, Option, IfSome, Some, None, map, slice_get, slice_index}
+use Rattle.std.specs.Prelude.{slice_index_or, true, false}
 use Rattle.std.specs.Global.{Vec}
 use Rattle.fz_num.specs.{Decimals.distance, Fractions.Fraction, Fractions.one_minus}
 use Rattle.fuzzy_meaning.specs.{declared.block.Block.Block, declared.block.Input.Input, declared.block.Rule.Rule}
@@ -16,7 +17,7 @@ use Rattle.error_bound.specs.declared.{tables.InputCells.InputCells}
 use Rattle.error_bound.specs.declared.{tables.BlockTable.BlockTable, tables.BoxTable.BoxTable, tables.Kept.Kept}
 use Rattle.error_bound.specs.declared.{tables.Row.Row, ends.Side.Side}
 use Rattle.error_bound.specs.{Ratios.value_of, Ratios.IsRatio, Spans.Span, Spans.span, Spans.byte_span, Spans.end_of}
-use Rattle.error_bound.specs.{Spans.reversed, Masses.AreMassEnds}
+use Rattle.error_bound.specs.{Spans.reversed, Masses.AreMassEnds, Leaves.IsStill}
 use Rattle.error_bound.specs.Boxes.{IsBoxOf, degrees_over, grades_over, literal_span, literal_byte_span, rule_span}
 use Rattle.error_bound.specs.Boxes.{rule_byte_span}
 use Rattle.error_bound.specs.Errors.{billion, rule_error, rule_rise, rule_fall}
@@ -191,11 +192,17 @@ box_of t = t.bytes.0.items
 abbrev pub parts_of : BoxTable → ℕ
 parts_of t = parts t.table.now.width
 
+-- marked rules have no strength anywhere on a box
+abbrev pub AreMarked : Block → List Interval → List Bool → Type 0
+AreMarked b box marks =
+    (n : ℕ) (r : Rule) → slice_index_or marks n false ≡ true → slice_get b.rules n ≡ Some r → IsStill b box r
+
 -- what leaves need of a box
 pub record IsTable (t : BoxTable) : Type 0 where
   pub table : IsBlockTable t.table.now
   pub box_is : IsBoxOf (block_of t) (box_of t)
   pub rows : AreRows (block_of t) (box_of t) t.rows
+  pub still : AreMarked (block_of t) t.still.around.0.items t.still.marks
 
 -- of a box of this table's block
 pub record IsTableOf (table : BlockTable) (t : BoxTable) : Type 0 where

@@ -23,6 +23,7 @@ mod nowhere;
 mod ratio;
 mod reaches;
 mod rules;
+mod still;
 mod tables;
 mod tight;
 

@@ -17,6 +17,8 @@ use crate::flattening::flattened;
 use crate::laws::flattening_keeps_reaches;
 use crate::masses::MassEnds;
 use crate::reaches::{Literal, Reach, literal_in};
+use crate::still::{NO_MARKS, StillRules};
+use arrayvec::ArrayVec;
 use byte_scaling::Width;
 use cell_error::Deviation;
 use fuzzy_meaning::{Block, Condition, Input, Node, Rule, Trapezoid};
@@ -190,6 +192,8 @@ pub struct BoxTable<'a> {
     pub bytes: ByteBox,
     /// A row for each input.
     pub(crate) rows: [Row; 8],
+    /// Rules that are true nowhere on a box around this one.
+    pub(crate) still: StillRules,
 }
 
 const NO_TERMS: Row = Row {
@@ -212,7 +216,16 @@ impl<'a> BoxTable<'a> {
         for i in 0..inputs.len() {
             rows[i] = row_in(&table.kept, i, &inputs[i], bytes.0[i]);
         }
-        BoxTable { table, bytes, rows }
+        let still = StillRules {
+            around: ByteBox(ArrayVec::new()),
+            marks: NO_MARKS,
+        };
+        BoxTable {
+            table,
+            bytes,
+            rows,
+            still,
+        }
     }
 
     /// Makes it the table of another box. Only the rows of intervals that differ are computed again.

@@ -18,8 +18,9 @@ ghost use Rattle.error_bound.specs.Reaches.{block_of, box_of, parts_of};
 
 use crate::bounds::{offset, raise_terms, silent_bound};
 use crate::ends::{End, Side};
-use crate::leaves::{concludes_some, output_of};
+use crate::leaves::output_of;
 use crate::masses::MassEnds;
+use crate::still::is_needed;
 use crate::tables::BoxTable;
 use byte_scaling::Width;
 use cell_error::{Deviation, MassRange, Scale, mean_error};
@@ -90,10 +91,11 @@ impl BoxTable<'_> {
         let mut highs = [0; 15];
         let mut byte_lows = [0; 15];
         let mut byte_highs = [0; 15];
+        let still = self.still_rules();
         let rules = self.table.block.rules.as_slice();
         for n in (0..rules.len()).rev() {
             let rule = &rules[n];
-            if concludes_some(rule, out) {
+            if is_needed(rule, out, n, still) {
                 let so_far = least_masses(&lows, &highs, &byte_lows, &byte_highs, rule, out);
                 if let Some(mass) = self.mass_above(n, so_far) {
                     raise_terms(&mut lows, rule, out, mass.low);

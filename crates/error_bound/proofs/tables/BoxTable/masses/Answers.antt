@@ -2,6 +2,7 @@ use Rattle.std.proofs.Common.{◌≡◌, ℕ, true, false, ◌+◌, ◌-◌, dro
 use Rattle.fuzzy_meaning.specs.declared.block.Rule.{Rule}
 use Rattle.error_bound.specs.{Tight.low_part, Tight.high_part, Leaves.concludes_some, Boxes.rule_byte_span}
 use Rattle.error_bound.proofs.TightLawLemmas.{AreGreatest-raised, AreGreatest-skipped, AreGreatest-within}
+use Rattle.error_bound.proofs.StillLemmas.{still_parts}
 use Rattle.error_bound.proofs.{ListLemmas.drop_back, ListLemmas.slice_get-slice, TightLemmas.ends_ordered}
 use Rattle.error_bound.proofs.tables.BoxTable.masses.Goals as goal
 
@@ -68,9 +69,6 @@ loop-n-preserved-in_default c =
           c.loop-n.byte_highs here (λ t few one. omega (arith, m.byte_high, so_far.byte_high t few one)) before.byte_highs;
     }
 
-unconcluded : (r : Rule) (o n : ℕ) → concludes_some r o ≡ false → concludes_some r o ≡ true → n ≡ 0
-unconcluded r o n none one = absurd (let z : ⊥ = cc in z)
-
 pub loop-n-preserved : goal.loop-n-preserved
 loop-n-preserved c =
     let b = c.args.self.now.table.now.block.now in
@@ -80,7 +78,12 @@ loop-n-preserved c =
     let j = c.loop-n.n - 1 in
     let r = c.index-rules-n.result in
     let here = drop_back rules c.loop-n.n r r c.loop-n-test.true c.loop-n.auto.n c.index-rules-n.is in
-    let none = sym c.concludes_some.ensures ∙ c.if-concludes_some.false in
+    let found = slice_get-slice rules b.rules j r c.as_slice-rules.ensures
+    (omega (arith, c.loop-n-test.true, c.loop-n.auto.n)) c.index-rules-n.is in
+    let table = c.requires.table in
+    let none = λ (one : concludes_some r o ≡ true).
+    still_parts b box table.table.valid table.box_is.count table.box_is.intervals r
+    (c.still_rules-still.ensures j r (c.is_needed.ensures c.if-is_needed.false one) found) in
     let rest = drop c.loop-n.n rules in
     let before = c.loop-n.invariant in
     record {
@@ -89,13 +92,13 @@ loop-n-preserved c =
       byte_lows_count = before.byte_lows_count;
       byte_highs_count = before.byte_highs_count;
       lows = AreGreatest-skipped (low_part b box) 255000000000 o r rest (drop j rules) c.loop-n.lows here
-          (unconcluded r o _ none) before.lows;
+          (λ one. (none one).0) before.lows;
       highs = AreGreatest-skipped (high_part b box) 255000000000 o r rest (drop j rules) c.loop-n.highs here
-          (unconcluded r o _ none) before.highs;
+          (λ one. (none one).1) before.highs;
       byte_lows = AreGreatest-skipped (λ q. (rule_byte_span b box q).low) 255 o r rest (drop j rules)
-          c.loop-n.byte_lows here (unconcluded r o _ none) before.byte_lows;
+          c.loop-n.byte_lows here (λ one. (none one).2) before.byte_lows;
       byte_highs = AreGreatest-skipped (λ q. (rule_byte_span b box q).high) 255 o r rest (drop j rules)
-          c.loop-n.byte_highs here (unconcluded r o _ none) before.byte_highs;
+          c.loop-n.byte_highs here (λ one. (none one).3) before.byte_highs;
     }
 
 pub returns : goal.returns

@@ -2,7 +2,8 @@ use Rattle.std.proofs.Common.{◌≡◌, ◌+◌, length, get_or, Some, sym, ap,
 use Rattle.std.specs.Prelude.{slice_get, slice_set}
 use Rattle.std.proofs.lemmas.List.{length-set}
 use Rattle.fz_list.proofs.Algebra.{slice_get-set_same}
-use Rattle.error_bound.specs.{declared.tables.BoxTable.BoxTable, declared.boxes.Interval.Interval, Reaches.AreRows}
+use Rattle.error_bound.specs.{declared.tables.BoxTable.BoxTable, declared.boxes.Interval.Interval, Reaches.AreRows, Reaches.AreMarked}
+use Rattle.error_bound.specs.declared.still.StillRules.{StillRules}
 use Rattle.error_bound.specs.{declared.tables.BlockTable.BlockTable, Boxes.IsBoxOf, Reaches.IsBlockTable}
 use Rattle.error_bound.proofs.TableLemmas.{AreAlikeBefore, AreAlikeBefore-next, AreAlikeBefore-set, alike_all}
 use Rattle.error_bound.proofs.tables.BoxTable.move_to.Goals.{then-not-is_same, else-not-is_same}
@@ -41,6 +42,7 @@ loop-i-preserved c =
             rows = AreRows-moved b olds new.bytes.0.items old.rows new.rows i x to w.row_in.result count before.rows
                 (slice_get-slice c.as_slice-inputs.result.now b.inputs i x c.as_slice-inputs.ensures some
                 w.index-inputs-i.is) w.row_in.ensures items rows;
+            still = ap (λ (t : BoxTable). t.still) w.self-is ∙ before.still;
             moved = subst (λ vs. AreAlikeBefore vs wanted (i + 1)) (sym items)
                 (AreAlikeBefore-next (slice_set olds i to) wanted i (AreAlikeBefore-set olds wanted i to before.moved)
                 (slice_get-set_same olds i to (omega arith) ∙ sym there));
@@ -56,6 +58,7 @@ loop-i-preserved c =
             over = ap (λ (t : BoxTable). t.table) same ∙ before.over;
             count = omega (arith, lens);
             rows = subst (λ (t : BoxTable). AreRows b t.bytes.0.items t.rows) (sym same) before.rows;
+            still = ap (λ (t : BoxTable). t.still) same ∙ before.still;
             moved = subst (λ t. AreAlikeBefore t.bytes.0.items wanted (i + 1)) (sym same)
                 (AreAlikeBefore-next olds wanted i before.moved (now ∙ ap Some alike ∙ sym there));
           }
@@ -79,5 +82,8 @@ returns c =
         box_is = subst (λ (t : BlockTable). IsBoxOf t.block.now new.bytes.0.items) (sym over)
             (subst (IsBoxOf c.args.self.now.table.now.block.now) (sym same) c.requires.bytes);
         rows = subst (λ (t : BlockTable). AreRows t.block.now new.bytes.0.items new.rows) (sym over) i.rows;
+        still = subst (λ (t : BlockTable). AreMarked t.block.now new.still.around.0.items new.still.marks) (sym over)
+            (subst (λ (s : StillRules). AreMarked c.args.self.now.table.now.block.now s.around.0.items s.marks) (sym i.still)
+            c.requires.table.still);
       };
     }

@@ -5,6 +5,7 @@ use Rattle.std.proofs.lemmas.List.{length-set}
 use Rattle.fuzzy_meaning.specs.declared.block.Input.{Input}
 use Rattle.error_bound.specs.{declared.boxes.Interval.Interval, declared.tables.Row.Row, Reaches.AreInputReaches}
 use Rattle.fz_list.proofs.Algebra.{AreFilled-more}
+use Rattle.error_bound.proofs.TableLemmas.{unmarked}
 use Rattle.error_bound.proofs.tables.BoxTable.over.Goals as goal
 
 pub loop-i-init : goal.loop-i-init
@@ -43,4 +44,5 @@ returns-clause-table c = record {
   rows = λ i x e. c.loop-i.invariant.1 i x
       (let l = slice_get_within c.args.table.now.block.now.inputs i x e in let same = ap length c.as_slice-inputs.ensures in
       omega (arith, same)) e;
+  still = λ n r one at. absurd (let none = unmarked 256 n in let z : ⊥ = cc in z);
 }
