@@ -4,7 +4,6 @@ ghost use Rattle.fuzzy_meaning.specs.Blocks.{IsValid};
 ghost use Rattle.rule_layout.specs.Layouts.{IsWithinLimits, IsFaultOf};
 ghost use Rattle.firmware_code.specs.Uninterrupted.{AnswersUninterrupted};
 ghost use Rattle.alone_code.specs.{Firmwares.IsFirmwareOf, Answers.AnswersFrom};
-ghost use Rattle.byte_scaling.specs.declared.width.Width.TheVariants.{Byte, Word};
 
 use crate::items::firmware_items;
 use crate::laws::{firmware_answers, firmware_is_uninterrupted};
@@ -16,52 +15,21 @@ use fuzzy_meaning::Block;
 use rule_layout::{LaidOut, LayoutFault, spread};
 use std::alloc::{AllocError, Global};
 
-/// The firmware of a block that answers bytes, and stands alone in memory. It is refused exactly where the block's
-/// rules are: where they spread into more than 512 conjunctions, or into a list of more than 9984 bytes.
-pub fn compile(alloc: Global, block: &Block) -> Result<Firmware, LayoutFault>
-    requires { IsValid block.now }
-    ensures firmware { IfOk result (IsFirmwareOf block.now) }
-    ensures width { IfOk result (λ f. f.width ≡ Byte) }
-
-    // From reset it answers every list of samples, where an interrupt may come at each instruction;
-    // without one its answers are the block's over bytes.
-    ensures answers { IfOk result (AnswersFrom block.now) }
-    ensures uninterrupted { IfOk result (AnswersUninterrupted block.now) }
-
-    // Refused exactly where the rules can't be laid out.
-    ensures limits { OnOk result (IsWithinLimits block.now) }
-    ensures fault { IfErr result (IsFaultOf block.now) }
-{
-    compile_for(alloc, Width::Byte, block)
-}
-
-/// The firmware of a block that answers 16 bits, from 0 to 65280 in steps of 1/256 of a byte, and
-/// stands alone in memory. Each output takes two bytes, the high one first. It is refused where
-/// `compile` is.
-pub fn compile16(alloc: Global, block: &Block) -> Result<Firmware, LayoutFault>
-    requires { IsValid block.now }
-    ensures firmware { IfOk result (IsFirmwareOf block.now) }
-    ensures width { IfOk result (λ f. f.width ≡ Word) }
-
-    // From reset it answers every list of samples, where an interrupt may come at each instruction;
-    // without one its answers are the block's in 16 bits.
-    ensures answers { IfOk result (AnswersFrom block.now) }
-    ensures uninterrupted { IfOk result (AnswersUninterrupted block.now) }
-
-    // Refused exactly where the rules can't be laid out.
-    ensures limits { OnOk result (IsWithinLimits block.now) }
-    ensures fault { IfErr result (IsFaultOf block.now) }
-{
-    compile_for(alloc, Width::Word, block)
-}
-
-/// The same with answers of the given width.
+/// The firmware of a block with answers of the given width, which stands alone in memory. Answers of 16 bits
+/// are from 0 to 65280 in steps of 1/256 of a byte, and take two bytes, the high one first. It is refused exactly
+/// where the block's rules are: where they spread into more than 512 conjunctions, or into a list of more than
+/// 9984 bytes.
 pub fn compile_for(alloc: Global, width: Width, block: &Block) -> Result<Firmware, LayoutFault>
     requires { IsValid block.now }
     ensures firmware { IfOk result (IsFirmwareOf block.now) }
     ensures width { IfOk result (λ f. f.width ≡ width) }
+
+    // From reset it answers every list of samples, where an interrupt may come at each instruction;
+    // without one its answers are the block's over this width.
     ensures answers { IfOk result (AnswersFrom block.now) }
     ensures uninterrupted { IfOk result (AnswersUninterrupted block.now) }
+
+    // Refused exactly where the rules can't be laid out.
     ensures limits { OnOk result (IsWithinLimits block.now) }
     ensures fault { IfErr result (IsFaultOf block.now) }
 {

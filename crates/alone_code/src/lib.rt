@@ -7,9 +7,11 @@
 //! the blocks that `rule_layout::spread` refuses, and allocate memory. What its runs rest on is in [`laws`].
 #![tactic(auto)]
 
+mod by_width;
 mod firmware;
 mod items;
 pub mod laws;
 
-pub use firmware::{compile, compile_for, compile_laid_out, compile16};
+pub use by_width::{compile, compile16};
+pub use firmware::{compile_for, compile_laid_out};
 pub use items::firmware_items;

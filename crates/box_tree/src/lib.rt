@@ -8,6 +8,7 @@
 //! first. Each of these exists once for all kinds and widths.
 #![tactic(auto)]
 
+mod by_width;
 mod cert;
 mod header;
 pub mod laws;
@@ -17,7 +18,8 @@ mod reader;
 mod text;
 mod writer;
 
+pub use by_width::{read, read16, write, write16};
 pub use cert::{Cert, CertFault, CertFormat, CertKind, LeafLine, Node};
 pub use lines::Lines;
-pub use reader::{read, read_for, read16};
-pub use writer::{write, write_for, write16};
+pub use reader::read_for;
+pub use writer::write_for;

@@ -35,24 +35,6 @@ impl<'a> Lines<'a> {
     ghost use Rattle.box_tree.specs.Certificates.{CertText, HasFault, IsNode};
     ghost use Rattle.box_tree.specs.Reading.{HasRead, HasFailed, claims_of, cert_of, StandsBefore, unread_len};
 
-    /// The reader of a text of version 1, after its claims.
-    pub fn new(text: &'a [u8]) -> Result<Lines<'a>, CertFault>
-        requires { length text.now ≤ 1048576 }
-        ensures begun { IfOk result (HasRead CertFormat.NAMED text.now []) }
-        ensures fault { IfErr result (HasFault CertFormat.NAMED text.now) }
-    {
-        Lines::of(CertFormat::NAMED, text)
-    }
-
-    /// The reader of a text of version 2, which is that of a certificate for answers of 16 bits.
-    pub fn new16(text: &'a [u8]) -> Result<Lines<'a>, CertFault>
-        requires { length text.now ≤ 1048576 }
-        ensures begun { IfOk result (HasRead CertFormat.NAMED16 text.now []) }
-        ensures fault { IfErr result (HasFault CertFormat.NAMED16 text.now) }
-    {
-        Lines::of(CertFormat::NAMED16, text)
-    }
-
     /// The reader of a text that must have a certificate of this format.
     pub fn of(format: CertFormat, text: &'a [u8]) -> Result<Lines<'a>, CertFault>
         requires { length text.now ≤ 1048576 }

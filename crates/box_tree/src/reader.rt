@@ -9,27 +9,6 @@ use arrayvec::ArrayVec;
 use fz_list::List;
 use std::alloc::Global;
 
-/// The certificate of a text of version 1, or the text's first fault.
-pub fn read(alloc: Global, text: &[u8]) -> Result<Cert, CertFault>
-    requires { length text.now ≤ 1048576 }
-    ensures cert { IfOk result (CertText CertFormat.NAMED text.now) }
-    ensures fault { IfErr result (λ fault.
-        fault ≢ CertFault.Memory → HasFault CertFormat.NAMED text.now fault) }
-{
-    read_for(alloc, CertFormat::NAMED, text)
-}
-
-/// The certificate of a text of version 2, which is for answers of 16 bits, or the text's first
-/// fault.
-pub fn read16(alloc: Global, text: &[u8]) -> Result<Cert, CertFault>
-    requires { length text.now ≤ 1048576 }
-    ensures cert { IfOk result (CertText CertFormat.NAMED16 text.now) }
-    ensures fault { IfErr result (λ fault.
-        fault ≢ CertFault.Memory → HasFault CertFormat.NAMED16 text.now fault) }
-{
-    read_for(alloc, CertFormat::NAMED16, text)
-}
-
 /// The certificate of this format that a text has, or the text's first fault.
 pub fn read_for(alloc: Global, format: CertFormat, text: &[u8]) -> Result<Cert, CertFault>
     requires { length text.now ≤ 1048576 }

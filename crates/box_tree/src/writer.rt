@@ -3,26 +3,10 @@ ghost use Rattle.std.specs.Prelude.{◌≡◌, ◌++◌, IfOk, OnOk};
 ghost use Rattle.box_tree.specs.Certificates.{CertText, IsCert};
 ghost use Rattle.box_tree.specs.Texts.{line, lines_of, node_line, node_lines, pair_numbers};
 
-use crate::cert::{Cert, CertFormat, CertKind, LeafLine, Node};
+use crate::cert::{Cert, CertFormat, LeafLine, Node};
 use arrayvec::ArrayVec;
 use itoa::Buffer;
 use std::alloc::{AllocError, Global};
-
-/// The text of a certificate that names rules, of version 1.
-pub fn write(alloc: Global, cert: &Cert) -> Result<Vec<u8>, AllocError>
-    requires { IsCert CertKind.Named cert.now }
-    ensures { IfOk result (λ text. CertText CertFormat.NAMED text.items cert.now) }
-{
-    write_for(alloc, CertFormat::NAMED, cert)
-}
-
-/// The text of a certificate that names rules, for answers of 16 bits, of version 2.
-pub fn write16(alloc: Global, cert: &Cert) -> Result<Vec<u8>, AllocError>
-    requires { IsCert CertKind.Named cert.now }
-    ensures { IfOk result (λ text. CertText CertFormat.NAMED16 text.items cert.now) }
-{
-    write_for(alloc, CertFormat::NAMED16, cert)
-}
 
 /// The text of a certificate in this format.
 pub fn write_for(alloc: Global, format: CertFormat, cert: &Cert) -> Result<Vec<u8>, AllocError>

@@ -1,7 +1,7 @@
 //! Whether a certificate is accepted, and with which errors, or its first fault.
 ghost use Rattle.std.specs.Prelude.{◌≢◌, ◌<◌, IfOk, IfErr};
 ghost use Rattle.fuzzy_meaning.specs.Blocks.{IsValid};
-ghost use Rattle.box_tree.specs.declared.{cert.CertKind.CertKind as TheKind, cert.CertKind.TheVariants.Named};
+ghost use Rattle.box_tree.specs.declared.cert.CertKind.{CertKind as TheKind};
 ghost use Rattle.box_tree.specs.Certificates.{IsCert};
 ghost use Rattle.cert_check.specs.{Acceptance.IsAccepted, Faults.HasCheckFault};
 ghost use Rattle.byte_scaling.specs.Widths.{parts as parts_of};
@@ -44,31 +44,9 @@ pub enum CheckFault {
     Memory,
 }
 
-/// The error of each output in millionths of its range, for answers that are bytes, or the first
-/// fault of a plain certificate, in the order of its lines, of the pairs on a line, and with the
-/// claims last.
-pub fn check(alloc: Global, block: &Block, cert: &Cert) -> Result<Vec<u32>, CheckFault>
-    requires block { IsValid block.now }
-    requires cert { IsCert Named cert.now }
-    ensures accepted { IfOk result (λ errors. IsAccepted block.now 1 cert.now errors.items) }
-    ensures fault { IfErr result (λ fault.
-        fault ≢ CheckFault.Memory → HasCheckFault block.now 1 cert.now fault) }
-{
-    check_for(alloc, Width::Byte, block, cert)
-}
-
-/// The same for answers of 16 bits.
-pub fn check16(alloc: Global, block: &Block, cert: &Cert) -> Result<Vec<u32>, CheckFault>
-    requires block { IsValid block.now }
-    requires cert { IsCert Named cert.now }
-    ensures accepted { IfOk result (λ errors. IsAccepted block.now 256 cert.now errors.items) }
-    ensures fault { IfErr result (λ fault.
-        fault ≢ CheckFault.Memory → HasCheckFault block.now 256 cert.now fault) }
-{
-    check_for(alloc, Width::Word, block, cert)
-}
-
-/// The same for a certificate of either kind and answers of this width.
+/// The error of each output in millionths of its range, for answers of this width, or the first
+/// fault of a certificate of either kind, in the order of its lines, of the pairs on a line, and with
+/// the claims last.
 pub fn check_for(
     alloc: Global,
     width: Width,

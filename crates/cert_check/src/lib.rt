@@ -10,6 +10,7 @@
 #![tactic(auto)]
 
 mod boxes;
+mod by_width;
 mod checker;
 pub mod laws;
 mod leaves;
@@ -17,6 +18,7 @@ mod text;
 mod walk;
 
 pub use boxes::{halves, whole_box};
-pub use checker::{CheckFault, check, check_for, check16};
+pub use by_width::{check, check_text, check_text16, check16};
+pub use checker::{CheckFault, check_for};
 pub use leaves::raise;
-pub use text::{TextFault, check_text, check_text_for, check_text16};
+pub use text::{TextFault, check_text_for};

@@ -29,31 +29,9 @@ pub enum TextFault {
     Memory,
 }
 
-/// The errors that a text's certificate is accepted with, for answers that are bytes, or why the text
-/// is refused: its first fault as a text, or else the first fault of its certificate. It builds no
-/// tree, and allocates all memory before the first node.
-pub fn check_text(alloc: Global, block: &Block, text: &[u8]) -> Result<Vec<u32>, TextFault>
-    requires block { IsValid block.now }
-    requires text { length text.now ≤ 1048576 }
-    ensures accepted { IfOk result (λ errors. IsAcceptedText block.now 1 CertFormat.NAMED text.now errors.items) }
-    ensures refused { IfErr result (λ refusal. refusal ≢ TextFault.Memory
-        → HasTextFault block.now 1 CertFormat.NAMED text.now refusal) }
-{
-    check_text_for(alloc, CertFormat::NAMED, block, text)
-}
-
-/// The same for answers of 16 bits, and texts of version 2.
-pub fn check_text16(alloc: Global, block: &Block, text: &[u8]) -> Result<Vec<u32>, TextFault>
-    requires block { IsValid block.now }
-    requires text { length text.now ≤ 1048576 }
-    ensures accepted { IfOk result (λ errors. IsAcceptedText block.now 256 CertFormat.NAMED16 text.now errors.items) }
-    ensures refused { IfErr result (λ refusal. refusal ≢ TextFault.Memory
-        → HasTextFault block.now 256 CertFormat.NAMED16 text.now refusal) }
-{
-    check_text_for(alloc, CertFormat::NAMED16, block, text)
-}
-
-/// The same for a certificate of this format.
+/// The errors that a text's certificate of this format is accepted with, or why the text is refused: its
+/// first fault as a text, or else the first fault of its certificate. It builds no tree, and allocates
+/// all memory before the first node.
 pub fn check_text_for(
     alloc: Global,
     format: CertFormat,

@@ -4,17 +4,16 @@ ghost use Rattle.std.specs.Prelude.{Some, length};
 ghost use Rattle.fz_num.specs.Fractions.{over, AtMost};
 ghost use Rattle.fuzzy_meaning.specs.Blocks.{IsValid, IsValidOutput, output_at};
 ghost use Rattle.fuzzy_meaning.specs.Meaning.{concludes as concludes_it};
-ghost use Rattle.error_bound.specs.{Boxes.IsBoxOf, Best.silent_leaf, Bounds.IsBound, Spans.only, Reaches.IsTable};
+ghost use Rattle.error_bound.specs.{Best.silent_leaf, Bounds.IsBound, Spans.only, Reaches.IsTable};
 ghost use Rattle.error_bound.specs.Faults.{HasLeafFault, IsStrongFault, IsSilentFault};
 ghost use Rattle.error_bound.specs.Leaves.{Holds, IsStill, concludes_some as concludes_any, IsPairFor};
 ghost use Rattle.error_bound.specs.Ratios.{value_of, IsRatio};
 ghost use Rattle.error_bound.specs.Reaches.{block_of, box_of, parts_of};
 
 use crate::bounds::{silent_bound, strong_bound};
-use crate::boxes::{ByteBox, Leaf, LeafFault};
+use crate::boxes::{Leaf, LeafFault};
 use crate::ends::{End, Side};
-use crate::tables::{BlockTable, BoxTable};
-use byte_scaling::Width;
+use crate::tables::BoxTable;
 use fuzzy_meaning::{Block, Output, Rule};
 
 /// An output of a block, counted from 1.
@@ -26,37 +25,6 @@ pub fn output_of(block: &Block, out: u8) -> &Output
     ensures valid { IsValidOutput result.now }
 {
     &block.outputs.as_slice()[out as usize - 1]
-}
-
-/// The Bound of a leaf's pair for an output on a box, in millionths of the output's range, for
-/// answers that are bytes, or the pair's first fault.
-pub fn leaf_bound(block: &Block, bytes: &ByteBox, leaf: &Leaf, out: u8) -> Result<u32, LeafFault>
-    requires block { IsValid block.now }
-    requires bytes { IsBoxOf block.now bytes.now.0.items }
-    requires out_from { 1 ≤ out }
-    requires out_to { out ≤ length block.now.outputs }
-    requires pair { IsPairFor block.now out leaf.now }
-    ensures holds { OnOk result (Holds block.now bytes.now.0.items out leaf.now) }
-    ensures bound { IfOk result (λ n. IfSome (output_at block.now out)
-        (λ x. IsBound block.now bytes.now.0.items out x 1 leaf.now n)) }
-    ensures fault { IfErr result (HasLeafFault block.now bytes.now.0.items out leaf.now) }
-{
-    BoxTable::over(&BlockTable::for_one_box(block, Width::Byte), bytes.copied()).bound(leaf, out)
-}
-
-/// The same for answers of 16 bits.
-pub fn leaf_bound16(block: &Block, bytes: &ByteBox, leaf: &Leaf, out: u8) -> Result<u32, LeafFault>
-    requires block { IsValid block.now }
-    requires bytes { IsBoxOf block.now bytes.now.0.items }
-    requires out_from { 1 ≤ out }
-    requires out_to { out ≤ length block.now.outputs }
-    requires pair { IsPairFor block.now out leaf.now }
-    ensures holds { OnOk result (Holds block.now bytes.now.0.items out leaf.now) }
-    ensures bound { IfOk result (λ n. IfSome (output_at block.now out)
-        (λ x. IsBound block.now bytes.now.0.items out x 256 leaf.now n)) }
-    ensures fault { IfErr result (HasLeafFault block.now bytes.now.0.items out leaf.now) }
-{
-    BoxTable::over(&BlockTable::for_one_box(block, Width::Word), bytes.copied()).bound(leaf, out)
 }
 
 impl BoxTable<'_> {

@@ -9,6 +9,7 @@
 
 mod bounds;
 mod boxes;
+mod by_width;
 mod cells;
 mod choosing;
 mod degrees;
@@ -28,8 +29,9 @@ mod tables;
 mod tight;
 
 pub use boxes::{ByteBox, Interval, Leaf, LeafFault};
+pub use by_width::{leaf_bound, leaf_bound16};
 pub use cells::term_error;
 pub use choosing::best;
-pub use leaves::{is_pair_for, leaf_bound, leaf_bound16, output_of};
+pub use leaves::{is_pair_for, output_of};
 pub use tables::{BlockTable, BoxTable};
 pub use tight::{Masses, ranges_of};

@@ -1,7 +1,7 @@
 //! Certificates for a target, or why it is not reached.
 ghost use Rattle.std.specs.Prelude.{◌≢◌, ◌≤◌, All, IfOk, IfErr};
 ghost use Rattle.fuzzy_meaning.specs.Blocks.{IsValid};
-ghost use Rattle.box_tree.specs.{declared.cert.CertKind.TheVariants.Named, Certificates.IsCert};
+ghost use Rattle.box_tree.specs.Certificates.{IsCert};
 ghost use Rattle.byte_scaling.specs.Widths.{parts as parts_of};
 ghost use Rattle.error_certifier.specs.{Halving.IsHalving, Halving.StopsAt, Laws.SaysOutOfReach, Laws.AreWithin};
 ghost use Rattle.error_certifier.specs.{Halving.IsHalvingFor, Halving.StopsFor, Laws.SaysOutOfReachFor};
@@ -36,33 +36,6 @@ pub enum NotReached {
     /// Out of memory for the certificate, or for the table of the block.
     #[error("no memory")]
     Memory,
-}
-
-/// The plain certificate that halving gives for one target for all outputs, in millionths of each output's range,
-/// for answers that are bytes.
-pub fn certify(alloc: Global, block: &Block, target: u32) -> Result<Cert, NotReached>
-    requires block { IsValid block.now }
-    requires target { target ≤ 1000000 }
-    ensures halved { IfOk result (IsHalving Named block.now 1 target) }
-    ensures within { IfOk result (λ cert. All (λ error. error ≤ target) cert.claims) }
-    ensures cert { IfOk result (IsCert Named) }
-    ensures stops { IfErr result (λ stop. stop ≢ NotReached.Memory → StopsAt Named block.now 1 target stop) }
-    ensures out_of_reach { IfErr result (SaysOutOfReach Named block.now 1 target) }
-{
-    certify_for(alloc, CertFormat::NAMED, block, target)
-}
-
-/// The same for answers of 16 bits.
-pub fn certify16(alloc: Global, block: &Block, target: u32) -> Result<Cert, NotReached>
-    requires block { IsValid block.now }
-    requires target { target ≤ 1000000 }
-    ensures halved { IfOk result (IsHalving Named block.now 256 target) }
-    ensures within { IfOk result (λ cert. All (λ error. error ≤ target) cert.claims) }
-    ensures cert { IfOk result (IsCert Named) }
-    ensures stops { IfErr result (λ stop. stop ≢ NotReached.Memory → StopsAt Named block.now 256 target stop) }
-    ensures out_of_reach { IfErr result (SaysOutOfReach Named block.now 256 target) }
-{
-    certify_for(alloc, CertFormat::NAMED16, block, target)
 }
 
 /// The certificate of this format that halving gives for one target for all outputs.

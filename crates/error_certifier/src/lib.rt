@@ -10,11 +10,13 @@
 #![tactic(auto)]
 
 mod boxes;
+mod by_width;
 mod certifier;
 mod halving;
 pub mod laws;
 mod leaves;
 mod targets;
 
-pub use certifier::{NotReached, certify, certify_each, certify_for, certify16};
+pub use by_width::{certify, certify16};
+pub use certifier::{NotReached, certify_each, certify_for};
 pub use targets::Targets;
