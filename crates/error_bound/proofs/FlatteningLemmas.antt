@@ -300,14 +300,14 @@ module _ {A : Type 0} (minus : A → A) (j : Joins A) (s : ℕ → ℕ → Span 
   abbrev reach : Side → Condition → A
   reach side c = end_of side (evaluate (reversed minus) (spans j) s c)
 
-  reach-also : (side : Side) (or : Bool) (c : Condition) (cs : Conditions)
+  pub reach-also : (side : Side) (or : Bool) (c : Condition) (cs : Conditions)
       → reach side (group or (also c cs)) ≡ j.join or (reach side c) (reach side (group or cs))
   reach-also High true c cs = refl
   reach-also High false c cs = refl
   reach-also Low true c cs = refl
   reach-also Low false c cs = refl
 
-  reach-end : (side : Side) (or : Bool) → reach side (group or end) ≡ j.none or
+  pub reach-end : (side : Side) (or : Bool) → reach side (group or end) ≡ j.none or
   reach-end High true = refl
   reach-end High false = refl
   reach-end Low true = refl

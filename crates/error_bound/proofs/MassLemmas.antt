@@ -1,19 +1,24 @@
 -- The ends of masses, under NOT and AND, and of rules.
-use Rattle.std.proofs.Common.{◌≡◌, ℕ, zero, suc, ◌+◌, ◌-◌, ◌*◌, ◌/◌, ◌<◌, ◌≤◌, min, List, [], ◌∷◌}
-use Rattle.std.proofs.Common.{Some, drop, length, get_or, refl, sym, ap, subst, arith, mul-le-mul_right, ⊎_elim, ◌∙◌}
+use Rattle.std.proofs.Common.{◌≡◌, ℕ, zero, suc, ◌+◌, ◌-◌, ◌*◌, ◌/◌, ◌<◌, ◌≤◌, min, max, Bool, true, false, None, List, [], ◌∷◌}
+use Rattle.std.proofs.Common.{Some, drop, length, get_or, refl, sym, ap, ap₂, subst, arith, mul-le-mul_right, ⊎_elim, ◌∙◌}
 use Rattle.std.proofs.{Math.Nat.div-mul-le_self, lemmas.Nat.le-div, lemmas.Bool.cases_lt}
 use Rattle.std.specs.Prelude.{map, slice_get}
 use Rattle.fz_num.specs.Fractions.{Fraction, IsProper, lesser, one_minus, times, up_div}
-use Rattle.fz_num.proofs.Algebra.{by_lesser, le-up_div, up_div-le}
+use Rattle.fz_num.proofs.Algebra.{by_lesser, by_greater, le-up_div, up_div-le}
 use Rattle.fuzzy_meaning.specs.{declared.block.Block.Block, declared.block.Rule.Rule, Blocks.HasTerm}
 use Rattle.fuzzy_meaning.specs.Blocks.{IsValidCondition, AreValidConditions}
-use Rattle.fuzzy_meaning.specs.Conditions.{Condition, all, conditions, AllHaveLiterals}
+use Rattle.fuzzy_meaning.specs.Conditions.{Condition, Conditions, all, also, conditions, end, group, levels}
+use Rattle.fuzzy_meaning.specs.{Conditions.AllHaveLiterals, Meaning.truths}
 use Rattle.error_bound.specs.declared.{boxes.Interval.Interval, masses.MassEnds.MassEnds, reaches.Literal.Literal}
 use Rattle.error_bound.specs.{Boxes.literal_span, Boxes.literal_byte_span, Spans.Span, Spans.span, Spans.byte_span}
 use Rattle.error_bound.specs.{Spans.reversed, Errors.billion, Flattening.IsSame}
-use Rattle.error_bound.specs.Masses.{AreMassEnds, IsAtMost, AreEndsOfCondition, IsConditionWithin}
+use Rattle.error_bound.specs.Masses.{AreJoined, AreMassEnds, AreMassesOfNone, IsAtMost, AreEndsOfCondition}
+use Rattle.error_bound.specs.Masses.{IsConditionWithin}
+use Rattle.error_bound.specs.{Flattening.ReachesAlike, declared.ends.Side.TheVariants.Low, declared.ends.Side.TheVariants.High}
+use Rattle.error_bound.proofs.FlatteningLemmas.{reach-also}
 use Rattle.error_bound.specs.Masses.{IsRuleMass, IsRuleWithin}
-use Rattle.error_bound.specs.Reaches.{AreLiteralsOf, literal_of}
+use Rattle.error_bound.specs.Reaches.{AreLiteralsOf, IsEndOfCondition, byte_span_of_ends, literal_of, span_of_ends}
+use Rattle.error_bound.specs.{declared.ends.Ends.Ends}
 use Rattle.error_bound.proofs.{FlatteningLemmas.span_to_itself, TightLawLemmas.part-mono, TightLawLemmas.up-mono}
 use Rattle.error_bound.proofs.{ListLemmas.drop_back, TightLawLemmas.low_part-same, TightLawLemmas.up-same}
 
@@ -34,6 +39,24 @@ least_up_part : (f g : Fraction) → IsProper f → IsProper g → up_part (less
 least_up_part f g pf pg = by_lesser (λ h. up_part h ≡ min (up_part f) (up_part g)) f g
     (λ k. let m = up-mono (255 * billion) f g pf pg k in omega arith)
     (λ k. let m = up-mono (255 * billion) g f pg pf k in omega arith)
+
+joined_part : (or : Bool) (f g : Fraction) → IsProper f → IsProper g
+    → part (truths.join or f g) ≡ (levels 255000000000).join or (part f) (part g)
+joined_part false f g pf pg = least_part f g pf pg
+joined_part true f g pf pg = by_greater (λ h. part h ≡ max (part f) (part g)) f g
+    (λ k. let m = part-mono g f pg pf k in omega arith)
+    (λ k. let m = part-mono f g pf pg k in omega arith)
+
+joined_up_part : (or : Bool) (f g : Fraction) → IsProper f → IsProper g
+    → up_part (truths.join or f g) ≡ (levels 255000000000).join or (up_part f) (up_part g)
+joined_up_part false f g pf pg = least_up_part f g pf pg
+joined_up_part true f g pf pg = by_greater (λ h. up_part h ≡ max (up_part f) (up_part g)) f g
+    (λ k. let m = up-mono (255 * billion) g f pg pf k in omega arith)
+    (λ k. let m = up-mono (255 * billion) f g pf pg k in omega arith)
+
+joined_most : (or : Bool) (m n most o : ℕ) → o ≡ (levels most).join or m n → m ≤ most → n ≤ most → o ≤ most
+joined_most true m n most o e l k = omega (arith, e)
+joined_most false m n most o e l k = omega (arith, e)
 
 between_is : (n d q : ℕ) → 0 < d → q * d ≤ n → n < (q + 1) * d → n / d ≡ q
 between_is n d q pos low high =
@@ -129,36 +152,74 @@ module _ (b : Block) (box : List Interval) where
   abbrev AndOf : List Literal → Condition
   AndOf ls = all (conditions (map literal_of ls))
 
-  ends_more : (l : Literal) (ls : List Literal) (m n o : MassEnds) → AreEndsOfCondition b box (literal_of l) m
-      → AreEndsOfCondition b box (AndOf ls) n → o.low ≡ min m.low n.low → o.high ≡ min m.high n.high
-      → o.byte_low ≡ min m.byte_low n.byte_low → o.byte_high ≡ min m.byte_high n.byte_high
-      → AreEndsOfCondition b box (AndOf (l ∷ ls)) o
-  ends_more l ls m n o hm hn low high byte_low byte_high =
-      let c = literal_of l in
-      let d = AndOf ls in
+  -- of an OR or an AND of one more part
+  pub ends_also : (or : Bool) (c : Condition) (cs : Conditions) (m n o : MassEnds) → AreEndsOfCondition b box c m
+      → AreEndsOfCondition b box (group or cs) n → AreJoined or m n o → AreEndsOfCondition b box (group or (also c cs)) o
+  ends_also or c cs m n o hm hn j =
+      let d = group or cs in
+      let byte_lows = ap₂ ((levels 255).join or) hm.byte_low hn.byte_low in
+      let byte_highs = ap₂ ((levels 255).join or) hm.byte_high hn.byte_high in
       record {
-        low = low ∙ ap (λ k. min k n.low) hm.low ∙ ap (min (part (lows c))) hn.low
-            ∙ sym (least_part (lows c) (lows d) (low_proper c) (low_proper d));
-        high = high ∙ ap (λ k. min k n.high) hm.high ∙ ap (min (up_part (highs c))) hn.high
-            ∙ sym (least_up_part (highs c) (highs d) (high_proper c) (high_proper d));
-        byte_low = byte_low ∙ ap (λ k. min k n.byte_low) hm.byte_low
-            ∙ ap (min (byte_span (literal_byte_span b box) c).low) hn.byte_low;
-        byte_high = byte_high ∙ ap (λ k. min k n.byte_high) hm.byte_high
-            ∙ ap (min (byte_span (literal_byte_span b box) c).high) hn.byte_high;
-        low_small = omega (arith, low, hm.low_small);
-        high_small = omega (arith, high, hm.high_small);
-        byte_low_small = omega (arith, byte_low, hm.byte_low_small);
-        byte_high_small = omega (arith, byte_high, hm.byte_high_small);
+        low = j.low ∙ ap₂ ((levels 255000000000).join or) hm.low hn.low
+            ∙ sym (joined_part or (lows c) (lows d) (low_proper c) (low_proper d))
+            ∙ sym (ap part (reach-also one_minus truths (literal_span b box) Low or c cs));
+        high = j.high ∙ ap₂ ((levels 255000000000).join or) hm.high hn.high
+            ∙ sym (joined_up_part or (highs c) (highs d) (high_proper c) (high_proper d))
+            ∙ sym (ap up_part (reach-also one_minus truths (literal_span b box) High or c cs));
+        byte_low = j.byte_low ∙ byte_lows
+            ∙ sym (reach-also (λ n. 255 - n) (levels 255) (literal_byte_span b box) Low or c cs);
+        byte_high = j.byte_high ∙ byte_highs
+            ∙ sym (reach-also (λ n. 255 - n) (levels 255) (literal_byte_span b box) High or c cs);
+        low_small = joined_most or m.low n.low 255000000000 o.low j.low hm.low_small hn.low_small;
+        high_small = joined_most or m.high n.high 255000000000 o.high j.high hm.high_small hn.high_small;
+        byte_low_small = joined_most or m.byte_low n.byte_low 255 o.byte_low j.byte_low hm.byte_low_small hn.byte_low_small;
+        byte_high_small = joined_most or m.byte_high n.byte_high 255 o.byte_high j.byte_high hm.byte_high_small
+            hn.byte_high_small;
       }
+
+  pub ends_of_exact : (c : Condition) (e : Ends) (m : MassEnds) → IsEndOfCondition b box c Low e.low
+      → IsEndOfCondition b box c High e.high → AreMassEnds (span_of_ends e) (byte_span_of_ends e) m
+      → AreEndsOfCondition b box c m
+  ends_of_exact c e m low high h = record {
+    low = h.low ∙ ap part low.value;
+    high = h.high ∙ ap up_part high.value;
+    byte_low = h.byte_low ∙ low.byte;
+    byte_high = h.byte_high ∙ high.byte;
+    low_small = h.low_small;
+    high_small = h.high_small;
+    byte_low_small = h.byte_low_small;
+    byte_high_small = h.byte_high_small;
+  }
+
+  pub ends_none : (or : Bool) (m : MassEnds) → AreMassesOfNone or m → AreEndsOfCondition b box (group or end) m
+  ends_none true m h = record {
+    low = h.low;
+    high = h.high;
+    byte_low = h.byte_low;
+    byte_high = h.byte_high;
+    low_small = omega (arith, h.low);
+    high_small = omega (arith, h.high);
+    byte_low_small = omega (arith, h.byte_low);
+    byte_high_small = omega (arith, h.byte_high);
+  }
+  ends_none false m h = record {
+    low = h.low;
+    high = h.high;
+    byte_low = h.byte_low;
+    byte_high = h.byte_high;
+    low_small = omega (arith, h.low);
+    high_small = omega (arith, h.high);
+    byte_low_small = omega (arith, h.byte_low);
+    byte_high_small = omega (arith, h.byte_high);
+  }
 
   pub ends_from : (ls : List Literal) (k : ℕ) (l : Literal) (m n o : MassEnds) → 0 < k → k ≤ length ls
       → AreEndsOfCondition b box (literal_of (get_or ls (k - 1) l)) m → AreEndsOfCondition b box (AndOf (drop k ls)) n
-      → o.low ≡ min m.low n.low → o.high ≡ min m.high n.high → o.byte_low ≡ min m.byte_low n.byte_low
-      → o.byte_high ≡ min m.byte_high n.byte_high → AreEndsOfCondition b box (AndOf (drop (k - 1) ls)) o
-  ends_from ls k l m n o from to hm hn low high byte_low byte_high =
+      → AreJoined false m n o → AreEndsOfCondition b box (AndOf (drop (k - 1) ls)) o
+  ends_from ls k l m n o from to hm hn j =
       let x = get_or ls (k - 1) l in
       subst (λ ys. AreEndsOfCondition b box (AndOf ys) o) (sym (drop_back ls k x l from to refl))
-      (ends_more x (drop k ls) m n o hm hn low high byte_low byte_high)
+      (ends_also false (literal_of x) (conditions (map literal_of (drop k ls))) m n o hm hn j)
 
   -- more literals reach no further
   within_more : (l : Literal) (ls : List Literal) (m : MassEnds) → IsConditionWithin b box (AndOf ls) m
@@ -202,13 +263,12 @@ module _ (b : Block) (box : List Interval) where
     above = record { cross = (let p = s.above.cross in omega arith) };
   }
 
-  pub plain_mass : (r : Rule) (ls : List Literal) (m : MassEnds) → AreLiteralsOf b r ls
-      → AreEndsOfCondition b box (AndOf ls) m → IsRuleMass b box r m
-  plain_mass r ls m of_rule h =
-      let same = of_rule.alike.spans box in
-      let bytes = of_rule.alike.byte_spans box in
-      let d = AndOf ls in
-      rw of_rule.plain (record {
+  pub plain_mass : (r : Rule) (d : Condition) (m : MassEnds) → r.weight ≡ None → ReachesAlike b r.cond d
+      → AreEndsOfCondition b box d m → IsRuleMass b box r m
+  plain_mass r d m plain alike h =
+      let same = alike.spans box in
+      let bytes = alike.byte_spans box in
+      rw plain (record {
         low = h.low ∙ low_part-same (lows d) (times (lows r.cond) 10000) (plain_same (lows d) (lows r.cond) same.low);
         high = h.high ∙ up-same (255 * billion) (highs d) (times (highs r.cond) 10000)
             (plain_same (highs d) (highs r.cond) same.high);

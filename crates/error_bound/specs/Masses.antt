@@ -1,9 +1,9 @@
 -- What the code knows of the masses of an output's terms on a box.
 -- Beside the promise.
-use Rattle.std.specs.Prelude.{◌≡◌, ℕ, ◌+◌, ◌-◌, ◌*◌, ◌/◌, ◌<◌, ◌≤◌, ◌==◌, List, if◌then◌else◌, slice_index}
+use Rattle.std.specs.Prelude.{◌≡◌, ℕ, ◌+◌, ◌-◌, ◌*◌, ◌/◌, ◌<◌, ◌≤◌, ◌==◌, Bool, List, if◌then◌else◌, slice_index}
 use Rattle.fz_num.specs.{declared.dec.Dec.Dec, Decimals.distance, Fractions.Fraction, Fractions.up_div}
 use Rattle.fuzzy_meaning.specs.declared.{block.Block.Block, block.Output.Output, block.Rule.Rule}
-use Rattle.fuzzy_meaning.specs.Conditions.{Condition}
+use Rattle.fuzzy_meaning.specs.Conditions.{Condition, levels}
 use Rattle.error_bound.specs.declared.{boxes.Interval.Interval, masses.MassEnds.MassEnds, tight.Masses.Masses}
 use Rattle.error_bound.specs.declared.{tight.Deviations.Deviations}
 use Rattle.cell_error.specs.declared.{ranges.MassRange.MassRange, ranges.Deviation.Deviation, means.Scale.Scale}
@@ -38,6 +38,20 @@ pub record IsAtMost (m n : MassEnds) : Type 0 where
   pub high : m.high ≤ n.high
   pub byte_low : m.byte_low ≤ n.byte_low
   pub byte_high : m.byte_high ≤ n.byte_high
+
+-- those of an OR or an AND of no parts
+pub record AreMassesOfNone (or : Bool) (m : MassEnds) : Type 0 where
+  pub low : m.low ≡ (levels 255000000000).none or
+  pub high : m.high ≡ (levels 255000000000).none or
+  pub byte_low : m.byte_low ≡ (levels 255).none or
+  pub byte_high : m.byte_high ≡ (levels 255).none or
+
+-- each end is the greater of two for an OR, the lesser for an AND
+pub record AreJoined (or : Bool) (m n o : MassEnds) : Type 0 where
+  pub low : o.low ≡ (levels 255000000000).join or m.low n.low
+  pub high : o.high ≡ (levels 255000000000).join or m.high n.high
+  pub byte_low : o.byte_low ≡ (levels 255).join or m.byte_low n.byte_low
+  pub byte_high : o.byte_high ≡ (levels 255).join or m.byte_high n.byte_high
 
 -- of a condition on a box
 abbrev pub AreEndsOfCondition : Block → List Interval → Condition → MassEnds → Type 0

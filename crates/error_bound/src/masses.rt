@@ -1,22 +1,26 @@
 //! The masses of literals and rules over a box, in whole parts.
 //!
-//! Rounding keeps the order, so the mass of an AND is the least of the masses of its parts: they are computed once for
-//! each term of a box, and rules that are ANDs of literals need no fraction.
-ghost use Rattle.std.specs.Prelude.{◌≡◌, ◌≤◌, ◌<◌, ◌-◌, ◌*◌, ◌/◌, IfNone, IfSome, IsTrue, Some, length, map, min};
+//! Rounding keeps the order, so the mass of an AND is the least of the masses of its parts, and that of an OR the
+//! greatest: those of literals are computed once for each term of a box, and rules without a weight need no fraction.
+ghost use Rattle.std.specs.Prelude.{◌≡◌, ◌≤◌, ◌<◌, ◌-◌, ◌*◌, ◌/◌, IfNone, IfSome, IsTrue, Some, length, map};
 ghost use Rattle.std.specs.Prelude.{slice_get};
 ghost use Rattle.fz_num.specs.Fractions.{up_div};
 ghost use Rattle.fuzzy_meaning.specs.{declared.block.Rule.Rule as TheRule, Blocks.IsValidCondition};
-ghost use Rattle.fuzzy_meaning.specs.{Blocks.AreValidConditions, Conditions.all, Conditions.conditions};
+ghost use Rattle.fuzzy_meaning.specs.{Blocks.AreValidConditions, Conditions.all, Conditions.conditions, Conditions.group as group_of};
+ghost use Rattle.error_bound.specs.{Flattening.is_any, Masses.AreJoined, Masses.AreMassesOfNone};
 ghost use Rattle.error_bound.specs.Ratios.{value_of, IsRatio};
 ghost use Rattle.error_bound.specs.Masses.{AreMassEnds, AreEndsOfCondition, IsAtMost, IsConditionWithin};
 ghost use Rattle.error_bound.specs.Masses.{IsRuleMass, IsRuleWithin};
 ghost use Rattle.error_bound.specs.Reaches.{AreLiteralsOf, IsTable, block_of, box_of, byte_span_of_ends, literal_of};
 ghost use Rattle.error_bound.specs.Reaches.{span_of_ends};
 
-use crate::ends::Ends;
+use crate::ends::{Ends, ends_of};
+use crate::flattening::Group;
 use crate::ratio::Ratio;
-use crate::reaches::{Literal, reach_of_literal};
+use crate::reaches::{Literal, literal_in, reach_of_literal};
 use crate::tables::BoxTable;
+use fuzzy_meaning::laws::parts_are_valid;
+use fuzzy_meaning::{Condition, Node};
 
 /// The range of a truth over a box: the least, rounded down, and the greatest, rounded up, in parts of 255 * 10^9,
 /// and those over bytes.
@@ -78,19 +82,35 @@ impl MassEnds {
         }
     }
 
-    /// The lesser at each end.
+    /// Those of an OR or an AND of no parts.
     #[inline]
-    fn min(self, other: MassEnds) -> MassEnds
-        ensures low { result.low ≡ min self.low other.low }
-        ensures high { result.high ≡ min self.high other.high }
-        ensures byte_low { result.byte_low ≡ min self.byte_low other.byte_low }
-        ensures byte_high { result.byte_high ≡ min self.byte_high other.byte_high }
+    fn of_none(group: Group) -> MassEnds
+        ensures { AreMassesOfNone (is_any group) result }
     {
-        MassEnds {
-            low: self.low.min(other.low),
-            high: self.high.min(other.high),
-            byte_low: self.byte_low.min(other.byte_low),
-            byte_high: self.byte_high.min(other.byte_high),
+        match group {
+            Group::Any => MassEnds::NOTHING,
+            Group::All => MassEnds::ALL,
+        }
+    }
+
+    /// The greater at each end for an OR, the lesser for an AND.
+    #[inline]
+    fn joined(self, group: Group, other: MassEnds) -> MassEnds
+        ensures { AreJoined (is_any group) self other result }
+    {
+        match group {
+            Group::Any => MassEnds {
+                low: self.low.max(other.low),
+                high: self.high.max(other.high),
+                byte_low: self.byte_low.max(other.byte_low),
+                byte_high: self.byte_high.max(other.byte_high),
+            },
+            Group::All => MassEnds {
+                low: self.low.min(other.low),
+                high: self.high.min(other.high),
+                byte_low: self.byte_low.min(other.byte_low),
+                byte_high: self.byte_high.min(other.byte_high),
+            },
         }
     }
 
@@ -177,7 +197,12 @@ impl BoxTable<'_> {
         ensures { (r : TheRule) → slice_get (block_of self.now).rules place ≡ Some r
             → IsRuleMass (block_of self.now) (box_of self.now) r result }
     {
-        MassEnds::of(self.ends_of_rule(place))
+        let rule = &self.table.block.rules.as_slice()[place];
+        if rule.weight.is_some() {
+            MassEnds::of(self.ends_of_rule(place))
+        } else {
+            mass_of(self.condition_of(place, rule), self)
+        }
     }
 }
 
@@ -192,12 +217,47 @@ fn least_above(literals: &[Literal], so_far: MassEnds, table: &BoxTable) -> Opti
 {
     let mut least = MassEnds::ALL;
     for k in (0..literals.len()).rev() {
-        least = mass_of_literal(literals[k], table).min(least);
+        least = mass_of_literal(literals[k], table).joined(Group::All, least);
         if least.is_within(so_far) {
             return None;
         }
     }
     Some(least)
+}
+
+/// The range of a condition's truth over a box.
+#[cycle(masses)]
+fn mass_of(condition: &Condition, table: &BoxTable) -> MassEnds
+    requires condition { IsValidCondition (block_of table.now) condition.now }
+    requires table { IsTable table.now }
+    ensures { AreEndsOfCondition (block_of table.now) (box_of table.now) condition.now result }
+{
+    match &condition.node {
+        Node::And(parts) => mass_among(parts.as_slice(), Group::All, table),
+        Node::Or(parts) => mass_among(parts.as_slice(), Group::Any, table),
+        _ => MassEnds::of(ends_of(condition, table)),
+    }
+}
+
+/// The range of an OR or an AND of these parts. Most parts are literals, which need no further call.
+#[cycle(masses)]
+fn mass_among(parts: &[Condition], group: Group, table: &BoxTable) -> MassEnds
+    requires parts { AreValidConditions (block_of table.now) (conditions parts.now) }
+    requires table { IsTable table.now }
+    ensures { AreEndsOfCondition (block_of table.now) (box_of table.now)
+        (group_of (is_any group) (conditions parts.now)) result }
+{
+    parts_are_valid();
+    let mut joined = MassEnds::of_none(group);
+    for k in (0..parts.len()).rev() {
+        let part = &parts[k];
+        let mass = match literal_in(part) {
+            Some(literal) => mass_of_literal(literal, table),
+            None => mass_of(part, table),
+        };
+        joined = mass.joined(group, joined);
+    }
+    joined
 }
 
 #[inline]

@@ -17,18 +17,18 @@ mass_of_literal-requires-clause-literal c =
 
 pub loop-k-preserved : goal.loop-k-preserved
 loop-k-preserved c =
-    let m = c.min-least.ensures in
+    let m = c.joined-least.ensures in
     ends_from c.args.table.now.table.now.block.now c.args.table.now.bytes.0.items c.args.literals.now c.loop-k.k nothing
-    c.mass_of_literal.result c.loop-k.least c.min-least.result (omega (arith, c.loop-k-test.true))
-    (omega (arith, c.loop-k.auto.k)) c.mass_of_literal.ensures c.loop-k.invariant m.low m.high m.byte_low m.byte_high
+    c.mass_of_literal.result c.loop-k.least c.joined-least.result (omega (arith, c.loop-k-test.true))
+    (omega (arith, c.loop-k.auto.k)) c.mass_of_literal.ensures c.loop-k.invariant m
 
 pub returns-then-is_within-clause-within : goal.returns-then-is_within-clause-within
 returns-then-is_within-clause-within c =
     let b = c.args.table.now.table.now.block.now in
     let box = c.args.table.now.bytes.0.items in
-    let m = c.min-least.ensures in
+    let m = c.joined-least.ensures in
     let ends = ends_from b box c.args.literals.now c.loop-k.k nothing c.mass_of_literal.result c.loop-k.least
-    c.min-least.result (omega (arith, c.loop-k-test.true)) (omega (arith, c.loop-k.auto.k)) c.mass_of_literal.ensures
-    c.loop-k.invariant m.low m.high m.byte_low m.byte_high in
-    some_within b box c.args.literals.now (c.loop-k.k - 1) c.min-least.result c.args.so_far ends
+    c.joined-least.result (omega (arith, c.loop-k-test.true)) (omega (arith, c.loop-k.auto.k)) c.mass_of_literal.ensures
+    c.loop-k.invariant m in
+    some_within b box c.args.literals.now (c.loop-k.k - 1) c.joined-least.result c.args.so_far ends
     (c.is_within.ensures c.if-is_within.true)

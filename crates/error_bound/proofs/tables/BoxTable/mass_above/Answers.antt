@@ -1,5 +1,7 @@
 use Rattle.std.proofs.Common.{Option, Some, None}
-use Rattle.std.specs.Prelude.{IfSome, IfNone}
+use Rattle.std.specs.Prelude.{IfSome, IfNone, map}
+use Rattle.fuzzy_meaning.specs.Conditions.{all, conditions}
+use Rattle.error_bound.specs.Reaches.{literal_of}
 use Rattle.fz_list.proofs.Algebra.{some_at, All-slice_get}
 use Rattle.fuzzy_meaning.specs.Blocks.{IsValidRule}
 use Rattle.error_bound.specs.declared.masses.MassEnds.{MassEnds}
@@ -25,7 +27,8 @@ pub returns-in-Some-clause-mass : goal.returns-in-Some-clause-mass
 returns-in-Some-clause-mass c =
     let b = c.args.self.now.table.now.block.now in
     let box = c.args.self.now.bytes.0.items in
-    some_is (λ m h r found. plain_mass b box r c.in-Some.literals.now m (c.in-Some.ensures r found) h)
+    some_is (λ m h r found. let l = c.in-Some.ensures r found in
+    plain_mass b box r (all (conditions (map literal_of c.in-Some.literals.now))) m l.plain l.alike h)
     c.least_above.result c.least_above.ensures.mass
 
 pub returns-in-Some-clause-within : goal.returns-in-Some-clause-within

@@ -1,0 +1,72 @@
+use Rattle.std.proofs.Common.{◌≡◌, inl, inr, subst, rules, sym, drop, length, arith}
+use Rattle.fuzzy_meaning.specs.Blocks.{IsValidCondition}
+use Rattle.fuzzy_meaning.specs.Conditions.{conditions, group}
+use Rattle.error_bound.specs.{Masses.AreEndsOfCondition, Flattening.is_any}
+use Rattle.error_bound.proofs.masses.+masses.Goals.{mass_among-in-Some, mass_among-in-None}
+use Rattle.error_bound.proofs.FlatteningLemmas.{from_place}
+use Rattle.error_bound.proofs.MassLemmas.{ends_also, ends_none, ends_of_exact}
+use Rattle.error_bound.proofs.ListLemmas.{part_asks, parts_ask}
+use Rattle.std.proofs.lemmas.List.{drop_all}
+use Rattle.error_bound.proofs.masses.+masses.Goals as goal
+
+pub mass_among-mass_of_literal-mass-requires-clause-literal : goal.mass_among-mass_of_literal-mass-requires-clause-literal
+mass_among-mass_of_literal-mass-requires-clause-literal t c =
+    let asks = part_asks c.parts_are_valid.ensures c.args.table.now.table.now.block.now c.args.parts.now c.loop-k.k c.index-parts-k.result
+    (search rules) (search rules) c.index-parts-k.is c.requires.parts in
+    subst (IsValidCondition c.args.table.now.table.now.block.now) c.in-Some.ensures asks.1
+
+pub mass_among-mass_of-mass-requires : goal.mass_among-mass_of-mass-requires
+mass_among-mass_of-mass-requires t c =
+    let asks = part_asks c.parts_are_valid.ensures c.args.table.now.table.now.block.now c.args.parts.now c.loop-k.k c.index-parts-k.result
+    (search rules) (search rules) c.index-parts-k.is c.requires.parts in
+    (search (rules, asks.0), (asks.1, c.requires.table))
+
+pub mass_among-loop-k-init : goal.mass_among-loop-k-init
+mass_among-loop-k-init t c =
+    let b = c.args.table.now.table.now.block.now in
+    let box = c.args.table.now.bytes.0.items in
+    let parts = c.args.parts.now in
+    subst (λ ps. AreEndsOfCondition b box (group (is_any c.args.group) (conditions ps)) c.of_none-joined.result)
+    (sym (drop_all (length parts) parts (omega arith)))
+    (ends_none b box (is_any c.args.group) c.of_none-joined.result c.of_none-joined.ensures)
+
+pub mass_among-loop-k-preserved : goal.mass_among-loop-k-preserved
+mass_among-loop-k-preserved t c =
+    let b = c.args.table.now.table.now.block.now in
+    let box = c.args.table.now.bytes.0.items in
+    let or = is_any c.args.group in
+    let parts = c.args.parts.now in
+    let k = c.loop-k.k in
+    let part = c.index-parts-k.result in
+    let q = c.match-literal_in.mass in
+    let made : AreEndsOfCondition b box part q = elim c.match-literal_in.branch [
+      | mass_among-in-Some w ↦ rw (w.mass-is, w.in-Some.ensures) w.mass_of_literal-mass.ensures
+      | mass_among-in-None w ↦ rw w.mass-is w.mass_of-mass.ensures
+    ] in
+    subst (λ ds. AreEndsOfCondition b box (group or ds) c.joined-joined.result)
+    (sym (from_place parts k part (search rules) (search rules) c.index-parts-k.is))
+    (ends_also b box or part (conditions (drop k parts)) q c.loop-k.joined c.joined-joined.result made c.loop-k.invariant
+    c.joined-joined.ensures)
+
+pub mass_among-returns : goal.mass_among-returns
+mass_among-returns t c =
+    let b = c.args.table.now.table.now.block.now in
+    let box = c.args.table.now.bytes.0.items in
+    let none : c.loop-k.k ≡ 0 = omega (arith, c.loop-k-test.false) in
+    subst (λ k. AreEndsOfCondition b box (group (is_any c.args.group) (conditions (drop k c.args.parts.now)))
+    c.loop-k.joined) none c.loop-k.invariant
+
+pub mass_of-mass_among-requires : goal.mass_of-mass_among-requires
+mass_of-mass_among-requires t c =
+    let asks = parts_ask c.args.table.now.table.now.block.now c.condition.view_is (inl c.in-And.is) c.as_slice.ensures.value
+    c.requires.condition in (search (rules, asks.0), (asks.1, c.requires.table))
+
+pub mass_of-mass_among-requires-in-Or : goal.mass_of-mass_among-requires-in-Or
+mass_of-mass_among-requires-in-Or t c =
+    let asks = parts_ask c.args.table.now.table.now.block.now c.condition.view_is (inr c.in-Or.is) c.as_slice-in-Or.ensures.value
+    c.requires.condition in (search (rules, asks.0), (asks.1, c.requires.table))
+
+pub mass_of-returns-in_default : goal.mass_of-returns-in_default
+mass_of-returns-in_default t c =
+    ends_of_exact c.args.table.now.table.now.block.now c.args.table.now.bytes.0.items c.args.condition.now c.ends_of.result
+    c.of.result c.ends_of.ensures.low c.ends_of.ensures.high c.of.ensures
