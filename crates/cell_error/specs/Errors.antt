@@ -47,19 +47,27 @@ pub record IsCellError (a : Answer) (ts : List MassRange) (rest e : ℕ) : Type 
   pub covers : Covers a ts rest e
   pub least : (f : ℕ) → Covers a ts rest f → e ≤ f
 
--- an answer of at most 65280 parts, in a range of at most 200001
+-- the greatest width of a range, in 1/10000
+abbrev pub most_width : ℕ
+most_width = 2000010000
+
+-- a mass of 1, in parts of 255 * 10^9
+abbrev pub whole_mass : ℕ
+whole_mass = 255000000000
+
+-- an answer of at most 65280 parts, in a range of at most that width
 pub record IsAnswer (a : Answer) : Type 0 where
   pub value_to : a.value ≤ a.parts
   pub parts_from : 1 ≤ a.parts
   pub parts_to : a.parts ≤ 65280
   pub width_from : 1 ≤ a.width
-  pub width_to : a.width ≤ 2000010000
+  pub width_to : a.width ≤ most_width
 
 -- a singleton within the range, and masses of at most 255 in parts of 10^9
 pub record IsRange (width : ℕ) (t : MassRange) : Type 0 where
   pub at_to : t.at ≤ width
   pub low_to : t.low ≤ t.high
-  pub high_to : t.high ≤ 255000000000
+  pub high_to : t.high ≤ whole_mass
 
 -- what covers all masses is no less than an error
 abbrev pub CoveredMassesHaveErrors : Type 0

@@ -3,7 +3,7 @@
 use Rattle.std.specs.Prelude.{◌≡◌, ℕ, ◌+◌, ◌-◌, ◌*◌, ◌≤◌, ◌<◌, List, [], ◌∷◌, All, ◌⊎◌}
 use Rattle.cell_error.specs.declared.{ranges.MassRange.MassRange, ranges.Deviation.Deviation, means.Scale.Scale}
 use Rattle.cell_error.specs.{declared.means.Pull.Pull, Errors.AreBetween, Errors.total, Errors.weighted}
-use Rattle.cell_error.specs.Errors.{sure_mass}
+use Rattle.cell_error.specs.Errors.{sure_mass, most_width}
 
 -- what the terms above the mean a/g pull by `over`, and those below by `under`, each as often as it is from there
 abbrev pub pull : (Deviation → ℕ) → (Deviation → ℕ) → List MassRange → List Deviation → ℕ → ℕ → ℕ
@@ -53,7 +53,7 @@ pub record IsSome (s : Scale) : Type 0 where
 -- a range of at most 200001, and 15 masses of 255 * 10^9 and 256 parts to a byte at most
 pub record IsScale (s : Scale) : Type 0 where
   pub some : IsSome s
-  pub width_to : s.width ≤ 2000010000
+  pub width_to : s.width ≤ most_width
   pub sum_to : s.sum ≤ 3825000000000
   pub offset_to : s.offset ≤ 510002550000
   pub parts_to : s.parts ≤ 256
@@ -67,9 +67,13 @@ pub record IsByteRange (width : ℕ) (t : MassRange) : Type 0 where
   pub ordered : IsOrdered t
   pub high_to : t.high ≤ 255
 
+-- the greatest deviation of a rule's strength, in parts of 10^9: of its literals, its weight and the last rounding
+abbrev pub most_deviation : ℕ
+most_deviation = 3000000000
+
 pub record IsSmallDeviation (d : Deviation) : Type 0 where
-  pub rise_to : d.rise ≤ 3000000000
-  pub fall_to : d.fall ≤ 3000000000
+  pub rise_to : d.rise ≤ most_deviation
+  pub fall_to : d.fall ≤ most_deviation
 
 -- ---- of some masses
 

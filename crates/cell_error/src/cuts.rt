@@ -1,6 +1,6 @@
 //! Masses that are high on one side of a singleton and low on the other.
 ghost use Rattle.std.specs.Prelude.{◌≡◌, ◌≤◌, ◌*◌, ℕ, All, length};
-ghost use Rattle.cell_error.specs.Errors.{IsRange, weighted, total};
+ghost use Rattle.cell_error.specs.Errors.{IsRange, weighted, total, most_width, whole_mass};
 ghost use Rattle.cell_error.specs.Cuts.{is_high, masses, IsSmall};
 
 use crate::ranges::MassRange;
@@ -19,13 +19,13 @@ pub(crate) enum Cut {
 /// The sum of the singletons weighted by the masses of a cut, and the sum of the masses.
 pub(crate) fn sums(terms: &[MassRange], cut: Cut, width: u64) -> (u128, u128)
     requires cut { IsSmall cut }
-    requires width { width ≤ 2000010000 }
+    requires width { width ≤ most_width }
     requires terms { All (IsRange width) terms.now }
     requires count { length terms.now ≤ 15 }
     ensures sum { result.0 ≡ weighted terms.now (masses cut terms.now) }
     ensures mass { result.1 ≡ total (masses cut terms.now) }
     ensures within { result.0 ≤ width * result.1 }
-    ensures small { result.1 ≤ 15 * 255000000000 }
+    ensures small { result.1 ≤ 15 * whole_mass }
 {
     let mut sum = 0;
     let mut mass = 0;
@@ -40,7 +40,7 @@ pub(crate) fn sums(terms: &[MassRange], cut: Cut, width: u64) -> (u128, u128)
 
 fn is_high(cut: Cut, at: u64) -> bool
     requires cut { IsSmall cut }
-    requires at { at ≤ 2000010000 }
+    requires at { at ≤ most_width }
     ensures { result ≡ is_high cut at }
 {
     match cut {

@@ -1,7 +1,8 @@
 //! The least error that holds for all masses.
 ghost use Rattle.std.specs.Prelude.{◌≡◌, ◌≤◌, ◌<◌, ◌*◌, ◌↔◌, ℕ, All, length, IsTrue};
 ghost use Rattle.fz_num.specs.Fractions.{over};
-ghost use Rattle.cell_error.specs.Errors.{IsAnswer, IsRange, weighted, total, answer_of, IsWithin, Covers};
+ghost use Rattle.cell_error.specs.Errors.{IsAnswer, IsRange, weighted, total, answer_of, IsWithin, Covers, most_width};
+ghost use Rattle.cell_error.specs.Errors.{whole_mass};
 ghost use Rattle.cell_error.specs.Errors.{IsCellError};
 ghost use Rattle.cell_error.specs.Cuts.{is_high, masses, IsErrorAt, IsSmall};
 ghost use Rattle.cell_error.specs.declared.cuts.Cut.TheVariants.{Nowhere, AtLeast, AtMost};
@@ -60,7 +61,7 @@ fn are_all(up: bool, down: bool, rests: bool) -> bool
 fn is_up(terms: &[MassRange], step: u128, top: u128, width: u64) -> bool
     requires step { step ≤ 65280000000 }
     requires top { top ≤ 300000000000000000000 }
-    requires width { width ≤ 2000010000 }
+    requires width { width ≤ most_width }
     requires terms { All (IsRange width) terms.now }
     requires count { length terms.now ≤ 15 }
     ensures { IsTrue result ↔ (step * weighted terms.now (masses (AtLeast step top) terms.now)
@@ -74,7 +75,7 @@ fn is_up(terms: &[MassRange], step: u128, top: u128, width: u64) -> bool
 fn is_down(terms: &[MassRange], step: u128, bottom: u128, width: u64) -> bool
     requires step { step ≤ 65280000000 }
     requires bottom { bottom ≤ 300000000000000000000 }
-    requires width { width ≤ 2000010000 }
+    requires width { width ≤ most_width }
     requires terms { All (IsRange width) terms.now }
     requires count { length terms.now ≤ 15 }
     ensures { IsTrue result ↔ (bottom * total (masses (AtMost step bottom) terms.now)
@@ -94,7 +95,7 @@ fn rest_serves(
     width: u64,
 ) -> bool
     requires step { step ≤ 65280000000 }
-    requires width { width ≤ 2000010000 }
+    requires width { width ≤ most_width }
     requires terms { All (IsRange width) terms.now }
     requires count { length terms.now ≤ 15 }
     requires rest { rest ≤ width }
@@ -130,7 +131,7 @@ fn error_at(terms: &[MassRange], rest: u64, answer: Answer, cut: Cut) -> u32
 fn apart(answer: Answer, sum: u128, mass: u128) -> u32
     requires answer { IsAnswer answer }
     requires mass_from { 0 < mass }
-    requires mass_to { mass ≤ 15 * 255000000000 }
+    requires mass_to { mass ≤ 15 * whole_mass }
     requires sum { sum ≤ answer.width * mass }
     ensures error { IsErrorAt answer (over sum mass) result }
     ensures small { result ≤ 1000000 }

@@ -1,9 +1,10 @@
 //! How far the mean of an output's singletons may be from the mean by the masses over bytes.
 ghost use Rattle.std.specs.Prelude.{◌≡◌, ◌≤◌, ◌<◌, ◌+◌, ◌-◌, ◌*◌, ℕ, All, length, min};
 ghost use Rattle.fz_num.specs.Fractions.{up_div};
-ghost use Rattle.cell_error.specs.Errors.{total, sure_mass};
+ghost use Rattle.cell_error.specs.Errors.{total, sure_mass, most_width};
 ghost use Rattle.cell_error.specs.Cuts.{masses, IsSmall};
 ghost use Rattle.cell_error.specs.Means.{up as up_of, down as down_of, IsScale, IsByteRange, IsSmallDeviation};
+ghost use Rattle.cell_error.specs.Means.{most_deviation};
 ghost use Rattle.cell_error.specs.Means.{IsMeanError, IsSmallPull, IsGreaterPull, pulled_num, pulled_den};
 
 use crate::cuts::{Cut, sums};
@@ -62,7 +63,7 @@ pub fn mean_error(terms: &[MassRange], deviations: &[Deviation], scale: Scale) -
 /// How far the mean by the masses of a cut may be shifted.
 fn pulls_of(terms: &[MassRange], deviations: &[Deviation], cut: Cut, width: u64) -> Pulls
     requires cut { IsSmall cut }
-    requires width { width ≤ 2000010000 }
+    requires width { width ≤ most_width }
     requires terms { All (IsByteRange width) terms.now }
     requires deviations { All IsSmallDeviation deviations.now }
     requires count { length terms.now ≤ 15 }
@@ -92,8 +93,8 @@ fn pulls_of(terms: &[MassRange], deviations: &[Deviation], cut: Cut, width: u64)
 
 /// The shift by a term: `over` counts if it is above the mean, and `under` if it is below.
 fn pull_of(over: u64, under: u64, here: u128, mean: u128) -> u128
-    requires over { over ≤ 3000000000 }
-    requires under { under ≤ 3000000000 }
+    requires over { over ≤ most_deviation }
+    requires under { under ≤ most_deviation }
     requires here { here ≤ 7650038250000 }
     requires mean { mean ≤ 7650038250000 }
     ensures pull { result ≡ over * (here - mean) + under * (mean - here) }

@@ -20,7 +20,7 @@ use Rattle.error_bound.specs.Boxes.{least_from, greatest_from, degrees_over, gra
 use Rattle.error_bound.specs.Flattening.{followed, parts, flats, flat_under, flat_parts, flat, IsSame, AreSame}
 use Rattle.error_bound.specs.Spans.{Span, only, span, end_of, reversed, spans}
 use Rattle.error_bound.specs.{Flattening.FlatteningKeepsReaches, declared.boxes.Interval.Interval, Places.rise_end}
-use Rattle.error_bound.specs.{Ratios.value_of, Ratios.IsRatio, Reaches.IsEndOfCondition, Boxes.literal_byte_span}
+use Rattle.error_bound.specs.{Ratios.value_of, Ratios.IsDegreeRatio, Reaches.IsEndOfCondition, Boxes.literal_byte_span}
 use Rattle.error_bound.specs.declared.{ends.End.End, ends.Side.Side}
 use Rattle.error_bound.specs.declared.ends.Side.TheVariants.{Low, High}
 use Rattle.error_bound.proofs.SpanLemmas.{IsGrouping, AreGood, IsDegree, nothing_degree, spans_de_morgan}
@@ -325,7 +325,7 @@ pub end_from : (b : Block) (box : List Interval) (or : Bool) (side : Side) (part
     → IsEndOfCondition b box part side p
     → IsEndOfCondition b box (group or (conditions (drop k parts))) side r
     → value_of s.truth ≡ truths.join or (value_of p.truth) (value_of r.truth)
-    → s.byte ≡ (levels 255).join or p.byte r.byte → IsRatio 1000000000000 s.truth
+    → s.byte ≡ (levels 255).join or p.byte r.byte → IsDegreeRatio s.truth
     → IsEndOfCondition b box (group or (conditions (drop (k - 1) parts))) side s
 end_from b box or side parts k part p r s from to here_is hp hr value byte small =
     let cs = conditions (drop k parts) in
@@ -338,7 +338,7 @@ end_from b box or side parts k part p r s from to here_is hp hr value byte small
     })
 
 pub end_from_none : (b : Block) (box : List Interval) (or : Bool) (side : Side) (parts : List Condition) (r : End)
-    → value_of r.truth ≡ truths.none or → r.byte ≡ (levels 255).none or → IsRatio 1000000000000 r.truth
+    → value_of r.truth ≡ truths.none or → r.byte ≡ (levels 255).none or → IsDegreeRatio r.truth
     → IsEndOfCondition b box (group or (conditions (drop (length parts) parts))) side r
 end_from_none b box or side parts r value byte small =
     subst (λ ps. IsEndOfCondition b box (group or (conditions ps)) side r)

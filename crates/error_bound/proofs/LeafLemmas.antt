@@ -23,7 +23,7 @@ use Rattle.error_bound.specs.{declared.boxes.Interval.Interval, Boxes.IsBox}
 use Rattle.error_bound.specs.declared.ends.Side.TheVariants.{Low, High}
 use Rattle.error_bound.specs.{Boxes.rule_span, Boxes.rule_byte_span, BestLeaves.BestBoundsAreLeast, Errors.billion}
 use Rattle.error_bound.specs.{Reaches.IsEndOfRule, declared.boxes.Leaf.Leaf, CellErrors.term_errors}
-use Rattle.error_bound.specs.{Ratios.value_of, Ratios.IsRatio, declared.ends.End.End, Spans.Span, Spans.only}
+use Rattle.error_bound.specs.{Ratios.value_of, Ratios.IsStrengthRatio, declared.ends.End.End, Spans.Span, Spans.only}
 use Rattle.fz_num.specs.{Fractions.Fraction, Fractions.over, Fractions.AtMost, Fractions.IsBelow, Decimals.distance}
 use Rattle.error_bound.proofs.RuleLemmas.{silent_same, none_same, strong_same, part_same, rule_low_proper}
 use Rattle.error_bound.proofs.Nested.{bound_strong, bound_silent, leaves_hold_inside, bounds_fall, bounds_unique}
@@ -293,7 +293,7 @@ module _ (b : Block) (o : ℕ) (leaf : Leaf) (pair : IsPairFor b o leaf) (some :
     named_end : IsEndOfRule b box named_rule.0 Low low
     named_end = ends named_rule.0 named_rule.1
 
-    pub IsRatio-low : IsRatio 10000000000000000 low.truth
+    pub IsRatio-low : IsStrengthRatio low.truth
     IsRatio-low = named_end.small
 
     -- they hold where the rule's lower end has the part that they count on

@@ -22,7 +22,7 @@ use Rattle.error_bound.specs.{declared.tables.InputCells.InputCells, declared.ce
 use Rattle.error_bound.specs.{Spans.Span, Spans.span, Spans.byte_span, Spans.end_of, declared.ends.Side.Side}
 use Rattle.error_bound.specs.declared.ends.Side.TheVariants.{Low, High}
 use Rattle.error_bound.specs.{declared.boxes.Interval.Interval, declared.reaches.Reach.Reach, declared.tables.Row.Row}
-use Rattle.error_bound.specs.Ratios.{value_of, IsRatio}
+use Rattle.error_bound.specs.Ratios.{value_of, IsStrengthRatio}
 use Rattle.error_bound.proofs.{FlatteningLemmas.span_to_itself, RuleLemmas.times_same}
 
 abbrev pub no_term : Trapezoid
@@ -100,7 +100,7 @@ end_of_rule_bytes b box r Low = refl
 pub end_weighted : (b : Block) (box : List Interval) (r : Rule) (side : Side) (d : Condition) (e f : End) (w : ℕ)
     → ReachesAlike b r.cond d
     → IsEndOfCondition b box d side e → w ≡ weight_of r.weight → value_of f.truth ≡ times (value_of e.truth) w
-    → f.byte ≡ e.byte * (weight_byte_of r.weight + 1) / 256 → IsRatio 10000000000000000 f.truth
+    → f.byte ≡ e.byte * (weight_byte_of r.weight + 1) / 256 → IsStrengthRatio f.truth
     → IsEndOfRule b box r side f
 end_weighted b box r side d e f w alike h weight value byte small =
     let s = span (literal_span b box) r.cond in

@@ -7,12 +7,13 @@ use Rattle.fuzzy_meaning.specs.Conditions.{Condition, levels}
 use Rattle.error_bound.specs.declared.{boxes.Interval.Interval, masses.MassEnds.MassEnds, tight.Masses.Masses}
 use Rattle.error_bound.specs.declared.{tight.Deviations.Deviations}
 use Rattle.cell_error.specs.declared.{ranges.MassRange.MassRange, ranges.Deviation.Deviation, means.Scale.Scale}
-use Rattle.cell_error.specs.Means.{IsMeanError}
+use Rattle.cell_error.specs.Means.{IsMeanError, most_deviation}
 use Rattle.error_bound.specs.{Boxes.rule_byte_span, CellErrors.term_errors, Errors.rule_rise, Errors.rule_fall}
 use Rattle.error_bound.specs.{Boxes.literal_span, Boxes.literal_byte_span, Boxes.rule_span, Errors.billion}
 use Rattle.error_bound.specs.Spans.{Span, span, byte_span}
 use Rattle.error_bound.specs.{Bounds.offset, Tight.greatest_of, Tight.sum_over, Tight.greatest_over, Tight.low_part}
 use Rattle.error_bound.specs.Tight.{high_part, if_moving, ranges_at, deviations_at}
+use Rattle.cell_error.specs.Errors.{whole_mass}
 
 -- the ends, in whole parts, of truths from the least to the greatest, and of those over bytes
 pub record AreMassEnds (s : Span Fraction) (g : Span ℕ) (m : MassEnds) : Type 0 where
@@ -20,8 +21,8 @@ pub record AreMassEnds (s : Span Fraction) (g : Span ℕ) (m : MassEnds) : Type 
   pub high : m.high ≡ up_div (255 * billion * s.high.num) s.high.den
   pub byte_low : m.byte_low ≡ g.low
   pub byte_high : m.byte_high ≡ g.high
-  pub low_small : m.low ≤ 255000000000
-  pub high_small : m.high ≤ 255000000000
+  pub low_small : m.low ≤ whole_mass
+  pub high_small : m.high ≤ whole_mass
   pub byte_low_small : m.byte_low ≤ 255
   pub byte_high_small : m.byte_high ≤ 255
 
@@ -41,15 +42,15 @@ pub record IsAtMost (m n : MassEnds) : Type 0 where
 
 -- those of an OR or an AND of no parts
 pub record AreMassesOfNone (or : Bool) (m : MassEnds) : Type 0 where
-  pub low : m.low ≡ (levels 255000000000).none or
-  pub high : m.high ≡ (levels 255000000000).none or
+  pub low : m.low ≡ (levels whole_mass).none or
+  pub high : m.high ≡ (levels whole_mass).none or
   pub byte_low : m.byte_low ≡ (levels 255).none or
   pub byte_high : m.byte_high ≡ (levels 255).none or
 
 -- each end is the greater of two for an OR, the lesser for an AND
 pub record AreJoined (or : Bool) (m n o : MassEnds) : Type 0 where
-  pub low : o.low ≡ (levels 255000000000).join or m.low n.low
-  pub high : o.high ≡ (levels 255000000000).join or m.high n.high
+  pub low : o.low ≡ (levels whole_mass).join or m.low n.low
+  pub high : o.high ≡ (levels whole_mass).join or m.high n.high
   pub byte_low : o.byte_low ≡ (levels 255).join or m.byte_low n.byte_low
   pub byte_high : o.byte_high ≡ (levels 255).join or m.byte_high n.byte_high
 
@@ -74,15 +75,15 @@ pub record AreGreatest (f : Rule → ℕ) (n o : ℕ) (rs : List Rule) (values :
 
 -- of an output's terms
 pub record AreMasses (b : Block) (box : List Interval) (o : ℕ) (m : Masses) : Type 0 where
-  pub lows : AreGreatest (low_part b box) 255000000000 o b.rules m.lows
-  pub highs : AreGreatest (high_part b box) 255000000000 o b.rules m.highs
+  pub lows : AreGreatest (low_part b box) whole_mass o b.rules m.lows
+  pub highs : AreGreatest (high_part b box) whole_mass o b.rules m.highs
   pub byte_lows : AreGreatest (λ r. (rule_byte_span b box r).low) 255 o b.rules m.byte_lows
   pub byte_highs : AreGreatest (λ r. (rule_byte_span b box r).high) 255 o b.rules m.byte_highs
 
 -- and how far they may be above those over bytes, and below
 pub record AreDeviations (b : Block) (box : List Interval) (o : ℕ) (d : Deviations) : Type 0 where
-  pub rises : AreGreatest (λ r. if_moving b box r (rule_rise (term_errors b box) r)) 3000000000 o b.rules d.rises
-  pub falls : AreGreatest (λ r. if_moving b box r (rule_fall (term_errors b box) r)) 3000000000 o b.rules d.falls
+  pub rises : AreGreatest (λ r. if_moving b box r (rule_rise (term_errors b box) r)) most_deviation o b.rules d.rises
+  pub falls : AreGreatest (λ r. if_moving b box r (rule_fall (term_errors b box) r)) most_deviation o b.rules d.falls
 
 pub record AreSmall (n : ℕ) (values : List ℕ) : Type 0 where
   pub each : (t : ℕ) → t < 15 → slice_index values t ≤ n

@@ -16,13 +16,15 @@ use Rattle.error_bound.specs.declared.{ends.End.End, ends.Ends.Ends, reaches.Rea
 use Rattle.error_bound.specs.declared.{tables.InputCells.InputCells}
 use Rattle.error_bound.specs.declared.{tables.BlockTable.BlockTable, tables.BoxTable.BoxTable, tables.Kept.Kept}
 use Rattle.error_bound.specs.declared.{tables.Row.Row, ends.Side.Side}
-use Rattle.error_bound.specs.{Ratios.value_of, Ratios.IsRatio, Spans.Span, Spans.span, Spans.byte_span, Spans.end_of}
+use Rattle.error_bound.specs.{Ratios.value_of, Ratios.IsDegreeRatio, Ratios.IsStrengthRatio, Spans.Span, Spans.span}
+use Rattle.error_bound.specs.{Spans.byte_span, Spans.end_of}
 use Rattle.error_bound.specs.{Spans.reversed, Masses.AreMassEnds, Leaves.IsStill}
 use Rattle.error_bound.specs.Boxes.{IsBoxOf, degrees_over, grades_over, literal_span, literal_byte_span, rule_span}
 use Rattle.error_bound.specs.Boxes.{rule_byte_span}
 use Rattle.error_bound.specs.Errors.{billion, rule_error, rule_rise, rule_fall}
 use Rattle.error_bound.specs.{Flattening.IsSame, Flattening.ReachesAlike, Spans.deviation}
 use Rattle.error_bound.specs.CellErrors.{cell_rise, cell_fall, term_deviation, term_errors}
+use Rattle.cell_error.specs.Means.{most_deviation}
 
 abbrev pub span_of : Degrees → Span Fraction
 span_of d = record { low = value_of d.low; high = value_of d.high }
@@ -105,8 +107,8 @@ pub record IsBlockTable (table : BlockTable) : Type 0 where
 
 -- fractions of small denominators
 pub record AreTruths (d : Degrees) : Type 0 where
-  pub low : IsRatio 1000000000000 d.low
-  pub high : IsRatio 1000000000000 d.high
+  pub low : IsDegreeRatio d.low
+  pub high : IsDegreeRatio d.high
 
 pub record IsSmall (r : Reach) : Type 0 where
   pub degrees : AreTruths r.degrees
@@ -151,7 +153,7 @@ pub record IsReachOfLiteral (b : Block) (box : List Interval) (i t : ℕ) (r : R
 pub record IsEndOfCondition (b : Block) (box : List Interval) (c : Condition) (side : Side) (e : End) : Type 0 where
   pub value : value_of e.truth ≡ end_of side (span (literal_span b box) c)
   pub byte : e.byte ≡ end_of side (byte_span (literal_byte_span b box) c)
-  pub small : IsRatio 1000000000000 e.truth
+  pub small : IsDegreeRatio e.truth
 
 -- a condition is true nowhere, over bytes neither
 pub record IsNowhere (b : Block) (box : List Interval) (c : Condition) : Type 0 where
@@ -162,7 +164,7 @@ pub record IsNowhere (b : Block) (box : List Interval) (c : Condition) : Type 0 
 pub record IsEndOfRule (b : Block) (box : List Interval) (r : Rule) (side : Side) (e : End) : Type 0 where
   pub value : IsSame (value_of e.truth) (end_of side (rule_span b box r))
   pub byte : e.byte ≡ end_of side (rule_byte_span b box r)
-  pub small : IsRatio 10000000000000000 e.truth
+  pub small : IsStrengthRatio e.truth
 
 -- how far a condition's truth may be above that over bytes, and below
 pub record IsDeviationOfCondition (b : Block) (box : List Interval) (c : Condition) (d : Deviation) : Type 0 where
@@ -178,7 +180,7 @@ pub record IsDeviationOfRule (b : Block) (box : List Interval) (r : Rule) (d : D
 -- its eps
 pub record IsErrorOfRule (b : Block) (box : List Interval) (r : Rule) (e : ℕ) : Type 0 where
   pub value : e ≡ rule_error (term_errors b box) r
-  pub small : e ≤ 3000000000
+  pub small : e ≤ most_deviation
 
 -- ---- the table of a box
 

@@ -9,6 +9,7 @@ ghost use Rattle.error_bound.specs.Bounds.{strong_bound as strong_bound_of, sile
 ghost use Rattle.error_bound.specs.Bounds.{errors_from};
 ghost use Rattle.error_bound.specs.{CellErrors.term_errors, Errors.output_error as output_error_of, Reaches.IsTable};
 ghost use Rattle.error_bound.specs.Reaches.{block_of, box_of};
+ghost use Rattle.cell_error.specs.Means.{most_deviation};
 
 use crate::leaves::concludes_some;
 use crate::tables::BoxTable;
@@ -124,7 +125,7 @@ impl BoxTable<'_> {
         requires table { IsTable self.now }
         ensures value { (t : ℕ) → t < 15 → slice_index result t
             ≡ output_error_of (block_of self.now) (term_errors (block_of self.now) (box_of self.now)) out (t + 1) }
-        ensures small { (t : ℕ) → t < 15 → slice_index result t ≤ 3000000000 }
+        ensures small { (t : ℕ) → t < 15 → slice_index result t ≤ most_deviation }
     {
         let mut errors = [0; 15];
         let rules = self.table.block.rules.as_slice();

@@ -2,7 +2,7 @@
 ghost use Rattle.std.specs.Prelude.{◌≡◌, ◌≤◌, ◌<◌, ◌+◌, ◌*◌, ◌/◌, ℕ, IfSome, IfNone, length};
 ghost use Rattle.fuzzy_meaning.specs.Blocks.{IsValid};
 ghost use Rattle.error_bound.specs.Best.{IsBest, IsCandidate, IsFirstGreatest};
-ghost use Rattle.error_bound.specs.{Boxes.IsBoxOf, Ratios.value_of, Ratios.IsRatio, Reaches.IsTable};
+ghost use Rattle.error_bound.specs.{Boxes.IsBoxOf, Ratios.value_of, Ratios.IsStrengthRatio, Reaches.IsTable};
 ghost use Rattle.error_bound.specs.Reaches.{block_of, box_of};
 
 use crate::boxes::{ByteBox, Leaf};
@@ -74,7 +74,7 @@ impl BoxTable<'_> {
 
 /// The least strength over a box in 255ths, rounded down, or 0 if the least over bytes is 0.
 fn part_of(low: End) -> u8
-    requires { IsRatio 10000000000000000 low.truth }
+    requires { IsStrengthRatio low.truth }
     ensures part { 1 ≤ low.byte → result ≡ 255 * (value_of low.truth).num / (value_of low.truth).den }
     ensures none { low.byte ≡ 0 → result ≡ 0 }
 {

@@ -2,7 +2,7 @@
 ghost use Rattle.std.specs.Prelude.{◌≡◌, ◌+◌, ◌*◌, ◌==◌, ◌≤◌, IfSome, ◌≤ℤ◌, option_map};
 ghost use Rattle.fz_num.specs.{Fractions.over, Decimals.distance};
 ghost use Rattle.fuzzy_meaning.specs.{Blocks.IsValidInput, Blocks.IsValidTerm, Places.rise_at, Places.fall_at};
-ghost use Rattle.error_bound.specs.{Places.rise_end, Ratios.value_of, Ratios.IsRatio, Boxes.degrees_over};
+ghost use Rattle.error_bound.specs.{Places.rise_end, Ratios.value_of, Ratios.IsDegreeRatio, Boxes.degrees_over};
 ghost use Rattle.error_bound.specs.Reaches.{span_of, AreTruths};
 
 use crate::boxes::Interval;
@@ -44,7 +44,7 @@ fn rising(lo: Dec, a: Option<Dec>, b: Dec, n: u64, closed: bool) -> Ratio
     requires width { distance lo b ≤ 2000000000 }
     requires n { n ≤ 600000000000 }
     ensures value { value_of result ≡ rise_end closed (option_map (distance lo) a) (distance lo b) (over n 256) }
-    ensures truth { IsRatio 1000000000000 result }
+    ensures truth { IsDegreeRatio result }
 {
     let Some(a) = a else {
         return Ratio::ONE;
@@ -70,7 +70,7 @@ fn falling(lo: Dec, c: Dec, d: Option<Dec>, n: u64) -> Ratio
     requires width { distance lo c ≤ 2000000000 }
     requires n { n ≤ 600000000000 }
     ensures value { value_of result ≡ fall_at (distance lo c) (option_map (distance lo) d) (over n 256) }
-    ensures truth { IsRatio 1000000000000 result }
+    ensures truth { IsDegreeRatio result }
 {
     let Some(d) = d else {
         return Ratio::ONE;

@@ -5,7 +5,7 @@ ghost use Rattle.fuzzy_meaning.specs.Blocks.{IsValidCondition, AreValidCondition
 ghost use Rattle.fuzzy_meaning.specs.Conditions.{all, conditions, group as group_of, is, levels, under};
 ghost use Rattle.fuzzy_meaning.specs.Meaning.{truths};
 ghost use Rattle.error_bound.specs.Spans.{end_of as end_of_span, other as other_side};
-ghost use Rattle.error_bound.specs.{Flattening.is_any, Ratios.value_of, Ratios.IsRatio};
+ghost use Rattle.error_bound.specs.{Flattening.is_any, Ratios.value_of, Ratios.IsDegreeRatio};
 ghost use Rattle.error_bound.specs.Reaches.{span_of, byte_span_of, IsSmall, IsTable, IsEndOfCondition};
 ghost use Rattle.error_bound.specs.Reaches.{block_of, box_of};
 
@@ -68,7 +68,7 @@ impl End {
         requires { IsSmall reach.now }
         ensures value { value_of result.truth ≡ end_of_span side (span_of reach.now.degrees) }
         ensures byte { result.byte ≡ end_of_span side (byte_span_of reach.now) }
-        ensures small { IsRatio 1000000000000 result.truth }
+        ensures small { IsDegreeRatio result.truth }
     {
         match side {
             Side::Low => End {
@@ -84,10 +84,10 @@ impl End {
 
     #[inline]
     fn one_minus(self) -> End
-        requires { IsRatio 1000000000000 self.truth }
+        requires { IsDegreeRatio self.truth }
         ensures value { value_of result.truth ≡ one_minus (value_of self.truth) }
         ensures byte { result.byte ≡ 255 - self.byte }
-        ensures small { IsRatio 1000000000000 result.truth }
+        ensures small { IsDegreeRatio result.truth }
     {
         End {
             truth: self.truth.one_minus(),
@@ -100,7 +100,7 @@ impl End {
     fn of_none(group: Group) -> End
         ensures value { value_of result.truth ≡ truths.none (is_any group) }
         ensures byte { result.byte ≡ (levels 255).none (is_any group) }
-        ensures small { IsRatio 1000000000000 result.truth }
+        ensures small { IsDegreeRatio result.truth }
     {
         match group {
             Group::Any => End::NOTHING,
@@ -111,12 +111,12 @@ impl End {
     /// The greater of two ends for an OR, the lesser for an AND.
     #[inline]
     fn joined(self, group: Group, other: End) -> End
-        requires left { IsRatio 1000000000000 self.truth }
-        requires right { IsRatio 1000000000000 other.truth }
+        requires left { IsDegreeRatio self.truth }
+        requires right { IsDegreeRatio other.truth }
         ensures value { value_of result.truth
             ≡ truths.join (is_any group) (value_of self.truth) (value_of other.truth) }
         ensures byte { result.byte ≡ (levels 255).join (is_any group) self.byte other.byte }
-        ensures small { IsRatio 1000000000000 result.truth }
+        ensures small { IsDegreeRatio result.truth }
     {
         match group {
             Group::Any => End {

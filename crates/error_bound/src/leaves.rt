@@ -7,7 +7,7 @@ ghost use Rattle.fuzzy_meaning.specs.Meaning.{concludes as concludes_it};
 ghost use Rattle.error_bound.specs.{Best.silent_leaf, Bounds.IsBound, Spans.only, Reaches.IsTable};
 ghost use Rattle.error_bound.specs.Faults.{HasLeafFault, IsStrongFault, IsSilentFault};
 ghost use Rattle.error_bound.specs.Leaves.{Holds, IsStill, concludes_some as concludes_any, IsPairFor};
-ghost use Rattle.error_bound.specs.Ratios.{value_of, IsRatio};
+ghost use Rattle.error_bound.specs.Ratios.{value_of, IsStrengthRatio};
 ghost use Rattle.error_bound.specs.Reaches.{block_of, box_of, parts_of};
 
 use crate::bounds::{silent_bound, strong_bound};
@@ -77,7 +77,7 @@ impl BoxTable<'_> {
 
 /// The fault of a strong leaf, if the least strength of its rule is `low`.
 fn strong_fault(low: End, leaf: Leaf) -> Option<LeafFault>
-    requires { IsRatio 10000000000000000 low.truth }
+    requires { IsStrengthRatio low.truth }
     ensures low { IfNone result (AtMost (over leaf.k 255) (value_of low.truth)) }
     ensures byte_low { IfNone result (1 ≤ low.byte) }
     ensures fault { IfSome result (IsStrongFault leaf (only (value_of low.truth)) (only low.byte)) }
@@ -93,7 +93,7 @@ fn strong_fault(low: End, leaf: Leaf) -> Option<LeafFault>
 
 /// The fault of a silent leaf at rule number `n`, if the greatest strength of the rule, `high`, is above 0.
 fn firing_fault(high: End, n: u16) -> Option<LeafFault>
-    requires { IsRatio 10000000000000000 high.truth }
+    requires { IsStrengthRatio high.truth }
     ensures high { IfNone result ((value_of high.truth).num ≡ 0) }
     ensures byte_high { IfNone result (high.byte ≡ 0) }
     ensures fault { IfSome result (IsSilentFault n (only (value_of high.truth)) (only high.byte)) }

@@ -6,13 +6,15 @@ ghost use Rattle.std.specs.Prelude.{◌≡◌, ◌≤◌, ◌<◌, ◌-◌, ◌*
 ghost use Rattle.std.specs.Prelude.{slice_get};
 ghost use Rattle.fz_num.specs.Fractions.{up_div};
 ghost use Rattle.fuzzy_meaning.specs.{declared.block.Rule.Rule as TheRule, Blocks.IsValidCondition};
-ghost use Rattle.fuzzy_meaning.specs.{Blocks.AreValidConditions, Conditions.all, Conditions.conditions, Conditions.group as group_of};
+ghost use Rattle.fuzzy_meaning.specs.{Blocks.AreValidConditions, Conditions.all, Conditions.conditions};
+ghost use Rattle.fuzzy_meaning.specs.{Conditions.group as group_of};
 ghost use Rattle.error_bound.specs.{Flattening.is_any, Masses.AreJoined, Masses.AreMassesOfNone};
-ghost use Rattle.error_bound.specs.Ratios.{value_of, IsRatio};
+ghost use Rattle.error_bound.specs.Ratios.{value_of, IsStrengthRatio};
 ghost use Rattle.error_bound.specs.Masses.{AreMassEnds, AreEndsOfCondition, IsAtMost, IsConditionWithin};
 ghost use Rattle.error_bound.specs.Masses.{IsRuleMass, IsRuleWithin};
 ghost use Rattle.error_bound.specs.Reaches.{AreLiteralsOf, IsTable, block_of, box_of, byte_span_of_ends, literal_of};
 ghost use Rattle.error_bound.specs.Reaches.{span_of_ends};
+ghost use Rattle.cell_error.specs.Errors.{whole_mass};
 
 use crate::ends::{Ends, ends_of};
 use crate::flattening::Group;
@@ -51,8 +53,8 @@ impl MassEnds {
 
     /// Those of truths between two ends.
     pub(crate) fn of(ends: Ends) -> MassEnds
-        requires low { IsRatio 10000000000000000 ends.low.truth }
-        requires high { IsRatio 10000000000000000 ends.high.truth }
+        requires low { IsStrengthRatio ends.low.truth }
+        requires high { IsStrengthRatio ends.high.truth }
         ensures { AreMassEnds (span_of_ends ends) (byte_span_of_ends ends) result }
     {
         MassEnds {
@@ -65,12 +67,12 @@ impl MassEnds {
 
     /// Those under a NOT.
     pub(crate) fn opposite(self) -> MassEnds
-        requires low { self.low ≤ 255000000000 }
-        requires high { self.high ≤ 255000000000 }
+        requires low { self.low ≤ whole_mass }
+        requires high { self.high ≤ whole_mass }
         requires byte_low { self.byte_low ≤ 255 }
         requires byte_high { self.byte_high ≤ 255 }
-        ensures low { result.low ≡ 255000000000 - self.high }
-        ensures high { result.high ≡ 255000000000 - self.low }
+        ensures low { result.low ≡ whole_mass - self.high }
+        ensures high { result.high ≡ whole_mass - self.low }
         ensures byte_low { result.byte_low ≡ 255 - self.byte_high }
         ensures byte_high { result.byte_high ≡ 255 - self.byte_low }
     {
@@ -128,9 +130,9 @@ impl MassEnds {
 
 /// A truth in parts of 255 * 10^9, rounded down. Most truths are 0 or 1 and need no division.
 fn low_part(truth: Ratio) -> u64
-    requires { IsRatio 10000000000000000 truth }
-    ensures value { result ≡ 255000000000 * (value_of truth).num / (value_of truth).den }
-    ensures small { result ≤ 255000000000 }
+    requires { IsStrengthRatio truth }
+    ensures value { result ≡ whole_mass * (value_of truth).num / (value_of truth).den }
+    ensures small { result ≤ whole_mass }
 {
     if truth.num == 0 {
         0
@@ -143,9 +145,9 @@ fn low_part(truth: Ratio) -> u64
 
 /// The same, rounded up.
 fn high_part(truth: Ratio) -> u64
-    requires { IsRatio 10000000000000000 truth }
-    ensures value { result ≡ up_div (255000000000 * (value_of truth).num) (value_of truth).den }
-    ensures small { result ≤ 255000000000 }
+    requires { IsStrengthRatio truth }
+    ensures value { result ≡ up_div (whole_mass * (value_of truth).num) (value_of truth).den }
+    ensures small { result ≤ whole_mass }
 {
     if truth.num == 0 {
         0

@@ -13,7 +13,7 @@ pub(crate) struct Ratio {
 }
 
 impl Ratio {
-    ghost use Rattle.error_bound.specs.Ratios.{value_of, IsRatio};
+    ghost use Rattle.error_bound.specs.Ratios.{value_of, IsDegreeRatio, IsStrengthRatio};
 
     pub(crate) const ONE: Ratio = Ratio { num: 1, den: 1 };
 
@@ -21,10 +21,10 @@ impl Ratio {
 
     /// The lesser of the two; the first if they are equal.
     pub(crate) fn min(self, other: Ratio) -> Ratio
-        requires left { IsRatio 1000000000000 self }
-        requires right { IsRatio 1000000000000 other }
+        requires left { IsDegreeRatio self }
+        requires right { IsDegreeRatio other }
         ensures value { value_of result ≡ lesser (value_of self) (value_of other) }
-        ensures ratio { IsRatio 1000000000000 result }
+        ensures ratio { IsDegreeRatio result }
     {
         if self.cross(other) <= other.cross(self) {
             self
@@ -35,10 +35,10 @@ impl Ratio {
 
     /// The greater of the two; the second if they are equal.
     pub(crate) fn max(self, other: Ratio) -> Ratio
-        requires left { IsRatio 1000000000000 self }
-        requires right { IsRatio 1000000000000 other }
+        requires left { IsDegreeRatio self }
+        requires right { IsDegreeRatio other }
         ensures value { value_of result ≡ greater (value_of self) (value_of other) }
-        ensures ratio { IsRatio 1000000000000 result }
+        ensures ratio { IsDegreeRatio result }
     {
         if self.cross(other) > other.cross(self) {
             self
@@ -48,9 +48,9 @@ impl Ratio {
     }
 
     pub(crate) fn one_minus(self) -> Ratio
-        requires { IsRatio 1000000000000 self }
+        requires { IsDegreeRatio self }
         ensures value { value_of result ≡ one_minus (value_of self) }
-        ensures ratio { IsRatio 1000000000000 result }
+        ensures ratio { IsDegreeRatio result }
     {
         Ratio {
             num: self.den - self.num,
@@ -60,11 +60,11 @@ impl Ratio {
 
     /// The fraction times a weight from 0 to 1.
     pub(crate) fn times(self, weight: Dec) -> Ratio
-        requires ratio { IsRatio 1000000000000 self }
+        requires ratio { IsDegreeRatio self }
         requires from { pos 0 ≤ℤ weight.0 }
         requires to { weight.0 ≤ℤ pos 10000 }
         ensures value { value_of result ≡ times (value_of self) (unsigned_abs weight.0) }
-        ensures ratio { IsRatio 10000000000000000 result }
+        ensures ratio { IsStrengthRatio result }
     {
         Ratio {
             num: self.num * weight.0 as u64,
@@ -74,7 +74,7 @@ impl Ratio {
 
     /// Whether it is below k/255.
     pub(crate) fn is_below(self, k: u8) -> bool
-        requires { IsRatio 10000000000000000 self }
+        requires { IsStrengthRatio self }
         ensures { IsTrue result ↔ IsBelow (value_of self) (over k 255) }
     {
         self.num * 255 < u64::from(k) * self.den
@@ -82,7 +82,7 @@ impl Ratio {
 
     /// The fraction in 255ths, rounded down.
     pub(crate) fn floor_255(self) -> u8
-        requires { IsRatio 10000000000000000 self }
+        requires { IsStrengthRatio self }
         ensures { result ≡ 255 * self.num / self.den }
     {
         (255 * self.num / self.den) as u8
@@ -90,7 +90,7 @@ impl Ratio {
 
     /// The fraction in parts of 10^9, rounded down.
     pub(crate) fn floor_nano(self) -> Nano
-        requires { IsRatio 10000000000000000 self }
+        requires { IsStrengthRatio self }
         ensures { result.0 ≡ self.num * 1000000000 / self.den }
     {
         Nano((u128::from(self.num) * 1_000_000_000 / u128::from(self.den)) as u64)
@@ -98,7 +98,7 @@ impl Ratio {
 
     /// The fraction in parts of 10^9, rounded up.
     pub(crate) fn up_nano(self) -> Nano
-        requires { IsRatio 10000000000000000 self }
+        requires { IsStrengthRatio self }
         ensures { result.0 ≡ parts_up (value_of self) }
     {
         let den = u128::from(self.den);
@@ -107,7 +107,7 @@ impl Ratio {
 
     /// The same fraction in wider numbers.
     pub(crate) fn wide(self) -> Frac
-        requires { IsRatio 1000000000000 self }
+        requires { IsDegreeRatio self }
         ensures value { fraction_of result ≡ value_of self }
         ensures truth { IsTruth 1000000000000 result }
     {

@@ -1,12 +1,13 @@
 //! What leaves need to know about the rules over a box.
-ghost use Rattle.std.specs.Prelude.{◌≡◌, ◌≤◌, ◌<◌, ◌+◌, ◌*◌, ◌/◌, ◌≤ℤ◌, length, pos, unsigned_abs, if◌then◌else◌, ◌==◌};
+ghost use Rattle.std.specs.Prelude.{◌≡◌, ◌≤◌, ◌<◌, ◌+◌, ◌*◌, ◌/◌, ◌≤ℤ◌, length, pos, unsigned_abs, if◌then◌else◌};
+ghost use Rattle.std.specs.Prelude.{◌==◌};
 ghost use Rattle.std.specs.Prelude.{IfSome, Some, false, true, slice_get};
 ghost use Rattle.fz_num.specs.Fractions.{times, up_div};
 ghost use Rattle.byte_scaling.specs.Weights.{weight_byte_of};
 ghost use Rattle.fuzzy_meaning.specs.{declared.block.Rule.Rule as TheRule, Blocks.IsValidRule};
 ghost use Rattle.fuzzy_meaning.specs.{Blocks.IsWeight, Meaning.weight_of};
 ghost use Rattle.error_bound.specs.{Errors.apart, Flattening.ReachesAlike};
-ghost use Rattle.error_bound.specs.Ratios.{value_of, IsRatio};
+ghost use Rattle.error_bound.specs.Ratios.{value_of, IsDegreeRatio, IsStrengthRatio};
 ghost use Rattle.error_bound.specs.Leaves.{IsStill, concludes_some as concludes_any};
 ghost use Rattle.error_bound.specs.Reaches.{IsEndOfRule, IsErrorOfRule, IsTable, IsDeviationOfRule, block_of, box_of};
 
@@ -130,10 +131,10 @@ fn ends_of_strength(rule: &Rule, condition: &Condition, table: &BoxTable) -> End
 /// An end of a condition's truth times the weight of a rule.
 fn weighted(rule: &Rule, end: End) -> End
     requires rule { IfSome rule.now.weight IsWeight }
-    requires end { IsRatio 1000000000000 end.truth }
+    requires end { IsDegreeRatio end.truth }
     ensures value { value_of result.truth ≡ times (value_of end.truth) (weight_of rule.now.weight) }
     ensures byte { result.byte ≡ end.byte * (weight_byte_of rule.now.weight + 1) / 256 }
-    ensures small { IsRatio 10000000000000000 result.truth }
+    ensures small { IsStrengthRatio result.truth }
 {
     let weight = rule.weight.unwrap_or(Dec(10_000));
     End {

@@ -4,7 +4,7 @@ ghost use Rattle.std.specs.Prelude.{◌≡◌, ◌≤◌, ◌<◌, ◌+◌, ◌*
 ghost use Rattle.std.specs.Prelude.{IfSome, IfNone, Some, length, slice_get, slice_index, take};
 ghost use Rattle.fz_num.specs.Fractions.{up_div};
 ghost use Rattle.byte_scaling.specs.Widths.{parts};
-ghost use Rattle.cell_error.specs.Means.{IsSmallDeviation};
+ghost use Rattle.cell_error.specs.Means.{IsSmallDeviation, most_deviation};
 ghost use Rattle.fuzzy_meaning.specs.declared.block.Rule.{Rule as TheRule};
 ghost use Rattle.fuzzy_meaning.specs.Blocks.{IsValidOutput, output_at};
 ghost use Rattle.fuzzy_meaning.specs.Meaning.{concludes as concludes_it};
@@ -15,6 +15,7 @@ ghost use Rattle.error_bound.specs.Masses.{AreMasses, AreDeviations, AreSmall, s
 ghost use Rattle.error_bound.specs.Masses.{IsBoundAt};
 ghost use Rattle.error_bound.specs.Tight.{IsTightBound, IsSure, if_moving, ranges_at, deviations_at};
 ghost use Rattle.error_bound.specs.Reaches.{block_of, box_of, parts_of};
+ghost use Rattle.cell_error.specs.Errors.{whole_mass};
 
 use crate::bounds::{offset, raise_terms, silent_bound};
 use crate::ends::{End, Side};
@@ -201,11 +202,11 @@ impl Masses {
     /// The Bound of a box with these masses, if the sum of the least ones is above 0, and that over bytes too.
     fn bound(&self, deviations: &Deviations, output: &Output, width: Width) -> Option<u32>
         requires output { IsValidOutput output.now }
-        requires lows { AreSmall 255000000000 self.now.lows }
+        requires lows { AreSmall whole_mass self.now.lows }
         requires ordered { (t : ℕ) → t < 15 → slice_index self.now.byte_lows t ≤ slice_index self.now.byte_highs t }
         requires byte_highs { AreSmall 255 self.now.byte_highs }
-        requires rises { AreSmall 3000000000 deviations.now.rises }
-        requires falls { AreSmall 3000000000 deviations.now.falls }
+        requires rises { AreSmall most_deviation deviations.now.rises }
+        requires falls { AreSmall most_deviation deviations.now.falls }
         ensures bound { IfSome result (IsBoundAt self.now deviations.now output.now (parts width)) }
         ensures sum { IfSome result (λ n. 1 ≤ sum_at self.now.lows output.now.singletons) }
         ensures bytes { IfSome result (λ n. 1 ≤ sum_at self.now.byte_lows output.now.singletons) }
@@ -271,7 +272,7 @@ fn deviations_of(output: &Output, rises: &[u64; 15], falls: &[u64; 15]) -> [Devi
 /// The sum of the values of an output's terms.
 fn sum_of(values: &[u64; 15], output: &Output) -> u64
     requires output { IsValidOutput output.now }
-    requires small { AreSmall 255000000000 values.now }
+    requires small { AreSmall whole_mass values.now }
     ensures value { result ≡ sum_at values.now output.now.singletons }
     ensures small { result ≤ 3825000000000 }
 {
