@@ -13,7 +13,8 @@ use Rattle.cpu12_isa.specs.declared.{instr.Regs.Regs, instr.Instr.Instr}
 use Rattle.cpu12_isa.specs.declared.instr.Instr.TheVariants.{LdaaImmediate, Fdiv}
 use Rattle.cpu12_isa.specs.declared.encodings.Page.TheVariants.{One, Two, Transfer, AddIndexed}
 use Rattle.cpu12_isa.specs.Act.{Act, Give, Get, outcome}
-use Rattle.cpu12_isa.specs.{Memory.plus, Memory.word_of, Memory.bytes_at, Registers.divided_fraction, Meaning.plain_act}
+use Rattle.cpu12_isa.specs.{Memory.plus, Memory.word_of, Memory.bytes_at, Registers.divided_fraction, Meaning.Effect}
+use Rattle.cpu12_isa.specs.{Meaning.plain_act}
 use Rattle.cpu12_isa.specs.Flags.{put, carry, overflow, zero_result}
 use Rattle.cpu12_isa.specs.Code.{FitsOperands, entry, page_of, decode_of, six_from}
 use Rattle.cpu12_isa.specs.Fits.{FitsRegs, FitsWrites, AreBytes, Leaves, StaysFit, BytesStay, DecodedFits}
@@ -23,18 +24,20 @@ pub leaves_outcome : {A : Type 0} (P : A → Type 0) (act : Act A) (m : List ℕ
 leaves_outcome P (Give a) m b l = l
 leaves_outcome P (Get at next) m b l = leaves_outcome P (next (get_or m at 0)) m b (l (get_or m at 0) (b at))
 
-sp_fits : (flags : ℕ) (i : Instr) (r : Regs) → flags < 2 ^ 8 → FitsOperands i → FitsRegs r
-    → Leaves (λ e. e.regs.sp < 2 ^ 16) (plain_act flags i r)
+-- what each instruction leaves of registers that fit
+abbrev AllLeave : (Effect → Type 0) → Type 0
+AllLeave P = (flags : ℕ) (i : Instr) (r : Regs) → flags < 2 ^ 8 → FitsOperands i → FitsRegs r
+    → Leaves P (plain_act flags i r)
+
+sp_fits : AllLeave (λ e. e.regs.sp < 2 ^ 16)
 sp_fits flags (LdaaImmediate v) r h o f = f.sp
 sp_fits flags i r h o f = search (rules, widths)
 
-a_fits : (flags : ℕ) (i : Instr) (r : Regs) → flags < 2 ^ 8 → FitsOperands i → FitsRegs r
-    → Leaves (λ e. e.regs.a < 2 ^ 8) (plain_act flags i r)
+a_fits : AllLeave (λ e. e.regs.a < 2 ^ 8)
 a_fits flags (LdaaImmediate v) r h o f = o
 a_fits flags i r h o f = search (rules, widths)
 
-b_fits : (flags : ℕ) (i : Instr) (r : Regs) → flags < 2 ^ 8 → FitsOperands i → FitsRegs r
-    → Leaves (λ e. e.regs.b < 2 ^ 8) (plain_act flags i r)
+b_fits : AllLeave (λ e. e.regs.b < 2 ^ 8)
 b_fits flags (LdaaImmediate v) r h o f = f.b
 b_fits flags i r h o f = search (rules, widths)
 
@@ -68,29 +71,24 @@ fdiv_fits r =
     { x = 65535; pc = plus r.pc 2; ccr = put (put (put r.ccr zero_result false) overflow true) carry (r.x == 0) } in
     choice_fits (r.a * 2 ^ 8 + r.b) r.x (2 ^ 16) yes no (λ l. quotient_fits (r.a * 2 ^ 8 + r.b) r.x l) (omega arith)
 
-x_fits : (flags : ℕ) (i : Instr) (r : Regs) → flags < 2 ^ 8 → FitsOperands i → FitsRegs r
-    → Leaves (λ e. e.regs.x < 2 ^ 16) (plain_act flags i r)
+x_fits : AllLeave (λ e. e.regs.x < 2 ^ 16)
 x_fits flags (LdaaImmediate v) r h o f = f.x
 x_fits flags Fdiv r h o f = fdiv_fits r
 x_fits flags i r h o f = search (rules, widths)
 
-y_fits : (flags : ℕ) (i : Instr) (r : Regs) → flags < 2 ^ 8 → FitsOperands i → FitsRegs r
-    → Leaves (λ e. e.regs.y < 2 ^ 16) (plain_act flags i r)
+y_fits : AllLeave (λ e. e.regs.y < 2 ^ 16)
 y_fits flags (LdaaImmediate v) r h o f = f.y
 y_fits flags i r h o f = search (rules, widths)
 
-pc_fits : (flags : ℕ) (i : Instr) (r : Regs) → flags < 2 ^ 8 → FitsOperands i → FitsRegs r
-    → Leaves (λ e. e.regs.pc < 2 ^ 16) (plain_act flags i r)
+pc_fits : AllLeave (λ e. e.regs.pc < 2 ^ 16)
 pc_fits flags (LdaaImmediate v) r h o f = omega arith
 pc_fits flags i r h o f = search (rules, widths)
 
-ccr_fits : (flags : ℕ) (i : Instr) (r : Regs) → flags < 2 ^ 8 → FitsOperands i → FitsRegs r
-    → Leaves (λ e. e.regs.ccr.0 < 2 ^ 8) (plain_act flags i r)
+ccr_fits : AllLeave (λ e. e.regs.ccr.0 < 2 ^ 8)
 ccr_fits flags (LdaaImmediate v) r h o f = grind (arith, common_steps, widths)
 ccr_fits flags i r h o f = grind (arith, common_steps, widths)
 
-writes_fit : (flags : ℕ) (i : Instr) (r : Regs) → flags < 2 ^ 8 → FitsOperands i → FitsRegs r
-    → Leaves (λ e. FitsWrites e.writes) (plain_act flags i r)
+writes_fit : AllLeave (λ e. FitsWrites e.writes)
 writes_fit flags (LdaaImmediate v) r h o f = tt
 writes_fit flags i r h o f = search (rules, widths)
 

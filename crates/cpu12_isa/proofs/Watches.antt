@@ -121,6 +121,14 @@ none_from [] mem h = refl
 none_from (n ∷ ns) [] h = refl
 none_from (n ∷ ns) (v ∷ vs) h = rw (false_from_ne_true (is_changed n v) (h zero)) (none_from ns vs (λ at. h (suc at)))
 
+-- where nothing is listed, nothing has changed
+pub none_listed : (written : List ℕ) (ns : List (Option ℕ)) (mem : List ℕ) (empty : Bool)
+    → empty ≡ (length written == 0) → empty ≡ true → (length written < 64 → AreListed written ns mem) → (at : ℕ)
+    → changed_at ns mem at ≡ true → ⊥
+none_listed [] ns mem empty is e listed at c = false≢true (listed (omega arith) at c)
+none_listed (w ∷ ws) ns mem empty is e listed at c =
+    absurd (omega (arith, eqb-true (length (w ∷ ws)) 0 (sym is ∙ e)))
+
 -- nothing has changed past the end of the table
 pub changed_within : (ns : List (Option ℕ)) (mem : List ℕ) (at : ℕ) → changed_at ns mem at ≡ true → at < length ns
 changed_within ns mem at c = elim (cases_lt at (length ns)) [

@@ -1,9 +1,9 @@
 -- Instructions as bytes (CPU12 Reference Manual, appendix A).
 -- Reached by the promise.
 use Rattle.std.specs.Prelude.{◌≡◌, ◌+◌, ◌==◌, ◌++◌, ℕ, Bool, true, false, if◌then◌else◌, Result, Ok, Err, List, [], ◌∷◌}
-use Rattle.std.specs.Prelude.{flat_map, length, slice_index}
-use Rattle.cpu12_isa.specs.declared.{instr.Instr.Instr, encodings.Encoding.Encoding, encodings.Page.Page}
-use Rattle.cpu12_isa.specs.declared.{encodings.Operand.Operand}
+use Rattle.std.specs.Prelude.{flat_map, length, slice_index, IfOk, IfErr, MatchResult}
+use Rattle.cpu12_isa.specs.declared.{instr.Instr.Instr, instr.Trap.Trap, encodings.Encoding.Encoding}
+use Rattle.cpu12_isa.specs.declared.{encodings.Page.Page, encodings.Operand.Operand}
 use Rattle.cpu12_isa.specs.declared.encodings.Page.TheVariants.{One, Two, Transfer, AddIndexed}
 use Rattle.cpu12_isa.specs.declared.encodings.Operand.TheVariants.{Word, Address, AddressToAddress}
 use Rattle.cpu12_isa.specs.Memory.{plus, word_of, bytes_at}
@@ -108,6 +108,13 @@ Begins (b ∷ bs) (v ∷ vs) = (b ≡ v) × Begins bs vs
 -- the bytes of an instruction stand at an address, also over the end of memory
 abbrev pub StandsAt : List ℕ → ℕ → Instr → Type 0
 StandsAt mem pc i = Begins (bytes_at mem (six_from pc)) (encode_of i)
+
+-- the answer of decoding there: the instruction that stands there, with operands that fit, or the byte that begins none
+pub record IsDecoded (mem : List ℕ) (pc : ℕ) (result : Result Instr Trap) : Type 0 where
+  pub found : MatchResult result (λ i. decode_at mem pc ≡ Ok i) (λ t. decode_at mem pc ≡ Err t.byte)
+  pub stands : IfOk result (λ i. StandsAt mem pc i)
+  pub fits : IfOk result FitsOperands
+  pub place : IfErr result (λ t. t.pc ≡ pc)
 
 -- what stands encoded at an address is what is decoded there
 abbrev pub DecodesEncoded : Type 0

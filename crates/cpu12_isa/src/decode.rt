@@ -1,8 +1,8 @@
 //! Decoding instructions from memory.
-ghost use Rattle.std.specs.Prelude.{ℕ, ◌≡◌, ◌+◌, ◌*◌, ◌/◌, ◌%◌, ◌^◌, ◌<◌, IfOk, IfErr, MatchResult, length};
+ghost use Rattle.std.specs.Prelude.{ℕ, ◌≡◌, ◌+◌, ◌*◌, ◌/◌, ◌%◌, ◌^◌, ◌<◌, ◌⊎◌, IfOk, IfErr, MatchResult, length};
 ghost use Rattle.std.specs.Prelude.{slice_index};
 ghost use Rattle.cpu12_isa.specs.Memory.{plus, word_of, high_of, low_of};
-ghost use Rattle.cpu12_isa.specs.Code.{decode_at, encode_of, StandsAt, FitsOperands};
+ghost use Rattle.cpu12_isa.specs.Code.{IsDecoded, decode_at, encode_of, StandsAt, FitsOperands};
 
 use crate::encode::encode;
 use crate::instr::{Instr, Trap};
@@ -35,17 +35,13 @@ fn word<M: Mem>(m: &M, pc: u16, k: u16) -> u16
 /// It is inlined into a step, so that the first byte is dispatched on once for decoding and execution.
 #[inline(always)]
 pub fn instruction_at<M: Mem>(m: &M, pc: u16) -> Result<Instr, Trap>
-    ensures found { MatchResult result (λ i. decode_at (M.bytes m.now) pc ≡ Ok i)
-        (λ t. decode_at (M.bytes m.now) pc ≡ Err t.byte) }
-    ensures stands { IfOk result (λ i. StandsAt (M.bytes m.now) pc i) }
-    ensures fits { IfOk result FitsOperands }
-    ensures place { IfErr result (λ t. t.pc ≡ pc) }
+    ensures { IsDecoded (M.bytes m.now) pc result }
 {
     let first = m.read(pc);
     match first {
-        0x18 => decode_page_18(m, pc),
-        0xB7 => decode_page_b7(m, pc),
-        0xEB => decode_page_eb(m, pc),
+        0x18 => decode_second(m, pc, 0x18),
+        0xB7 => decode_second(m, pc, 0xB7),
+        0xEB => decode_second(m, pc, 0xEB),
         0x86 => Ok(Instr::LdaaImmediate(byte(m, pc, 1))),
         0xB6 => Ok(Instr::LdaaExtended(word(m, pc, 1))),
         0xC6 => Ok(Instr::LdabImmediate(byte(m, pc, 1))),
@@ -97,60 +93,25 @@ pub fn instruction_at<M: Mem>(m: &M, pc: u16) -> Result<Instr, Trap>
     }
 }
 
-/// The instruction at `pc`, whose first byte is `$18`.
+/// The instruction at `pc`, whose first byte is one of these three.
 #[inline(always)]
-fn decode_page_18<M: Mem>(m: &M, pc: u16) -> Result<Instr, Trap>
-    requires { slice_index (M.bytes m.now) pc ≡ 0x18 }
-    ensures found { MatchResult result (λ i. decode_at (M.bytes m.now) pc ≡ Ok i)
-        (λ t. decode_at (M.bytes m.now) pc ≡ Err t.byte) }
-    ensures stands { IfOk result (λ i. StandsAt (M.bytes m.now) pc i) }
-    ensures fits { IfOk result FitsOperands }
-    ensures place { IfErr result (λ t. t.pc ≡ pc) }
+fn decode_second<M: Mem>(m: &M, pc: u16, first: u8) -> Result<Instr, Trap>
+    requires first { slice_index (M.bytes m.now) pc ≡ first }
+    requires page { (first ≡ 0x18) ⊎ ((first ≡ 0xB7) ⊎ (first ≡ 0xEB)) }
+    ensures { IsDecoded (M.bytes m.now) pc result }
 {
     let second = byte(m, pc, 1);
-    match second {
-        0x11 => Ok(Instr::Fdiv),
-        0x0B => Ok(Instr::MovbImmediate(byte(m, pc, 2), word(m, pc, 3))),
-        0x0C => Ok(Instr::MovbExtended(word(m, pc, 2), word(m, pc, 4))),
-        0x3A => Ok(Instr::Rev),
-        0x3B => Ok(Instr::Revw),
-        0x3C => Ok(Instr::Wav),
+    match (first, second) {
+        (0x18, 0x11) => Ok(Instr::Fdiv),
+        (0x18, 0x0B) => Ok(Instr::MovbImmediate(byte(m, pc, 2), word(m, pc, 3))),
+        (0x18, 0x0C) => Ok(Instr::MovbExtended(word(m, pc, 2), word(m, pc, 4))),
+        (0x18, 0x3A) => Ok(Instr::Rev),
+        (0x18, 0x3B) => Ok(Instr::Revw),
+        (0x18, 0x3C) => Ok(Instr::Wav),
+        (0xB7, 0x54) => Ok(Instr::TransferXD),
+        (0xB7, 0x64) => Ok(Instr::TransferYD),
+        (0xEB, 0x30) => Ok(Instr::AddbPostIncrementX),
         _ => Err(Trap { pc, byte: second }),
-    }
-}
-
-/// The instruction at `pc`, whose first byte is `$B7`.
-#[inline(always)]
-fn decode_page_b7<M: Mem>(m: &M, pc: u16) -> Result<Instr, Trap>
-    requires { slice_index (M.bytes m.now) pc ≡ 0xB7 }
-    ensures found { MatchResult result (λ i. decode_at (M.bytes m.now) pc ≡ Ok i)
-        (λ t. decode_at (M.bytes m.now) pc ≡ Err t.byte) }
-    ensures stands { IfOk result (λ i. StandsAt (M.bytes m.now) pc i) }
-    ensures fits { IfOk result FitsOperands }
-    ensures place { IfErr result (λ t. t.pc ≡ pc) }
-{
-    let postbyte = byte(m, pc, 1);
-    match postbyte {
-        0x54 => Ok(Instr::TransferXD),
-        0x64 => Ok(Instr::TransferYD),
-        _ => Err(Trap { pc, byte: postbyte }),
-    }
-}
-
-/// The instruction at `pc`, whose first byte is `$EB`.
-#[inline(always)]
-fn decode_page_eb<M: Mem>(m: &M, pc: u16) -> Result<Instr, Trap>
-    requires { slice_index (M.bytes m.now) pc ≡ 0xEB }
-    ensures found { MatchResult result (λ i. decode_at (M.bytes m.now) pc ≡ Ok i)
-        (λ t. decode_at (M.bytes m.now) pc ≡ Err t.byte) }
-    ensures stands { IfOk result (λ i. StandsAt (M.bytes m.now) pc i) }
-    ensures fits { IfOk result FitsOperands }
-    ensures place { IfErr result (λ t. t.pc ≡ pc) }
-{
-    let postbyte = byte(m, pc, 1);
-    match postbyte {
-        0x30 => Ok(Instr::AddbPostIncrementX),
-        _ => Err(Trap { pc, byte: postbyte }),
     }
 }
 

@@ -131,9 +131,8 @@ impl Regs {
     pub fn subtract_a(&mut self, v: u8, n: u16)
         ensures { self.new ≡ subtracted_a self.old v n }
     {
-        self.ccr = self.ccr.subtracted(self.a, v);
+        self.compare_a(v, n);
         self.a = self.a.wrapping_sub(v);
-        self.pass(n);
     }
 
     #[inline(always)]
