@@ -9,8 +9,8 @@ use Rattle.cpu12_isa.proofs.Algebra.{masked_opened, masked_put}
 use Rattle.cpu12_parts.specs.declared.temps.Temps.{Temps}
 use Rattle.cpu12_parts.specs.declared.temps.Temps.TheVariants.{Free, Running, OnStack}
 use Rattle.cpu12_parts.specs.declared.temps.PartEnd.TheVariants.{More, Done}
-use Rattle.cpu12_parts.specs.Parts.{rev, revw, wav, suspended, leaving, met, rev_element, revw_element, wav_end}
-use Rattle.cpu12_parts.specs.Parts.{wav_from, wav_act}
+use Rattle.cpu12_parts.specs.Parts.{rev, revw, wav, suspended, leaving, met, element, rev_element, revw_element}
+use Rattle.cpu12_parts.specs.Parts.{wav_end, wav_from, wav_act}
 use Rattle.cpu12_parts.specs.Inside.{own_address, second_byte, GoesOnAt, LeavesSums, WritesNothing, PushesRunning}
 use Rattle.cpu12_parts.specs.Inside.{PushesNone}
 use Rattle.cpu12_parts.specs.{State.State, State.Outcome, Laws.state_of}
@@ -45,35 +45,37 @@ met_leaves r t x c at m e =
     (leaving (record r { x = x; ccr = c; a = min (r.a) (get_or m at 0) }) t More)
     (record { sums = refl; inside = λ _. (e, refl) }) (record { sums = refl; inside = λ _. (e, refl) })
 
+element_leaves : (r : Regs) (t : Temps) (x : ℕ) (c : Ccr) (stop separator e : ℕ) (turned : Act Outcome) (at : ℕ)
+    (m : List ℕ) → has c interrupts_masked ≡ has r.ccr interrupts_masked → Leaves r t (outcome turned m)
+    → Leaves r t (outcome (element r (record r { x = x; ccr = c }) t stop separator e turned at) m)
+element_leaves r t x c stop separator e turned at m same leaves =
+    let s : Regs = record r { x = x; ccr = c } in
+    choice (Leaves r t) m (e == stop) (leaving (record s { pc = plus s.pc 2 }) t Done) _
+    (record { sums = refl; inside = not_more })
+    (choice (Leaves r t) m (e == separator) _ (met r s t at)
+    (choice (Leaves r t) m (has r.ccr overflow)
+    (leaving (record s { a = 255; ccr = put c overflow false }) t More) turned
+    (record { sums = refl; inside = λ _. (same_put c false ∙ same, refl) }) leaves)
+    (met_leaves r t x c at m same))
+
 rev_leaves : (flags : ℕ) (r : Regs) (t : Temps) (e : ℕ) (m : List ℕ) → Leaves r t (outcome (rev_element flags r t e) m)
 rev_leaves flags r t e m =
     let c = opened r.ccr hnzc flags in
     let same = same_opened r.ccr hnzc flags (masked_opened r.ccr hnzc flags (refl, refl) (refl, refl)) in
-    let s : Regs = record r { x = plus r.x 1; ccr = c } in
-    choice (Leaves r t) m (e == 255) (leaving (record s { pc = plus s.pc 2 }) t Done) _
-    (record { sums = refl; inside = not_more })
-    (choice (Leaves r t) m (e == 254) _ (met r s t (plus r.y e))
-    (choice (Leaves r t) m (has r.ccr overflow) (leaving (record s { a = 255; ccr = put c overflow false }) t More)
-    (leaving (record s { ccr = put c overflow true }) t More)
-    (record { sums = refl; inside = λ _. (same_put c false ∙ same, refl) })
-    (record { sums = refl; inside = λ _. (same_put c true ∙ same, refl) }))
-    (met_leaves r t (plus r.x 1) c (plus r.y e) m same))
+    element_leaves r t (plus r.x 1) c 255 254 e
+    (leaving (record r { x = plus r.x 1; ccr = put c overflow true }) t More) (plus r.y e) m same
+    (record { sums = refl; inside = λ _. (same_put c true ∙ same, refl) })
 
 revw_leaves : (flags : ℕ) (r : Regs) (t : Temps) (e : ℕ) (m : List ℕ)
     → Leaves r t (outcome (revw_element flags r t e) m)
 revw_leaves flags r t e m =
     let c = opened r.ccr hnz flags in
     let same = same_opened r.ccr hnz flags (masked_opened r.ccr hnz flags (refl, refl) (refl, refl)) in
-    let s : Regs = record r { x = plus r.x 2; ccr = c } in
-    choice (Leaves r t) m (e == 65535) (leaving (record s { pc = plus s.pc 2 }) t Done) _
-    (record { sums = refl; inside = not_more })
-    (choice (Leaves r t) m (e == 65534) _ (met r s t e)
-    (choice (Leaves r t) m (has r.ccr overflow) (leaving (record s { a = 255; ccr = put c overflow false }) t More) _
-    (record { sums = refl; inside = λ _. (same_put c false ∙ same, refl) })
-    (choice (Leaves r t) m (has r.ccr carry) _ (leaving (record s { ccr = put c overflow true }) t More)
+    element_leaves r t (plus r.x 2) c 65535 65534 e _ e m same
+    (choice (Leaves r t) m (has r.ccr carry) _
+    (leaving (record r { x = plus r.x 2; ccr = put c overflow true }) t More)
     (record { sums = refl; inside = λ _. (same_put c true ∙ same, refl) })
-    (record { sums = refl; inside = λ _. (same_put c true ∙ same, refl) })))
-    (met_leaves r t (plus r.x 2) c e m same))
+    (record { sums = refl; inside = λ _. (same_put c true ∙ same, refl) }))
 
 pub rev_goes_on : GoesOnAt own_address rev
 rev_goes_on flags s = let l = rev_leaves flags s.regs s.temps (get_or s.mem s.regs.x 0) s.mem in l.inside

@@ -2,11 +2,11 @@
 use Rattle.std.proofs.Common.{ℕ, ◌-◌, Bool, false, List, [], ◌∷◌, length, refl, sym, subst}
 use Rattle.cpu12_isa.specs.Agreement.{AllShown, WritesAgree}
 use Rattle.cpu12_parts.specs.{declared.temps.Temps.Temps, State.State, Averages.wav_read, Averages.wav_whole}
-use Rattle.cpu12_parts.specs.Parts.{Kind, rev, revw, wav}
-use Rattle.cpu12_parts.specs.Owed.{Whole, WholeAverage, whole_rev, whole_revw, MakesWhole, OverCuts}
-use Rattle.cpu12_parts.specs.Rules.{rev_operands, revw_operands, rules_read, rules_written, rules_whole}
-use Rattle.cpu12_parts.specs.Laws.{PartsTo, below, state_of, GoesOn, IsSteady, CutsChangeNothing, RevIsWhole}
-use Rattle.cpu12_parts.specs.Laws.{RevwIsWhole, WavIsWhole, RevOverCuts, RevwOverCuts, WavOverCuts}
+use Rattle.cpu12_parts.specs.Parts.{Kind, wav}
+use Rattle.cpu12_parts.specs.Owed.{Whole, WholeAverage, WholeRules, MakesWhole, OverCuts}
+use Rattle.cpu12_parts.specs.Rules.{RuleOperands, rules_read, rules_written, rules_whole}
+use Rattle.cpu12_parts.specs.Laws.{PartsTo, below, state_of, GoesOn, IsSteady, CutsChangeNothing, RulesAreWhole}
+use Rattle.cpu12_parts.specs.Laws.{RulesOverCuts, WavIsWhole, WavOverCuts}
 use Rattle.cpu12_parts.proofs.Cutting.{cuts_change_nothing}
 
 none : ℕ → Bool
@@ -17,17 +17,13 @@ unfolding none
 none_hidden [] = tt
 none_hidden (at ∷ ats) = (refl, none_hidden ats)
 
-pub rev_over_cuts : CutsChangeNothing rev → RevIsWhole → RevOverCuts
-rev_over_cuts cuts whole flags r t mem p ps cs ff fc z sp ready shown len =
+pub rules_over_cuts : (k : Kind) (f : State → RuleOperands) → CutsChangeNothing k → RulesAreWhole k f
+    → RulesOverCuts k f
+rules_over_cuts k f cuts whole flags r t mem p ps cs ff fc z sp ready shown len =
+    let o = f (state_of r t mem) in
     let run = whole flags r t mem p ps (length cs) (below 6 r.sp) none ff fc ready len shown
-    (none_hidden (rules_written (rev_operands r.y) p ps)) in
-    cuts flags none (length cs) (state_of r t mem) (rules_whole (rev_operands r.y) flags r t mem p ps) z sp run cs refl
-
-pub revw_over_cuts : CutsChangeNothing revw → RevwIsWhole → RevwOverCuts
-revw_over_cuts cuts whole flags r t mem p ps cs ff fc z sp ready shown len =
-    let run = whole flags r t mem p ps (length cs) (below 6 r.sp) none ff fc ready len shown
-    (none_hidden (rules_written revw_operands p ps)) in
-    cuts flags none (length cs) (state_of r t mem) (rules_whole revw_operands flags r t mem p ps) z sp run cs refl
+    (none_hidden (rules_written o p ps)) in
+    cuts flags none (length cs) (state_of r t mem) (rules_whole o flags r t mem p ps) z sp run cs refl
 
 pub wav_over_cuts : CutsChangeNothing wav → WavIsWhole → WavOverCuts
 wav_over_cuts cuts whole flags r t mem cs ff fc z sp off shown len =
@@ -41,25 +37,14 @@ over_cuts agree k kept W goes steady makes flags d reads writes s t cs whole z s
     let run = makes flags d reads writes s t whole (below 6 s.regs.sp) none shown (none_hidden writes) in
     cuts_change_nothing agree k kept goes steady flags none d s t z sp run cs len
 
--- REV's, REVW's and WAV's parts make the whole instruction
-pub rev_makes : RevIsWhole → MakesWhole rev whole_rev
-rev_makes whole flags d reads writes s t w unread unwritten hr hw =
-    let f = rev_operands s.regs.y in
-    let shown_r : AllShown unread (rules_read f s.regs w.rule w.rules) =
+-- parts over rules, and WAV's, make the whole instruction
+pub rules_make : (k : Kind) (f : State → RuleOperands) → RulesAreWhole k f → MakesWhole k (WholeRules f)
+rules_make k f whole flags d reads writes s t w unread unwritten hr hw =
+    let shown_r : AllShown unread (rules_read (f s) s.regs w.rule w.rules) =
     subst (λ (ats : List ℕ). AllShown unread ats) w.reads_are hr in
-    let shown_w : AllShown unwritten (rules_written f w.rule w.rules) =
+    let shown_w : AllShown unwritten (rules_written (f s) w.rule w.rules) =
     subst (λ (ats : List ℕ). AllShown unwritten ats) w.writes_are hw in
-    subst (λ (u : State). PartsTo rev flags unread unwritten d s u) (sym w.leads)
-    (whole flags s.regs s.temps s.mem w.rule w.rules d unread unwritten w.flags_fit w.ccr_fits w.ready w.parts
-    shown_r shown_w)
-
-pub revw_makes : RevwIsWhole → MakesWhole revw whole_revw
-revw_makes whole flags d reads writes s t w unread unwritten hr hw =
-    let shown_r : AllShown unread (rules_read revw_operands s.regs w.rule w.rules) =
-    subst (λ (ats : List ℕ). AllShown unread ats) w.reads_are hr in
-    let shown_w : AllShown unwritten (rules_written revw_operands w.rule w.rules) =
-    subst (λ (ats : List ℕ). AllShown unwritten ats) w.writes_are hw in
-    subst (λ (u : State). PartsTo revw flags unread unwritten d s u) (sym w.leads)
+    subst (λ (u : State). PartsTo k flags unread unwritten d s u) (sym w.leads)
     (whole flags s.regs s.temps s.mem w.rule w.rules d unread unwritten w.flags_fit w.ccr_fits w.ready w.parts
     shown_r shown_w)
 

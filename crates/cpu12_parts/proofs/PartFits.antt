@@ -10,7 +10,7 @@ use Rattle.cpu12_parts.specs.declared.temps.Temps.{Temps}
 use Rattle.cpu12_parts.specs.declared.temps.Temps.TheVariants.{Free, Running, OnStack}
 use Rattle.cpu12_parts.specs.declared.temps.PartEnd.TheVariants.{More, Done}
 use Rattle.cpu12_parts.specs.{State.Outcome, Fits.FitsTemps, Fits.FitsOutcome, Fits.PartFits}
-use Rattle.cpu12_parts.specs.Parts.{rev, revw, wav, leaving, weighted, met, rev_element, rev_act, revw_element}
+use Rattle.cpu12_parts.specs.Parts.{rev, revw, wav, leaving, weighted, met, element, rev_element, rev_act, revw_element}
 use Rattle.cpu12_parts.specs.Parts.{revw_act, wav_end, wav_from, wav_act}
 
 leaves_if : (b : Bool) (p q : Act Outcome) → Leaves FitsOutcome p → Leaves FitsOutcome q
@@ -40,6 +40,13 @@ regs_fit : (r : Regs) (a x y pc : ℕ) (c : Ccr) → FitsRegs r → a < 2 ^ 8 �
     → FitsRegs (record r { a = a; x = x; y = y; pc = pc; ccr = c })
 regs_fit r a x y pc c f fa fx fy fp fc = record { a = fa; b = f.b; x = fx; y = fy; sp = f.sp; pc = fp; ccr = fc }
 
+-- and with V put
+turned_fit : (r : Regs) (a x y : ℕ) (c : Ccr) (b : Bool) → FitsRegs r → a < 2 ^ 8 → x < 2 ^ 16 → y < 2 ^ 16
+    → c.0 < 2 ^ 8
+    → FitsRegs (record r { a = a; x = x; y = y; ccr = put c overflow b })
+turned_fit r a x y c b f fa fx fy fc =
+    regs_fit r a x y r.pc (put c overflow b) f fa fx fy f.pc (fits_put c overflow b (omega arith) fc)
+
 -- an element that names a byte
 met_fits : (s : Regs) (t : Temps) (x : ℕ) (c : Ccr) (at : ℕ) → FitsRegs s → FitsTemps t → x < 2 ^ 16 → c.0 < 2 ^ 8
     → at < 2 ^ 16
@@ -61,46 +68,29 @@ met_fits s t x c at f ft fx fc fa v h =
       writes = tt;
     })
 
+element_fits : (s : Regs) (t : Temps) (x : ℕ) (c : Ccr) (stop separator e : ℕ) (turned : Act Outcome) (at : ℕ)
+    → FitsRegs s → FitsTemps t → x < 2 ^ 16 → c.0 < 2 ^ 8 → at < 2 ^ 16 → Leaves FitsOutcome turned
+    → Leaves FitsOutcome (element s (record s { x = x; ccr = c }) t stop separator e turned at)
+element_fits s t x c stop separator e turned at f ft fx fc fa leaves =
+    let r : Regs = record s { x = x; ccr = c } in
+    let first : Act Outcome = leaving (record r { a = 255; ccr = put c overflow false }) t More in
+    leaves_if (e == stop) (leaving (record r { pc = plus s.pc 2 }) t Done)
+    (if e == separator then (if has s.ccr overflow then first else turned) else met s r t at)
+    (record { regs = regs_fit s s.a x s.y (plus s.pc 2) c f f.a fx f.y (omega arith) fc; temps = ft; writes = tt })
+    (leaves_if (e == separator) (if has s.ccr overflow then first else turned) (met s r t at)
+    (leaves_if (has s.ccr overflow) first turned
+    (record { regs = turned_fit s 255 x s.y c false f (omega arith) fx f.y fc; temps = ft; writes = tt }) leaves)
+    (met_fits s t x c at f ft fx fc fa))
+
 rev_leaves : (flags : ℕ) (s : Regs) (t : Temps) (e : ℕ) → flags < 2 ^ 8 → FitsRegs s → FitsTemps t
     → Leaves FitsOutcome (rev_element flags s t e)
 rev_leaves flags s t e ff f ft =
     let c : Ccr = opened s.ccr hnzc flags in
-    let fc : (opened s.ccr hnzc flags).0 < 2 ^ 8 = fits_opened s.ccr hnzc flags f.ccr ff in
-    let x : ℕ = plus s.x 1 in
-    leaves_if (e == 255) (leaving (record s { x = plus s.x 1; ccr = opened s.ccr hnzc flags; pc = plus s.pc 2 }) t Done)
-    (if e == 254 then (if has s.ccr overflow then leaving
-    (record s { x = plus s.x 1; a = 255; ccr = put (opened s.ccr hnzc flags) overflow false }) t More else leaving
-    (record s { x = plus s.x 1; ccr = put (opened s.ccr hnzc flags) overflow true }) t More)
-    else met s (record s { x = plus s.x 1; ccr = opened s.ccr hnzc flags }) t (plus s.y e))
-    (record {
-      regs = regs_fit s s.a (plus s.x 1) s.y (plus s.pc 2) (opened s.ccr hnzc flags) f f.a (omega arith) f.y
-          (omega arith) fc;
-      temps = ft;
-      writes = tt;
-    })
-    (leaves_if (e == 254)
-    (if has s.ccr overflow then leaving
-    (record s { x = plus s.x 1; a = 255; ccr = put (opened s.ccr hnzc flags) overflow false }) t More else leaving
-    (record s { x = plus s.x 1; ccr = put (opened s.ccr hnzc flags) overflow true }) t More)
-    (met s (record s { x = plus s.x 1; ccr = opened s.ccr hnzc flags }) t (plus s.y e))
-    (leaves_if (has s.ccr overflow)
-    (leaving (record s { x = plus s.x 1; a = 255; ccr = put (opened s.ccr hnzc flags) overflow false }) t More)
-    (leaving (record s { x = plus s.x 1; ccr = put (opened s.ccr hnzc flags) overflow true }) t More)
-    (record {
-      regs = regs_fit s 255 (plus s.x 1) s.y s.pc (put (opened s.ccr hnzc flags) overflow false) f (omega arith)
-          (omega arith) f.y f.pc (fits_put (opened s.ccr hnzc flags) overflow false (omega arith) fc);
-      temps =
-          ft;
-      writes = tt;
-    })
-    (record {
-      regs = regs_fit s s.a (plus s.x 1) s.y s.pc (put (opened s.ccr hnzc flags) overflow true) f f.a
-          (omega arith) f.y f.pc (fits_put (opened s.ccr hnzc flags) overflow true (omega arith) fc);
-      temps =
-          ft;
-      writes = tt;
-    }))
-    (met_fits s t (plus s.x 1) (opened s.ccr hnzc flags) (plus s.y e) f ft (omega arith) fc (omega arith)))
+    let fc : c.0 < 2 ^ 8 = fits_opened s.ccr hnzc flags f.ccr ff in
+    element_fits s t (plus s.x 1) c 255 254 e
+    (leaving (record s { x = plus s.x 1; ccr = put c overflow true }) t More) (plus s.y e) f ft (omega arith) fc
+    (omega arith)
+    (record { regs = turned_fit s s.a (plus s.x 1) s.y c true f f.a (omega arith) f.y fc; temps = ft; writes = tt })
 
 pub rev_fits : PartFits rev
 rev_fits flags s ff f =
@@ -110,46 +100,22 @@ rev_fits flags s ff f =
 revw_leaves : (flags : ℕ) (s : Regs) (t : Temps) (e : ℕ) → flags < 2 ^ 8 → e < 2 ^ 16 → FitsRegs s → FitsTemps t
     → Leaves FitsOutcome (revw_element flags s t e)
 revw_leaves flags s t e ff fe f ft =
-    let fc : (opened s.ccr hnz flags).0 < 2 ^ 8 = fits_opened s.ccr hnz flags f.ccr ff in
-    let weigh : Act Outcome =
-    Get s.y (λ w. leaving
-    (record s {
-      x = plus s.x 2;
-      a = weighted s.a w;
-      y = plus s.y 1;
-      ccr =
-          put (opened s.ccr hnz flags) overflow true;
-    }) t More) in
-    let begin : Act Outcome =
-    leaving (record s { x = plus s.x 2; ccr = put (opened s.ccr hnz flags) overflow true }) t More in
-    let turn : Act Outcome =
-    leaving (record s { x = plus s.x 2; a = 255; ccr = put (opened s.ccr hnz flags) overflow false }) t More in
-    let name : Act Outcome = met s (record s { x = plus s.x 2; ccr = opened s.ccr hnz flags }) t e in
-    let fit : (b : Bool) (a y : ℕ) → a < 2 ^ 8 → y < 2 ^ 16
-    → FitsRegs (record s { x = plus s.x 2; a = a; y = y; ccr = put (opened s.ccr hnz flags) overflow b }) =
-    λ b a y fa fy. regs_fit s a (plus s.x 2) y s.pc (put (opened s.ccr hnz flags) overflow b) f fa (omega arith) fy f.pc
-    (fits_put (opened s.ccr hnz flags) overflow b (omega arith) fc) in
-    leaves_if (e == 65535)
-    (leaving (record s { x = plus s.x 2; ccr = opened s.ccr hnz flags; pc = plus s.pc 2 }) t Done)
-    (if e == 65534 then (if has s.ccr overflow then turn else (if has s.ccr carry then weigh else begin)) else name)
-    (record {
-      regs = regs_fit s s.a (plus s.x 2) s.y (plus s.pc 2) (opened s.ccr hnz flags) f f.a (omega arith) f.y
-          (omega arith) fc;
+    let c : Ccr = opened s.ccr hnz flags in
+    let fc : c.0 < 2 ^ 8 = fits_opened s.ccr hnz flags f.ccr ff in
+    let turned : Regs = record s { x = plus s.x 2; ccr = put c overflow true } in
+    let weighed : Act Outcome =
+    Get s.y (λ w. leaving (record turned { a = weighted s.a w; y = plus s.y 1 }) t More) in
+    let fit : (a y : ℕ) → a < 2 ^ 8 → y < 2 ^ 16 → FitsRegs (record turned { a = a; y = y }) =
+    λ a y fa fy. turned_fit s a (plus s.x 2) y c true f fa (omega arith) fy fc in
+    element_fits s t (plus s.x 2) c 65535 65534 e (if has s.ccr carry then weighed else leaving turned t More) e f ft
+    (omega arith) fc fe
+    (leaves_if (has s.ccr carry) weighed (leaving turned t More)
+    (λ w h. record {
+      regs = fit (weighted s.a w) (plus s.y 1) (weighted_fits s.a w f.a h) (omega arith);
       temps = ft;
       writes = tt;
     })
-    (leaves_if (e == 65534) (if has s.ccr overflow then turn else (if has s.ccr carry then weigh else begin)) name
-    (leaves_if (has s.ccr overflow) turn (if has s.ccr carry then weigh else begin)
-    (record { regs = fit false 255 s.y (omega arith) f.y; temps = ft; writes = tt })
-    (leaves_if (has s.ccr carry) weigh begin
-    (λ w h. record {
-      regs = fit true (weighted s.a w) (plus s.y 1) (weighted_fits s.a w f.a h) (omega arith);
-      temps =
-          ft;
-      writes = tt;
-    })
-    (record { regs = fit true s.a s.y f.a f.y; temps = ft; writes = tt })))
-    (met_fits s t (plus s.x 2) (opened s.ccr hnz flags) e f ft (omega arith) fc fe))
+    (record { regs = fit s.a s.y f.a f.y; temps = ft; writes = tt }))
 
 pub revw_fits : PartFits revw
 revw_fits flags s ff f =

@@ -6,11 +6,12 @@ use Rattle.std.proofs.lemmas.Bool.{ne_eqb, false≢true}
 use Rattle.cpu12_isa.specs.declared.{instr.Regs.Regs, instr.Ccr.Ccr}
 use Rattle.cpu12_isa.specs.Flags.{has, put, opened, carry, overflow, hnzc, hnz}
 use Rattle.cpu12_isa.specs.{Act.outcome, Act.read_by, Memory.plus, Memory.word_of}
+use Rattle.cpu12_isa.proofs.Bits.{bits_of}
 use Rattle.cpu12_isa.proofs.Algebra.{bit, bit_or_is, bit_and_is, same_ccr, fits_put, fits_opened}
 use Rattle.cpu12_parts.specs.{declared.temps.Temps.Temps, Parts.rev, Parts.revw, Rules.rev_operands, Rules.revw_operands}
 use Rattle.cpu12_parts.specs.Laws.{RevIsWhole, RevwIsWhole}
-use Rattle.cpu12_parts.specs.{State.Outcome, Parts.rev_element, Parts.revw_element, Parts.weighted}
-use Rattle.cpu12_parts.proofs.RuleParts.{at_rules, gives, last_gives, Does, Walks, rules_are_whole}
+use Rattle.cpu12_parts.specs.{State.Outcome, Parts.rev_element, Parts.revw_element}
+use Rattle.cpu12_parts.proofs.RuleParts.{at_rules, gives, Does, Walks, rules_are_whole}
 
 abbrev regs_at : Regs → ℕ → ℕ → ℕ → Ccr → Regs
 regs_at r a x y c = record r { a = a; x = x; y = y; ccr = c }
@@ -45,8 +46,7 @@ rev_least : (flags : ℕ) (r : Regs) (t : Temps) (a x y e : ℕ) (c : Ccr) (mem 
     (gives r t (min a (get_or mem (plus y e) 0)) (plus x 1) y (opened c hnzc flags) []) (x ∷ plus y e ∷ [])
 rev_least flags r t a x y e c mem is l v =
     let h5 = ne_eqb e 255 (λ q. omega arith) in let h4 = ne_eqb e 254 (λ q. omega arith) in
-    rev_by flags r t a x y e c mem (gives r t (min a (get_or mem (plus y e) 0)) (plus x 1) y (opened c hnzc flags) [])
-    (plus y e ∷ []) is (rw (h5, h4, v)) (rw (h5, h4, v))
+    rev_by flags r t a x y e c mem _ _ is (rw (h5, h4, v)) (rw (h5, h4, v))
 
 rev_raise : (flags : ℕ) (r : Regs) (t : Temps) (a x y e : ℕ) (c : Ccr) (mem : List ℕ) → get_or mem x 0 ≡ e → e < 254
     → has c overflow ≡ true
@@ -55,9 +55,7 @@ rev_raise : (flags : ℕ) (r : Regs) (t : Temps) (a x y e : ℕ) (c : Ccr) (mem 
     (x ∷ plus y e ∷ [])
 rev_raise flags r t a x y e c mem is l v =
     let h5 = ne_eqb e 255 (λ q. omega arith) in let h4 = ne_eqb e 254 (λ q. omega arith) in
-    rev_by flags r t a x y e c mem
-    (gives r t a (plus x 1) y (opened c hnzc flags) ((plus y e, max (get_or mem (plus y e) 0) a) ∷ []))
-    (plus y e ∷ []) is (rw (h5, h4, v)) (rw (h5, h4, v))
+    rev_by flags r t a x y e c mem _ _ is (rw (h5, h4, v)) (rw (h5, h4, v))
 
 revw_least : (flags : ℕ) (r : Regs) (t : Temps) (a x y e : ℕ) (c : Ccr) (mem : List ℕ)
     → word_of (get_or mem x 0) (get_or mem (plus x 1) 0) ≡ e → e < 65534
@@ -66,8 +64,7 @@ revw_least : (flags : ℕ) (r : Regs) (t : Temps) (a x y e : ℕ) (c : Ccr) (mem
     (gives r t (min a (get_or mem e 0)) (plus x 2) y (opened c hnz flags) []) (x ∷ plus x 1 ∷ e ∷ [])
 revw_least flags r t a x y e c mem is l v =
     let h5 = ne_eqb e 65535 (λ q. omega arith) in let h4 = ne_eqb e 65534 (λ q. omega arith) in
-    revw_by flags r t a x y e c mem (gives r t (min a (get_or mem e 0)) (plus x 2) y (opened c hnz flags) [])
-    (e ∷ []) is (rw (h5, h4, v)) (rw (h5, h4, v))
+    revw_by flags r t a x y e c mem _ _ is (rw (h5, h4, v)) (rw (h5, h4, v))
 
 revw_raise : (flags : ℕ) (r : Regs) (t : Temps) (a x y e : ℕ) (c : Ccr) (mem : List ℕ)
     → word_of (get_or mem x 0) (get_or mem (plus x 1) 0) ≡ e → e < 65534
@@ -76,8 +73,7 @@ revw_raise : (flags : ℕ) (r : Regs) (t : Temps) (a x y e : ℕ) (c : Ccr) (mem
     (gives r t a (plus x 2) y (opened c hnz flags) ((e, max (get_or mem e 0) a) ∷ [])) (x ∷ plus x 1 ∷ e ∷ [])
 revw_raise flags r t a x y e c mem is l v =
     let h5 = ne_eqb e 65535 (λ q. omega arith) in let h4 = ne_eqb e 65534 (λ q. omega arith) in
-    revw_by flags r t a x y e c mem (gives r t a (plus x 2) y (opened c hnz flags) ((e, max (get_or mem e 0) a) ∷ []))
-    (e ∷ []) is (rw (h5, h4, v)) (rw (h5, h4, v))
+    revw_by flags r t a x y e c mem _ _ is (rw (h5, h4, v)) (rw (h5, h4, v))
 
 -- the flags that REV's part opens, or those that REVW's does
 abbrev IsMask : ℕ → Type 0
@@ -102,18 +98,19 @@ last_opened mask flags c is f g =
     (fits_last mask flags (opened c mask flags) (fits_opened c mask flags f g) g) (fits_last mask flags c f g)
     (elim is [ inl e ↦ rw e (simp (bit_or_is, bit_and_is)) | inr e ↦ rw e (simp (bit_or_is, bit_and_is)) ])
 
+last_bits : (mask flags : ℕ) (c : Ccr) (b : Bool) → IsMask mask
+    → bits_of (last mask flags (put (opened c mask flags) overflow b)).0 ≡ bits_of (last mask flags c).0
+last_bits mask flags c true (inl e) = rw e (simp (bit_or_is, bit_and_is))
+last_bits mask flags c true (inr e) = rw e (simp (bit_or_is, bit_and_is))
+last_bits mask flags c false (inl e) = rw e (simp (bit_or_is, bit_and_is))
+last_bits mask flags c false (inr e) = rw e (simp (bit_or_is, bit_and_is))
+
 last_put : (mask flags : ℕ) (c : Ccr) (b : Bool) → IsMask mask → c.0 < 2 ^ 8 → flags < 2 ^ 8
     → last mask flags (put (opened c mask flags) overflow b) ≡ last mask flags c
-last_put mask flags c true is f g =
-    same_ccr (last mask flags (put (opened c mask flags) overflow true)) (last mask flags c)
-    (fits_last mask flags (put (opened c mask flags) overflow true) (fits_put_opened mask flags c true f g) g)
-    (fits_last mask flags c f g)
-    (elim is [ inl e ↦ rw e (simp (bit_or_is, bit_and_is)) | inr e ↦ rw e (simp (bit_or_is, bit_and_is)) ])
-last_put mask flags c false is f g =
-    same_ccr (last mask flags (put (opened c mask flags) overflow false)) (last mask flags c)
-    (fits_last mask flags (put (opened c mask flags) overflow false) (fits_put_opened mask flags c false f g) g)
-    (fits_last mask flags c f g)
-    (elim is [ inl e ↦ rw e (simp (bit_or_is, bit_and_is)) | inr e ↦ rw e (simp (bit_or_is, bit_and_is)) ])
+last_put mask flags c b is f g =
+    same_ccr (last mask flags (put (opened c mask flags) overflow b)) (last mask flags c)
+    (fits_last mask flags (put (opened c mask flags) overflow b) (fits_put_opened mask flags c b f g) g)
+    (fits_last mask flags c f g) (last_bits mask flags c b is)
 
 -- where V is set, they are the opened ones
 opened_last : (mask flags : ℕ) (c : Ccr) → IsMask mask → c.0 < 2 ^ 8 → flags < 2 ^ 8 → has c overflow ≡ true
@@ -132,12 +129,9 @@ revw_weighing c false = simp bit_and_is
 
 pub rev_walks : (flags : ℕ) (r : Regs) (t : Temps) → Walks rev flags (rev_operands r.y) r t
 rev_walks flags r t = record {
-  stops = λ a x y c mem is. rev_by flags r t a x y 255 c mem (last_gives r t a (plus x 1) y (opened c hnzc flags)) []
-      is refl refl;
-  turns = λ a x y c mem is v. rev_by flags r t a x y 254 c mem
-      (gives r t 255 (plus x 1) y (put (opened c hnzc flags) overflow false) []) [] is (rw v) (rw v);
-  begins = λ a x y c mem is v o. rev_by flags r t a x y 254 c mem
-      (gives r t a (plus x 1) y (put (opened c hnzc flags) overflow true) []) [] is (rw v) (rw v);
+  stops = λ a x y c mem is. rev_by flags r t a x y 255 c mem _ _ is refl refl;
+  turns = λ a x y c mem is v. rev_by flags r t a x y 254 c mem _ _ is (rw v) (rw v);
+  begins = λ a x y c mem is v o. rev_by flags r t a x y 254 c mem _ _ is (rw v) (rw v);
   weighs = λ a x y c mem is v o. absurd (false≢true o);
   leasts = λ e a x y c mem is l v at. (let y0 = at refl in
       subst (λ (n : ℕ). Does rev flags (at_rules r t a x y c mem)
@@ -158,15 +152,10 @@ rev_walks flags r t = record {
 
 pub revw_walks : (flags : ℕ) (r : Regs) (t : Temps) → Walks revw flags revw_operands r t
 revw_walks flags r t = record {
-  stops = λ a x y c mem is. revw_by flags r t a x y 65535 c mem (last_gives r t a (plus x 2) y (opened c hnz flags)) []
-      is refl refl;
-  turns = λ a x y c mem is v. revw_by flags r t a x y 65534 c mem
-      (gives r t 255 (plus x 2) y (put (opened c hnz flags) overflow false) []) [] is (rw v) (rw v);
-  begins = λ a x y c mem is v o. revw_by flags r t a x y 65534 c mem
-      (gives r t a (plus x 2) y (put (opened c hnz flags) overflow true) []) [] is (rw (v, o)) (rw (v, o));
-  weighs = λ a x y c mem is v o. revw_by flags r t a x y 65534 c mem
-      (gives r t (weighted a (get_or mem y 0)) (plus x 2) (plus y 1) (put (opened c hnz flags) overflow true) [])
-      (y ∷ []) is (rw (v, o)) (rw (v, o));
+  stops = λ a x y c mem is. revw_by flags r t a x y 65535 c mem _ _ is refl refl;
+  turns = λ a x y c mem is v. revw_by flags r t a x y 65534 c mem _ _ is (rw v) (rw v);
+  begins = λ a x y c mem is v o. revw_by flags r t a x y 65534 c mem _ _ is (rw (v, o)) (rw (v, o));
+  weighs = λ a x y c mem is v o. revw_by flags r t a x y 65534 c mem _ _ is (rw (v, o)) (rw (v, o));
   leasts = λ e a x y c mem is l v at. revw_least flags r t a x y e c mem is l v;
   raises = λ e a x y c mem is l v at. revw_raise flags r t a x y e c mem is l v;
   element_stays = λ mem i v x n. ap₂ word_of (get_or-set_other mem i x v 0 n.0)

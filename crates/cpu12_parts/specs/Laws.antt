@@ -9,8 +9,8 @@ use Rattle.cpu12_parts.specs.declared.temps.Temps.{Temps}
 use Rattle.cpu12_parts.specs.declared.temps.Temps.TheVariants.{Free, Running, OnStack}
 use Rattle.cpu12_parts.specs.declared.temps.PartEnd.TheVariants.{More, Done}
 use Rattle.cpu12_parts.specs.Parts.{Kind, rev, revw, wav, part_of, after_part, suspended, resumed, cut_run, EndsWith}
-use Rattle.cpu12_parts.specs.Rules.{Rule, rev_operands, revw_operands, elements_of, rules_read, rules_written, AreReady}
-use Rattle.cpu12_parts.specs.Rules.{rules_whole}
+use Rattle.cpu12_parts.specs.Rules.{Rule, RuleOperands, rev_operands, revw_operands, elements_of, rules_read}
+use Rattle.cpu12_parts.specs.Rules.{rules_whole, rules_written, AreReady}
 use Rattle.cpu12_parts.specs.{State.State, Averages.wav_read, Averages.wav_whole}
 
 -- the next part reads at no address of one set, and writes at none of another
@@ -78,24 +78,22 @@ CutsChangeNothing k =
 abbrev pub state_of : Regs → Temps → List ℕ → State
 state_of r t mem = record { regs = r; temps = t; mem = mem }
 
--- REV's parts make the whole instruction: as many as its list has elements, and they touch only what it does.
-abbrev pub RevIsWhole : Type 0
-RevIsWhole =
+-- the parts of an instruction whose rules lie so in memory make the whole of it: as many as its list has elements, and
+-- they touch only what it does
+abbrev pub RulesAreWhole : Kind → (State → RuleOperands) → Type 0
+RulesAreWhole k f =
     (flags : ℕ) (r : Regs) (t : Temps) (mem : List ℕ) (p : Rule) (ps : List Rule) (d : ℕ) (unread unwritten : ℕ → Bool)
-    → flags < 2 ^ 8 → r.ccr.0 < 2 ^ 8
-    → AreReady (rev_operands r.y) r mem p ps → length (elements_of (rev_operands r.y) p ps) ≡ suc d
-    → AllShown unread (rules_read (rev_operands r.y) r p ps)
-    → AllShown unwritten (rules_written (rev_operands r.y) p ps)
-    → PartsTo rev flags unread unwritten d (state_of r t mem) (rules_whole (rev_operands r.y) flags r t mem p ps)
+    → let o = f (state_of r t mem) in
+    flags < 2 ^ 8 → r.ccr.0 < 2 ^ 8 → AreReady o r mem p ps → length (elements_of o p ps) ≡ suc d
+    → AllShown unread (rules_read o r p ps) → AllShown unwritten (rules_written o p ps)
+    → PartsTo k flags unread unwritten d (state_of r t mem) (rules_whole o flags r t mem p ps)
 
--- So do REVW's.
+-- REV's do, and REVW's
+abbrev pub RevIsWhole : Type 0
+RevIsWhole = RulesAreWhole rev (λ s. rev_operands s.regs.y)
+
 abbrev pub RevwIsWhole : Type 0
-RevwIsWhole =
-    (flags : ℕ) (r : Regs) (t : Temps) (mem : List ℕ) (p : Rule) (ps : List Rule) (d : ℕ) (unread unwritten : ℕ → Bool)
-    → flags < 2 ^ 8 → r.ccr.0 < 2 ^ 8
-    → AreReady revw_operands r mem p ps → length (elements_of revw_operands p ps) ≡ suc d
-    → AllShown unread (rules_read revw_operands r p ps) → AllShown unwritten (rules_written revw_operands p ps)
-    → PartsTo revw flags unread unwritten d (state_of r t mem) (rules_whole revw_operands flags r t mem p ps)
+RevwIsWhole = RulesAreWhole revw (λ s. revw_operands)
 
 -- the sums do not run
 abbrev pub IsOff : Temps → Type 0
@@ -112,23 +110,20 @@ WavIsWhole =
 -- Over all cuts: from where the whole instruction is defined, and no byte that it reads is one of the six below SP, the
 -- parts end after as many as there are elements, wherever they are cut, and in the whole instruction's state but for
 -- those six bytes.
+abbrev pub RulesOverCuts : Kind → (State → RuleOperands) → Type 0
+RulesOverCuts k f =
+    (flags : ℕ) (r : Regs) (t : Temps) (mem : List ℕ) (p : Rule) (ps : List Rule) (cs : List Bool)
+    → let o = f (state_of r t mem) in
+    flags < 2 ^ 8 → r.ccr.0 < 2 ^ 8 → length mem ≡ 65536 → r.sp < 2 ^ 16 → AreReady o r mem p ps
+    → AllShown (below 6 r.sp) (rules_read o r p ps) → length (elements_of o p ps) ≡ suc (length cs)
+    → EndsWith k flags cs (state_of r t mem)
+    × IsLike (cut_run k flags cs (state_of r t mem)) (rules_whole o flags r t mem p ps)
+
 abbrev pub RevOverCuts : Type 0
-RevOverCuts =
-    (flags : ℕ) (r : Regs) (t : Temps) (mem : List ℕ) (p : Rule) (ps : List Rule) (cs : List Bool) → flags < 2 ^ 8
-    → r.ccr.0 < 2 ^ 8 → length mem ≡ 65536 → r.sp < 2 ^ 16
-    → AreReady (rev_operands r.y) r mem p ps → AllShown (below 6 r.sp) (rules_read (rev_operands r.y) r p ps)
-    → length (elements_of (rev_operands r.y) p ps) ≡ suc (length cs)
-    → EndsWith rev flags cs (state_of r t mem)
-    × IsLike (cut_run rev flags cs (state_of r t mem)) (rules_whole (rev_operands r.y) flags r t mem p ps)
+RevOverCuts = RulesOverCuts rev (λ s. rev_operands s.regs.y)
 
 abbrev pub RevwOverCuts : Type 0
-RevwOverCuts =
-    (flags : ℕ) (r : Regs) (t : Temps) (mem : List ℕ) (p : Rule) (ps : List Rule) (cs : List Bool) → flags < 2 ^ 8
-    → r.ccr.0 < 2 ^ 8 → length mem ≡ 65536 → r.sp < 2 ^ 16
-    → AreReady revw_operands r mem p ps → AllShown (below 6 r.sp) (rules_read revw_operands r p ps)
-    → length (elements_of revw_operands p ps) ≡ suc (length cs)
-    → EndsWith revw flags cs (state_of r t mem)
-    × IsLike (cut_run revw flags cs (state_of r t mem)) (rules_whole revw_operands flags r t mem p ps)
+RevwOverCuts = RulesOverCuts revw (λ s. revw_operands)
 
 abbrev pub WavOverCuts : Type 0
 WavOverCuts =

@@ -29,32 +29,34 @@ met s r t at = Get at (λ v.
     if has s.ccr overflow then Give (record { regs = r; temps = t; writes = (at, max v s.a) ∷ []; end = More })
     else leaving (record r { a = min s.a v }) t More)
 
+-- An element e of a list: the one that ends it; the separator, which with V 1 begins a rule and with V 0 turns to
+-- conclusions; or one that names a byte, the one at an address. s has the registers before the part, r those after.
+abbrev pub element : Regs → Regs → Temps → (stop separator e : ℕ) → (turned : Act Outcome) → (at : ℕ) → Act Outcome
+element s r t stop separator e turned at =
+    if e == stop then leaving (passed r 2) t Done
+    else (if e == separator then (
+    if has s.ccr overflow then leaving (record r { a = 255; ccr = put r.ccr overflow false }) t More else turned)
+    else met s r t at)
+
 -- the element e of REV's list
 abbrev pub rev_element : ℕ → Regs → Temps → ℕ → Act Outcome
 rev_element flags s t e =
     let r = record s { x = plus s.x 1; ccr = opened s.ccr hnzc flags } in
-    if e == 255 then leaving (passed r 2) t Done
-    else (if e == 254 then (
-    if has s.ccr overflow then leaving (record r { a = 255; ccr = put r.ccr overflow false }) t More
-    else leaving (record r { ccr = put r.ccr overflow true }) t More)
-    else met s r t (plus s.y e))
+    element s r t 255 254 e (leaving (record r { ccr = put r.ccr overflow true }) t More) (plus s.y e)
 
 -- one part of REV: the byte at X
 abbrev pub rev_act : ℕ → Regs → Temps → Act Outcome
 rev_act flags s t = Get s.x (rev_element flags s t)
 
--- the element e of REVW's list
+-- the element e of REVW's list, where turning to conclusions with C 1 takes a weight
 abbrev pub revw_element : ℕ → Regs → Temps → ℕ → Act Outcome
 revw_element flags s t e =
     let r = record s { x = plus s.x 2; ccr = opened s.ccr hnz flags } in
-    if e == 65535 then leaving (passed r 2) t Done
-    else (if e == 65534 then (
-    if has s.ccr overflow then leaving (record r { a = 255; ccr = put r.ccr overflow false }) t More
-    else (if has s.ccr carry
-    then Get s.y
-    (λ w. leaving (record r { a = weighted s.a w; y = plus s.y 1; ccr = put r.ccr overflow true }) t More)
-    else leaving (record r { ccr = put r.ccr overflow true }) t More))
-    else met s r t e)
+    let turned = record r { ccr = put r.ccr overflow true } in
+    element s r t 65535 65534 e (
+    if has s.ccr carry
+    then Get s.y (λ w. leaving (record turned { a = weighted s.a w; y = plus s.y 1 }) t More)
+    else leaving turned t More) e
 
 -- one part of REVW: the word at X
 abbrev pub revw_act : ℕ → Regs → Temps → Act Outcome
@@ -128,11 +130,6 @@ pub record Kind : Type 0 where
   pub act : ℕ → Regs → Temps → Act Outcome
   pub push : Regs → Temps → Act Outcome
   pub pull : Regs → Temps → Act Outcome
-
--- the kind with these three acts
-abbrev pub kind_by : (ℕ → Regs → Temps → Act Outcome) → (Regs → Temps → Act Outcome) → (Regs → Temps → Act Outcome)
-    → Kind
-kind_by act push pull = record { act = act; push = push; pull = pull }
 
 abbrev pub rev : Kind
 rev = record { act = rev_act; push = nothing; pull = nothing }

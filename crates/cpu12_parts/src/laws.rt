@@ -1,5 +1,5 @@
 //! Laws of the parts.
-ghost use Rattle.cpu12_parts.specs.Parts.{kind_by, rev, revw, wav};
+ghost use Rattle.cpu12_parts.specs.Parts.{rev, revw, wav};
 ghost use Rattle.cpu12_parts.specs.Inside.{own_address, second_byte, GoesOnAt, LeavesSums, WritesNothing};
 ghost use Rattle.cpu12_parts.specs.Inside.{PushesRunning, PushesNone};
 ghost use Rattle.cpu12_parts.specs.Laws.{AreKept, Any, GoesOn, WritesBelow, KeepsNothing, IsSteady};
@@ -15,12 +15,10 @@ use cpu12_isa::laws::writes_agree;
 /// and then `resume`, end after as many parts as the whole instruction has, and in its state except for the six
 /// bytes below SP, provided that it reads none of these.
 pub fn over_cuts<R: Resumable>(k: &R)
-    ensures { OverCuts (kind_by (R.act k.now) (R.push k.now) (R.pull k.now)) (R.whole k.now) }
+    ensures { OverCuts (R.kind k.now) (R.whole k.now) }
 {
     writes_agree();
-    k.goes_on();
-    k.is_steady();
-    k.makes_whole();
+    k.is_lawful();
 }
 
 /// WAV's `resume` restores what its `suspend` pushed.

@@ -1,7 +1,7 @@
 //! REV and REVW: rule evaluation (CPU12 Reference Manual, section 9.5).
 ghost use Rattle.std.specs.Prelude.{ℕ, ◌≡◌, ◌+◌, ◌*◌, ◌/◌, ◌^◌, List, slice_index};
 ghost use Rattle.cpu12_isa.specs.Act.{outcome, write_all};
-ghost use Rattle.cpu12_parts.specs.Parts.{rev_act, revw_act, weighted, met, nothing};
+ghost use Rattle.cpu12_parts.specs.Parts.{rev, revw, weighted, met};
 ghost use Rattle.cpu12_parts.specs.{Laws.Any, Owed.whole_rev, Owed.whole_revw};
 
 use crate::laws::{
@@ -21,11 +21,7 @@ pub struct Rev;
 pub struct Revw;
 
 impl Resumable for Rev {
-    ghost act = { λ _. rev_act };
-
-    ghost push = { λ _. nothing };
-
-    ghost pull = { λ _. nothing };
+    ghost kind = { λ _. rev };
 
     ghost kept = { λ _. Any };
 
@@ -61,17 +57,9 @@ impl Resumable for Rev {
 
     fn resume<M: Mem>(&self, _r: &mut Regs, _m: &mut M, _t: &mut Temps) {}
 
-    fn goes_on(&self) {
+    fn is_lawful(&self) {
         rev_keeps_nothing();
-    }
-
-    fn writes_below(&self) {}
-
-    fn is_steady(&self) {
         rev_steady();
-    }
-
-    fn makes_whole(&self) {
         rev_is_whole();
     }
 }
@@ -84,11 +72,7 @@ fn weighted(a: u8, w: u8) -> u8
 }
 
 impl Resumable for Revw {
-    ghost act = { λ _. revw_act };
-
-    ghost push = { λ _. nothing };
-
-    ghost pull = { λ _. nothing };
+    ghost kind = { λ _. revw };
 
     ghost kept = { λ _. Any };
 
@@ -127,17 +111,9 @@ impl Resumable for Revw {
 
     fn resume<M: Mem>(&self, _r: &mut Regs, _m: &mut M, _t: &mut Temps) {}
 
-    fn goes_on(&self) {
+    fn is_lawful(&self) {
         revw_keeps_nothing();
-    }
-
-    fn writes_below(&self) {}
-
-    fn is_steady(&self) {
         revw_steady();
-    }
-
-    fn makes_whole(&self) {
         revw_is_whole();
     }
 }

@@ -1,8 +1,8 @@
 //! What an instruction executed in parts keeps between them.
 ghost use Rattle.std.specs.Prelude.{ℕ, ◌≡◌, List};
-ghost use Rattle.cpu12_isa.specs.{declared.instr.Regs.Regs, Act.Act, Act.outcome, Act.write_all};
-ghost use Rattle.cpu12_parts.specs.{declared.temps.Temps.Temps, State.State, State.Outcome, Parts.kind_by};
-ghost use Rattle.cpu12_parts.specs.{Laws.GoesOn, Laws.WritesBelow, Laws.IsSteady, Owed.MakesWhole};
+ghost use Rattle.cpu12_parts.specs.{declared.temps.Temps.Temps, State.State, Owed.MakesWhole};
+ghost use Rattle.cpu12_parts.specs.Parts.{Kind, part_of, after_part, suspended, resumed};
+ghost use Rattle.cpu12_parts.specs.Laws.{GoesOn, WritesBelow, IsSteady, state_of};
 
 use cpu12_isa::instr::Regs;
 use cpu12_isa::mem::Mem;
@@ -24,18 +24,11 @@ pub enum PartEnd {
 
 /// An instruction that is executed in parts, and can be interrupted between two of them. No call allocates memory.
 ///
-/// `goes_on`, `writes_below`, `is_steady` and `makes_whole` do nothing: they are the laws that an implementation
-/// has to prove. The law over all cuts follows from them for each implementation
-/// ([`over_cuts`](crate::laws::over_cuts)).
+/// `is_lawful` does nothing: it states the laws that an implementation has to prove. The law over all cuts follows
+/// from them for each implementation ([`over_cuts`](crate::laws::over_cuts)).
 pub trait Resumable {
-    /// One part with a byte FLAGS, from registers and sums.
-    ghost act: { Self → ℕ → Regs → Temps → Act Outcome };
-
-    /// What is pushed before an interrupt.
-    ghost push: { Self → Regs → Temps → Act Outcome };
-
-    /// What is pulled after it.
-    ghost pull: { Self → Regs → Temps → Act Outcome };
+    /// One part, what is pushed before an interrupt, and what is pulled after it.
+    ghost kind: { Self → Kind };
 
     /// The sums that there may be between two parts.
     ghost kept: { Self → Temps → Type 0 };
@@ -46,42 +39,32 @@ pub trait Resumable {
 
     /// Executes one part. Flags that the manual leaves undefined take their bits from `flags`.
     fn part<M: Mem>(&self, r: &mut Regs, m: &mut M, t: &mut Temps, flags: u8) -> PartEnd
-        ensures regs { r.new ≡ (outcome (act self.now flags r.old t.old) (M.bytes m.old)).regs }
-        ensures mem { M.bytes m.new ≡ write_all (outcome (act self.now flags r.old t.old)
-            (M.bytes m.old)).writes (M.bytes m.old) }
+        ensures regs { r.new ≡ (part_of (kind self.now) flags (state_of r.old t.old (M.bytes m.old))).regs }
+        ensures mem { M.bytes m.new ≡ (after_part (kind self.now) flags (state_of r.old t.old (M.bytes m.old))).mem }
         ensures tags { M.tags m.new ≡ M.tags m.old }
-        ensures temps { t.new ≡ (outcome (act self.now flags r.old t.old) (M.bytes m.old)).temps }
-        ensures end { result ≡ (outcome (act self.now flags r.old t.old) (M.bytes m.old)).end };
+        ensures temps { t.new ≡ (part_of (kind self.now) flags (state_of r.old t.old (M.bytes m.old))).temps }
+        ensures end { result ≡ (part_of (kind self.now) flags (state_of r.old t.old (M.bytes m.old))).end };
 
     /// Pushes what is kept between parts, before an interrupt is taken.
     fn suspend<M: Mem>(&self, r: &mut Regs, m: &mut M, t: &mut Temps)
-        ensures regs { r.new ≡ (outcome (push self.now r.old t.old) (M.bytes m.old)).regs }
-        ensures mem { M.bytes m.new ≡ write_all (outcome (push self.now r.old t.old)
-            (M.bytes m.old)).writes (M.bytes m.old) }
+        ensures regs { r.new ≡ (suspended (kind self.now) (state_of r.old t.old (M.bytes m.old))).regs }
+        ensures mem { M.bytes m.new ≡ (suspended (kind self.now) (state_of r.old t.old (M.bytes m.old))).mem }
         ensures tags { M.tags m.new ≡ M.tags m.old }
-        ensures temps { t.new ≡ (outcome (push self.now r.old t.old) (M.bytes m.old)).temps };
+        ensures temps { t.new ≡ (suspended (kind self.now) (state_of r.old t.old (M.bytes m.old))).temps };
 
     /// Pulls what was kept between parts.
     fn resume<M: Mem>(&self, r: &mut Regs, m: &mut M, t: &mut Temps)
-        ensures regs { r.new ≡ (outcome (pull self.now r.old t.old) (M.bytes m.old)).regs }
-        ensures mem { M.bytes m.new ≡ write_all (outcome (pull self.now r.old t.old)
-            (M.bytes m.old)).writes (M.bytes m.old) }
+        ensures regs { r.new ≡ (resumed (kind self.now) (state_of r.old t.old (M.bytes m.old))).regs }
+        ensures mem { M.bytes m.new ≡ (resumed (kind self.now) (state_of r.old t.old (M.bytes m.old))).mem }
         ensures tags { M.tags m.new ≡ M.tags m.old }
-        ensures temps { t.new ≡ (outcome (pull self.now r.old t.old) (M.bytes m.old)).temps };
+        ensures temps { t.new ≡ (resumed (kind self.now) (state_of r.old t.old (M.bytes m.old))).temps };
 
-    /// `resume` restores what `suspend` pushed: all is as it was, except for the six bytes below SP.
-    fn goes_on(&self)
-        ensures { GoesOn (kind_by (act self.now) (push self.now) (pull self.now)) (kept self.now) };
-
-    /// `suspend` writes only below SP as it was, and `resume` writes nothing.
-    fn writes_below(&self)
-        ensures { WritesBelow (kind_by (act self.now) (push self.now) (pull self.now)) };
-
-    /// A part leaves SP unchanged, and sums that there may be between parts.
-    fn is_steady(&self)
-        ensures { IsSteady (kind_by (act self.now) (push self.now) (pull self.now)) (kept self.now) };
-
-    /// The parts make up the whole instruction, and each reads and writes only where it does.
-    fn makes_whole(&self)
-        ensures { MakesWhole (kind_by (act self.now) (push self.now) (pull self.now)) (whole self.now) };
+    /// `resume` restores what `suspend` pushed: all is as it was, except for the six bytes below SP. `suspend` writes
+    /// only below SP as it was, and `resume` writes nothing. A part leaves SP unchanged, and sums that there may be
+    /// between parts. The parts make up the whole instruction, and each reads and writes only where it does.
+    fn is_lawful(&self)
+        ensures goes_on { GoesOn (kind self.now) (kept self.now) }
+        ensures below { WritesBelow (kind self.now) }
+        ensures steady { IsSteady (kind self.now) (kept self.now) }
+        ensures whole { MakesWhole (kind self.now) (whole self.now) };
 }

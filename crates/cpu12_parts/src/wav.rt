@@ -1,7 +1,7 @@
 //! WAV: the weighted average (CPU12 Reference Manual, section 9.6).
 ghost use Rattle.std.specs.Prelude.{ℕ, ◌≡◌, ◌<◌, ◌/◌, ◌%◌, ◌^◌};
 ghost use Rattle.cpu12_isa.specs.Memory.{plus};
-ghost use Rattle.cpu12_parts.specs.Parts.{wav_act, wav_end, wav_push, wav_pull};
+ghost use Rattle.cpu12_parts.specs.Parts.{wav, wav_end};
 ghost use Rattle.cpu12_parts.specs.{Laws.AreKept, Owed.WholeAverage};
 
 use crate::laws::{wav_goes_on, wav_is_whole, wav_steady, wav_writes_below};
@@ -28,11 +28,7 @@ fn end(r: &mut Regs, product: u32, weight: u16, flags: u8)
 }
 
 impl Resumable for Wav {
-    ghost act = { λ _. wav_act };
-
-    ghost push = { λ _. wav_push };
-
-    ghost pull = { λ _. wav_pull };
+    ghost kind = { λ _. wav };
 
     ghost kept = { λ _. AreKept };
 
@@ -94,19 +90,10 @@ impl Resumable for Wav {
         *t = Temps::Running(product_high as u32 * 65536 + product_low as u32, weight);
     }
 
-    fn goes_on(&self) {
+    fn is_lawful(&self) {
         wav_goes_on();
-    }
-
-    fn writes_below(&self) {
         wav_writes_below();
-    }
-
-    fn is_steady(&self) {
         wav_steady();
-    }
-
-    fn makes_whole(&self) {
         wav_is_whole();
     }
 }

@@ -1,5 +1,6 @@
-use Rattle.cpu12_parts.proofs.OverCuts.{rev_over_cuts}
+use Rattle.cpu12_parts.specs.{Parts.rev, Rules.rev_operands}
+use Rattle.cpu12_parts.proofs.OverCuts.{rules_over_cuts}
 use Rattle.cpu12_parts.proofs.laws.rev_over_cuts.Goals as goal
 
 pub returns : goal.returns
-returns c = rev_over_cuts c.rev_cuts.ensures c.rev_is_whole.ensures
+returns c = rules_over_cuts rev (λ s. rev_operands s.regs.y) c.rev_cuts.ensures c.rev_is_whole.ensures
