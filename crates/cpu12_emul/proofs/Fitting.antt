@@ -8,7 +8,7 @@ use Rattle.cpu12_isa.specs.{Memory.from, Memory.bytes_at, Code.FitsOperands, Cod
 use Rattle.cpu12_isa.proofs.Algebra.{outcome_bind, bytes_at_fit}
 use Rattle.cpu12_parts.specs.{declared.temps.Temps.Temps, Laws.IsOff, Laws.state_of}
 use Rattle.cpu12_parts.specs.declared.temps.Temps.TheVariants.{Free, Running, OnStack}
-use Rattle.cpu12_parts.specs.Parts.{sums_of, wav_pull, rev, revw, wav}
+use Rattle.cpu12_parts.specs.Parts.{sums_of, six_pulled, wav_pull, rev, revw, wav}
 use Rattle.cpu12_parts.specs.Fits.{FitsTemps, FitsState, FitsOutcome, PartFits}
 use Rattle.cpu12_parts.specs.{State.State, State.Outcome, Parts.rev_act, Parts.revw_act, Parts.wav_act}
 use Rattle.cpu12_emul.specs.Step.{Left, Next, left_by_part, left_by_plain, instruction_act, step_act, applied}
@@ -49,22 +49,17 @@ sums_fit vs b =
     let b5 : get_or vs 5 0 < 2 ^ 8 = b 5 in
     (omega arith, omega arith)
 
+six_fit : (r : Regs) (m : List ℕ) → FitsRegs r → AreBytes m → FitsOutcome (outcome (six_pulled r) m)
+six_fit r m f b = record {
+  regs = record { a = f.a; b = f.b; x = f.x; y = f.y; sp = omega arith; pc = f.pc; ccr = f.ccr };
+  temps = sums_fit (bytes_at m (from r.sp 6)) (bytes_at_fit m (from r.sp 6) b);
+  writes = tt;
+}
+
 pulls_fit : (r : Regs) (t : Temps) (m : List ℕ) → FitsRegs r → FitsTemps t → AreBytes m
     → FitsOutcome (outcome (wav_pull r t) m)
-pulls_fit r Free m f ft b =
-    record {
-      regs = record { a = f.a; b = f.b; x = f.x; y = f.y; sp = omega arith; pc = f.pc; ccr = f.ccr };
-      temps =
-          sums_fit (bytes_at m (from r.sp 6)) (bytes_at_fit m (from r.sp 6) b);
-      writes = tt;
-    }
-pulls_fit r OnStack m f ft b =
-    record {
-      regs = record { a = f.a; b = f.b; x = f.x; y = f.y; sp = omega arith; pc = f.pc; ccr = f.ccr };
-      temps =
-          sums_fit (bytes_at m (from r.sp 6)) (bytes_at_fit m (from r.sp 6) b);
-      writes = tt;
-    }
+pulls_fit r Free m f ft b = six_fit r m f b
+pulls_fit r OnStack m f ft b = six_fit r m f b
 pulls_fit r (Running p w) m f ft b = record { regs = f; temps = ft; writes = tt }
 
 instruction_fits : InstructionsFit → (flags : ℕ) (r : Regs) (t : Temps) (m : List ℕ) (d : Result Instr ℕ)

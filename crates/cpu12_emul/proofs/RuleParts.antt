@@ -9,13 +9,15 @@ use Rattle.cpu12_isa.specs.Memory.{plus, word_of, bytes_at}
 use Rattle.cpu12_isa.specs.declared.instr.Instr.TheVariants.{Rev, Revw}
 use Rattle.cpu12_isa.specs.{Act.Act, Act.outcome, Act.write_all, Code.decode_at, Code.decode_of}
 use Rattle.cpu12_parts.specs.declared.{temps.Temps.Temps, temps.PartEnd.PartEnd}
-use Rattle.cpu12_parts.specs.Parts.{Kind, rev, revw, part_of, after_part, leaving, met, rev_element, revw_element}
+use Rattle.cpu12_parts.specs.Parts.{Kind, rev, revw, part_of, after_part, leaving, met, element, rev_element}
+use Rattle.cpu12_parts.specs.Parts.{revw_element}
 use Rattle.cpu12_parts.specs.Laws.{IsOff, IsSteady, Any, state_of}
 use Rattle.cpu12_parts.specs.declared.temps.PartEnd.TheVariants.{More, Done}
 use Rattle.cpu12_parts.specs.{Inside.own_address, Inside.GoesOnAt, Inside.LeavesSums, State.State, State.Outcome}
 use Rattle.cpu12_emul.specs.declared.ends.Stepped.TheVariants.{Part}
-use Rattle.cpu12_emul.specs.Ruling.{Stands, GoesOnBeside, RevGoesOn, RevwGoesOn, Ruled}
+use Rattle.cpu12_emul.specs.Ruling.{Stands, GoesOnBeside, RevGoesOn, RevwGoesOn, Ruled, RulesWhere}
 use Rattle.cpu12_emul.specs.{Simulation.PartIsStep, Step.Left, Step.kind_of, Step.applied, Step.next_of}
+use Rattle.cpu12_emul.specs.{Run.PartsTo, Step.Whole}
 use Rattle.cpu12_emul.proofs.{Runs.PartsTo-append, Stepping.rev_is_step, Stepping.revw_is_step}
 
 -- The part goes on, and writes at most the byte at one address.
@@ -42,37 +44,32 @@ met_passes s r t at m =
 not_stop : (P : Type 0) (e stop : ℕ) → e ≢ stop → (e == stop) ≡ true → P
 not_stop P e stop ne eq = absurd (ne (eqb-true e stop eq))
 
+element_passes : (s r : Regs) (t : Temps) (stop separator e : ℕ) (turned : Act Outcome) (at : ℕ) (m : List ℕ)
+    → e ≢ stop → Passes at m (outcome turned m)
+    → Passes at m (outcome (element s r t stop separator e turned at) m)
+element_passes s r t stop separator e turned at m ne passes =
+    let first : Regs = record r { a = 255; ccr = put r.ccr overflow false } in
+    choice (Passes at m) m (e == stop) (leaving (record r { pc = plus r.pc 2 }) t Done) _ (not_stop _ e stop ne)
+    (choice (Passes at m) m (e == separator) _ (met s r t at)
+    (λ _. choice (Passes at m) m (has s.ccr overflow) (leaving first t More) turned
+    (λ _. passes_leaving at m first t) passes)
+    (met_passes s r t at m))
+
 rev_passes : (flags : ℕ) (r : Regs) (t : Temps) (e : ℕ) (m : List ℕ) → e ≢ 255
     → Passes (plus r.y e) m (outcome (rev_element flags r t e) m)
 rev_passes flags r t e m ne =
-    let at = plus r.y e in
-    let c = opened r.ccr hnzc flags in
-    let s : Regs = record r { x = plus r.x 1; ccr = c } in
-    choice (Passes at m) m (e == 255) (leaving (record s { pc = plus s.pc 2 }) t Done) _
-    (not_stop _ e 255 ne)
-    (choice (Passes at m) m (e == 254) _ (met r s t at)
-    (λ _. choice (Passes at m) m (has r.ccr overflow)
-    (leaving (record s { a = 255; ccr = put c overflow false }) t More)
-    (leaving (record s { ccr = put c overflow true }) t More)
-    (λ _. passes_leaving at m (record s { a = 255; ccr = put c overflow false }) t)
-    (passes_leaving at m (record s { ccr = put c overflow true }) t))
-    (met_passes r s t at m))
+    let s : Regs = record r { x = plus r.x 1; ccr = opened r.ccr hnzc flags } in
+    let turned : Regs = record s { ccr = put s.ccr overflow true } in
+    element_passes r s t 255 254 e (leaving turned t More) (plus r.y e) m ne (passes_leaving (plus r.y e) m turned t)
 
 revw_passes : (flags : ℕ) (r : Regs) (t : Temps) (e : ℕ) (m : List ℕ) → e ≢ 65535
     → Passes e m (outcome (revw_element flags r t e) m)
 revw_passes flags r t e m ne =
-    let c = opened r.ccr hnz flags in
-    let s : Regs = record r { x = plus r.x 2; ccr = c } in
-    choice (Passes e m) m (e == 65535) (leaving (record s { pc = plus s.pc 2 }) t Done) _
-    (not_stop _ e 65535 ne)
-    (choice (Passes e m) m (e == 65534) _ (met r s t e)
-    (λ _. choice (Passes e m) m (has r.ccr overflow)
-    (leaving (record s { a = 255; ccr = put c overflow false }) t More) _
-    (λ _. record { end = refl; others = λ k n. refl })
-    (choice (Passes e m) m (has r.ccr carry) _ (leaving (record s { ccr = put c overflow true }) t More)
-    (λ _. record { end = refl; others = λ k n. refl })
-    (record { end = refl; others = λ k n. refl })))
-    (met_passes r s t e m))
+    let s : Regs = record r { x = plus r.x 2; ccr = opened r.ccr hnz flags } in
+    let turned : Regs = record s { ccr = put s.ccr overflow true } in
+    element_passes r s t 65535 65534 e _ e m ne
+    (choice (Passes e m) m (has r.ccr carry) _ (leaving turned t More)
+    (λ _. record { end = refl; others = λ k n. refl }) (passes_leaving e m turned t))
 
 -- The part goes on, and leaves the two bytes at PC.
 pub record Keeps (pc : ℕ) (m : List ℕ) (o : Outcome) : Type 0 where
@@ -99,15 +96,6 @@ revw_keeps flags s on =
     keeps_beside 65535 e e s.regs.pc s.mem (part_of revw flags s) on
     (revw_passes flags s.regs s.temps e s.mem on.goes_on)
 
--- an instruction in parts that stays at PC, and keeps its bytes where a part goes on
-pub record Ruling (i : Instr) (k : Kind) (opcode : ℕ) (On : List ℕ → Regs → Type 0) : Type 0 where
-  pub is_step : PartIsStep i k
-  pub decoded : (mem : List ℕ) (pc : ℕ) → Stands opcode pc mem → decode_at mem pc ≡ Ok i
-  pub keeps : (flags : ℕ) (s : State) → On s.mem s.regs → Keeps s.regs.pc s.mem (part_of k flags s)
-  pub stays : GoesOnAt own_address k
-  pub sums : LeavesSums k
-  pub stack : (flags : ℕ) (s : State) → (part_of k flags s).regs.sp ≡ s.regs.sp
-
 decoded_by : (i : Instr) (opcode : ℕ) → ((rest : List ℕ) → decode_of (0x18 ∷ opcode ∷ rest) ≡ Ok i)
     → (mem : List ℕ) (pc : ℕ) → Stands opcode pc mem → decode_at mem pc ≡ Ok i
 decoded_by i opcode is mem pc s =
@@ -115,59 +103,47 @@ decoded_by i opcode is mem pc s =
     ap (λ (b : ℕ). decode_of (b ∷ get_or mem (plus pc 1) 0 ∷ rest)) s.prebyte
     ∙ ap (λ (b : ℕ). decode_of (0x18 ∷ b ∷ rest)) s.code ∙ is rest
 
-pub rev_ruling : GoesOnAt own_address rev → LeavesSums rev → IsSteady rev Any → Ruling Rev rev 0x3A RevGoesOn
-rev_ruling stays sums steady = record {
-  is_step = rev_is_step;
-  decoded = decoded_by Rev 0x3A (λ rest. refl);
-  keeps = rev_keeps;
-  stays = stays;
-  sums = sums;
-  stack = steady.stack;
-}
-
-pub revw_ruling : GoesOnAt own_address revw → LeavesSums revw → IsSteady revw Any → Ruling Revw revw 0x3B RevwGoesOn
-revw_ruling stays sums steady = record {
-  is_step = revw_is_step;
-  decoded = decoded_by Revw 0x3B (λ rest. refl);
-  keeps = revw_keeps;
-  stays = stays;
-  sums = sums;
-  stack = steady.stack;
-}
-
--- one part
-Ruled-one : {i : Instr} {k : Kind} {opcode : ℕ} {On : List ℕ → Regs → Type 0} (flags : ℕ) (s : State)
-    → Ruling i k opcode On
-    → Keeps s.regs.pc s.mem (part_of k flags s) → IsOff s.temps → Stands opcode s.regs.pc s.mem
-    → Ruled opcode flags s (after_part k flags s) 1
-Ruled-one {i} {k} {opcode} flags s law keeps off stands =
+-- one part of an instruction in parts that stays at PC, and keeps its bytes where a part goes on
+Ruled-one : (i : Instr) (k : Kind) (opcode : ℕ) (On : List ℕ → Regs → Type 0) → PartIsStep i k
+    → ((rest : List ℕ) → decode_of (0x18 ∷ opcode ∷ rest) ≡ Ok i)
+    → ((flags : ℕ) (s : State) → On s.mem s.regs → Keeps s.regs.pc s.mem (part_of k flags s))
+    → GoesOnAt own_address k → LeavesSums k → IsSteady k Any → RulesWhere k opcode On
+Ruled-one i k opcode On is_step is keeps stays sums steady flags s on off stands =
     let t : State = after_part k flags s in
+    let kept = keeps flags s on in
     let step : next_of flags s ≡ Ok (record { state = t; kind = Part }) =
-    ap (λ (l : Result Left ℕ). applied l s.mem) (law.is_step flags s off (law.decoded s.mem s.regs.pc stands)).0
-    ∙ ap (λ (end : PartEnd). Ok (record { state = t; kind = kind_of end })) keeps.end in
-    let pc : t.regs.pc ≡ s.regs.pc = (law.stays flags s keeps.end).1 in
-    let sp : t.regs.sp ≡ s.regs.sp = law.stack flags s in
+    ap (λ (l : Result Left ℕ). applied l s.mem) (is_step flags s off (decoded_by i opcode is s.mem s.regs.pc stands)).0
+    ∙ ap (λ (end : PartEnd). Ok (record { state = t; kind = kind_of end })) kept.end in
+    let pc : t.regs.pc ≡ s.regs.pc = (stays flags s kept.end).1 in
+    let sp : t.regs.sp ≡ s.regs.sp = steady.stack flags s in
     record {
       parts = (t, (step, (pc, sp), refl));
       pc = pc;
       sp = sp;
-      temps = law.sums flags s;
-      stands = record { prebyte = keeps.prebyte ∙ stands.prebyte; code = keeps.code ∙ stands.code };
+      temps = sums flags s;
+      stands = record { prebyte = kept.prebyte ∙ stands.prebyte; code = kept.code ∙ stands.code };
     }
 
+pub rev_rules : GoesOnAt own_address rev → LeavesSums rev → IsSteady rev Any → RulesWhere rev 0x3A RevGoesOn
+rev_rules = Ruled-one Rev rev 0x3A RevGoesOn rev_is_step (λ rest. refl) rev_keeps
+
+pub revw_rules : GoesOnAt own_address revw → LeavesSums revw → IsSteady revw Any → RulesWhere revw 0x3B RevwGoesOn
+revw_rules = Ruled-one Revw revw 0x3B RevwGoesOn revw_is_step (λ rest. refl) revw_keeps
+
 -- one part that goes on, by what it leaves
-pub Ruled-part : {i : Instr} {k : Kind} {opcode : ℕ} {On : List ℕ → Regs → Type 0} (flags : ℕ) (s : State) (r : Regs)
+pub Ruled-part : (k : Kind) (opcode : ℕ) (On : List ℕ → Regs → Type 0) (flags : ℕ) (s : State) (r : Regs)
     (mem : List ℕ)
-    → Ruling i k opcode On → On s.mem s.regs → r ≡ (part_of k flags s).regs
+    → RulesWhere k opcode On → On s.mem s.regs → r ≡ (part_of k flags s).regs
     → mem ≡ write_all (part_of k flags s).writes s.mem
     → IsOff s.temps → Stands opcode s.regs.pc s.mem → Ruled opcode flags s (state_of r s.temps mem) 1
-Ruled-part {i} {k} {opcode} flags s r mem law on regs writes off stands =
+Ruled-part k opcode On flags s r mem rules on regs writes off stands =
     let o : Outcome = part_of k flags s in
+    let one = rules flags s on off stands in
     let is : after_part k flags s ≡ state_of r s.temps mem =
     ap (λ (q : Regs). state_of q o.temps (write_all o.writes s.mem)) (sym regs)
-    ∙ ap (λ (t : Temps). state_of r t (write_all o.writes s.mem)) (law.sums flags s)
+    ∙ ap (λ (t : Temps). state_of r t (write_all o.writes s.mem)) one.temps
     ∙ ap (λ (m : List ℕ). state_of r s.temps m) (sym writes) in
-    subst (λ (t : State). Ruled opcode flags s t 1) is (Ruled-one flags s law (law.keeps flags s on) off stands)
+    subst (λ (t : State). Ruled opcode flags s t 1) is one
 
 -- parts, and then further ones
 pub Ruled-then : (opcode flags : ℕ) (s t u : State) (n k : ℕ) → IsOff s.temps → Ruled opcode flags s t n
@@ -184,3 +160,11 @@ Ruled-then opcode flags s t u n k off is further =
       temps = more.temps ∙ is.temps;
       stands = subst (λ (p : ℕ). Stands opcode p u.mem) is.pc more.stands;
     }
+
+-- from the machine that is seen
+pub PartsTo-viewed : (v w : Whole) (n : ℕ) (t : State) → w ≡ v
+    → PartsTo (λ s. (s.regs.pc ≡ w.state.regs.pc) × (s.regs.sp ≡ w.state.regs.sp)) w.flags n w.state t
+    → PartsTo (λ s. (s.regs.pc ≡ v.state.regs.pc) × (s.regs.sp ≡ v.state.regs.sp)) v.flags n v.state t
+PartsTo-viewed v w n t is parts = subst
+    (λ (x : Whole). PartsTo (λ s. (s.regs.pc ≡ x.state.regs.pc) × (s.regs.sp ≡ x.state.regs.sp)) x.flags n x.state t)
+    is parts

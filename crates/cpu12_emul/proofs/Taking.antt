@@ -4,7 +4,6 @@ use Rattle.std.proofs.Common.{◌++◌, length, refl, ap, ap₂, sym, ◌∙◌}
 use Rattle.std.proofs.Common.{subst, arith, inl, inr, lit≤}
 use Rattle.std.proofs.lemmas.Bool.{or_parts, false≢true}
 use Rattle.cpu12_isa.specs.declared.{instr.Regs.Regs, instr.Write.Write}
-use Rattle.cpu12_isa.specs.Interrupts.{FrameComesBack, HidesMoreAbove, ShowsFromSp, HidesPushed}
 use Rattle.cpu12_isa.specs.{Act.write_all, Memory.plus, Memory.from, Memory.placed, Memory.bytes_at}
 use Rattle.cpu12_isa.specs.{Registers.frame_bytes, Registers.pulled, Agreement.Agree, Agreement.IsWritten}
 use Rattle.cpu12_isa.specs.{Regions.stack_start, Regions.is_hidden, Regions.LeavesStack, Fits.FitsRegs}
@@ -16,7 +15,7 @@ use Rattle.cpu12_parts.specs.Inside.{pushed_sums, PushesRunning, PushesNone}
 use Rattle.cpu12_parts.proofs.Algebra.{temps_cases}
 use Rattle.cpu12_emul.specs.Take.{pairs_of, pushed, written, framed, taken, FrameSeen, frame_size, frame_of, frame_on}
 use Rattle.cpu12_emul.specs.Simulation.{AreOpen, Same, Marks, Parked, HasRoom, TakesQuietly, TakeKeeps}
-use Rattle.cpu12_emul.specs.Simulation.{FrameIsOnStack}
+use Rattle.cpu12_emul.specs.Simulation.{FrameIsOnStack, PushLaws}
 use Rattle.cpu12_emul.proofs.Algebra.{pushed_marked, marked_off}
 
 -- writes to open bytes
@@ -26,16 +25,7 @@ open_writes open_to [] at g w = absurd w
 open_writes open_to (x ∷ ws) at g w =
     elim w [ inl e ↦ subst (λ (k : ℕ). open_to k ≡ true) (sym e) g.0 | inr k ↦ open_writes open_to ws at g.1 k ]
 
--- the laws of what an interrupt pushes and hides
-pub record Pushes : Type 0 where
-  pub frame_comes_back : FrameComesBack
-  pub more : HidesMoreAbove
-  pub shown : ShowsFromSp
-  pub pushed : HidesPushed
-  pub running : PushesRunning
-  pub none : PushesNone
-
-pub takes_quietly : Pushes → TakesQuietly
+pub takes_quietly : PushLaws → TakesQuietly
 takes_quietly laws open_to ws s leaves good z f a b =
     let base : ℕ = plus s.regs.sp 65527 in
     let bytes : List ℕ = frame_bytes s.regs in
@@ -64,7 +54,7 @@ takes_quietly laws open_to ws s leaves good z f a b =
     }
 
 -- an interrupt where the sums run parks them
-parks : Pushes → (marks : Marks) (open_to : ℕ → Bool) (ws : List Write) (s t : State) (p w : ℕ) → LeavesStack open_to
+parks : PushLaws → (marks : Marks) (open_to : ℕ → Bool) (ws : List Write) (s t : State) (p w : ℕ) → LeavesStack open_to
     → AreOpen open_to ws → HasRoom t → Same open_to s t
     → s.temps ≡ Running p w → Parked marks open_to (taken ws s) t
 parks laws marks open_to ws s t p w leaves good room l run =
@@ -106,7 +96,7 @@ parks laws marks open_to ws s t p w leaves good room l run =
     subst (λ (v : State). Parked marks open_to (framed ws v) t) (sym (laws.running s p w run)) parked
 
 -- a further one leaves them
-stays_parked : Pushes → (marks : Marks) (open_to : ℕ → Bool) (ws : List Write) (s t : State) → LeavesStack open_to
+stays_parked : PushLaws → (marks : Marks) (open_to : ℕ → Bool) (ws : List Write) (s t : State) → LeavesStack open_to
     → AreOpen open_to ws → HasRoom t → Parked marks open_to s t
     → Parked marks open_to (taken ws s) t
 stays_parked laws marks open_to ws s t leaves good room l =
@@ -136,7 +126,7 @@ stays_parked laws marks open_to ws s t leaves good room l =
     (sym (laws.none s (marked_off marks s.temps l.temps))) parked
 
 -- where no sums run the state stays the same
-stays_same : Pushes → (open_to : ℕ → Bool) (ws : List Write) (s t : State) → LeavesStack open_to → AreOpen open_to ws
+stays_same : PushLaws → (open_to : ℕ → Bool) (ws : List Write) (s t : State) → LeavesStack open_to → AreOpen open_to ws
     → HasRoom t → Same open_to s t
     → IsOff s.temps → Same open_to (taken ws s) t
 stays_same laws open_to ws s t leaves good room l off =
@@ -153,7 +143,7 @@ stays_same laws open_to ws s t leaves good room l off =
     } in
     subst (λ (v : State). Same open_to (framed ws v) t) (sym (laws.none s off)) same
 
-pub take_keeps : Pushes → TakeKeeps
+pub take_keeps : PushLaws → TakeKeeps
 take_keeps laws marks open_to ws s t leaves good room (inl l) = elim (temps_cases s.temps) [
   | inl off ↦ inl (stays_same laws open_to ws s t leaves good room l off)
   | inr run ↦ inr (parks laws marks open_to ws s t run.0 run.1 leaves good room l run.2)

@@ -2,7 +2,7 @@
 -- Beside the promise.
 use Rattle.std.specs.Prelude.{◌≡◌, ◌≢◌, ℕ, List, slice_index}
 use Rattle.cpu12_isa.specs.{declared.instr.Regs.Regs, Memory.plus, Memory.word_of}
-use Rattle.cpu12_parts.specs.State.{State}
+use Rattle.cpu12_parts.specs.{Laws.IsOff, Parts.Kind, Parts.after_part, State.State}
 use Rattle.cpu12_emul.specs.Run.{PartsTo}
 
 -- the instruction of page two with this opcode stands at an address
@@ -31,3 +31,8 @@ pub record Ruled (opcode flags : ℕ) (s t : State) (n : ℕ) : Type 0 where
   pub sp : t.regs.sp ≡ s.regs.sp
   pub temps : t.temps ≡ s.temps
   pub stands : Stands opcode s.regs.pc t.mem
+
+-- where On holds, the next part of an instruction in parts that stands at PC is such a part
+abbrev pub RulesWhere : Kind → ℕ → (List ℕ → Regs → Type 0) → Type 0
+RulesWhere k opcode On = (flags : ℕ) (s : State) → On s.mem s.regs → IsOff s.temps → Stands opcode s.regs.pc s.mem
+    → Ruled opcode flags s (after_part k flags s) 1

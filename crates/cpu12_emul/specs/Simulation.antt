@@ -10,6 +10,8 @@ use Rattle.cpu12_isa.specs.{Agreement.Agree, Agreement.AllShown, Agreement.Uncov
 use Rattle.cpu12_parts.specs.{declared.temps.Temps.Temps, State.State, State.Outcome, Laws.IsOff}
 use Rattle.cpu12_parts.specs.declared.temps.Temps.TheVariants.{Free, Running, OnStack}
 use Rattle.cpu12_parts.specs.Parts.{sum_bytes, Kind, part_of, wav}
+use Rattle.cpu12_isa.specs.Interrupts.{FrameComesBack, HidesMoreAbove, ShowsFromSp, HidesPushed}
+use Rattle.cpu12_parts.specs.Inside.{PushesRunning, PushesNone}
 use Rattle.cpu12_emul.specs.declared.ends.Stepped.TheVariants.{Plain}
 use Rattle.cpu12_emul.specs.Step.{Left, Next, kind_of, step_act, next_of}
 use Rattle.cpu12_emul.specs.Take.{framed, taken, frame_of, frame_on}
@@ -119,6 +121,15 @@ TakeKeeps =
 -- A frame on the stack is the nine bytes of the registers, and the six of the sums where they run.
 abbrev pub FrameIsOnStack : Type 0
 FrameIsOnStack = (s : State) → length s.mem ≡ 65536 → s.regs.sp < 2 ^ 16 → frame_of s ≡ frame_on true s s.temps
+
+-- the laws of what an interrupt pushes and hides
+pub record PushLaws : Type 0 where
+  pub frame_comes_back : FrameComesBack
+  pub more : HidesMoreAbove
+  pub shown : ShowsFromSp
+  pub pushed : HidesPushed
+  pub running : PushesRunning
+  pub none : PushesNone
 
 -- A plain instruction is one step, which reads its six bytes and what it reads itself.
 abbrev pub PlainIsStep : Type 0

@@ -3,7 +3,7 @@ ghost use Rattle.cpu12_isa.specs.declared.instr.Instr.TheVariants.{Rev, Revw, Wa
 ghost use Rattle.cpu12_parts.specs.Parts.{rev, revw, wav};
 ghost use Rattle.cpu12_emul.specs.{Fits.StepFits, Image.HoldsImage, Image.ImagesLoadAlike, Run.RunsEndOnce};
 ghost use Rattle.cpu12_emul.specs.Simulation.{StepAgrees, WavrGoesOn, StepKeeps, TakesQuietly, TakeKeeps};
-ghost use Rattle.cpu12_emul.specs.Simulation.{FrameIsOnStack, PlainIsStep, PartIsStep, SumsAreStep};
+ghost use Rattle.cpu12_emul.specs.Simulation.{FrameIsOnStack, PlainIsStep, PartIsStep, PushLaws, SumsAreStep};
 
 use cpu12_isa::laws::{
     bytes_stay, decoded_fits, frame_comes_back, stack_is_hidden, stays_fit, writes_agree,
@@ -70,22 +70,27 @@ pub fn step_keeps()
     wavr_goes_on();
 }
 
-/// An interrupt that writes open bytes changes nothing but these and bytes below SP.
-pub fn takes_quietly()
-    ensures { TakesQuietly }
+/// What an interrupt pushes and hides.
+fn push_laws()
+    ensures { PushLaws }
 {
     frame_comes_back();
     stack_is_hidden();
     wav_suspends();
 }
 
+/// An interrupt that writes open bytes changes nothing but these and bytes below SP.
+pub fn takes_quietly()
+    ensures { TakesQuietly }
+{
+    push_laws();
+}
+
 /// An interrupt that writes open bytes keeps the simulation.
 pub fn take_keeps()
     ensures { TakeKeeps }
 {
-    frame_comes_back();
-    stack_is_hidden();
-    wav_suspends();
+    push_laws();
 }
 
 /// A frame has the registers' nine bytes, and the sums' six if they are running.

@@ -1,7 +1,7 @@
 //! The machine.
 ghost use Rattle.std.specs.Prelude.{ℕ, ◌≡◌, ◌⊎◌, MatchResult, IfErr, Ok, Err, length, slice_index, slice_set};
-ghost use Rattle.cpu12_isa.specs.{Act.outcome, Act.write_all, Code.decode_at};
-ghost use Rattle.cpu12_parts.specs.Laws.{IsOff};
+ghost use Rattle.cpu12_isa.specs.{Act.outcome, Code.decode_at};
+ghost use Rattle.cpu12_parts.specs.{Laws.IsOff, Parts.part_of, Parts.after_part};
 ghost use Rattle.cpu12_emul.specs.Step.{Whole, SameMachine, kind_of, instruction_act, next_of, applied};
 ghost use Rattle.cpu12_emul.specs.Step.{reset_with};
 
@@ -120,17 +120,10 @@ impl<M: Mem> Machine<M> {
 
     /// One part of an instruction executed in parts.
     fn part<R: Resumable>(&mut self, k: &R) -> Stepped
-        ensures regs { self.new.state.regs
-            ≡ (outcome (R.act k.now self.old.flags self.old.state.regs self.old.state.temps) self.old.state.mem).regs }
-        ensures temps { self.new.state.temps
-            ≡ (outcome (R.act k.now self.old.flags self.old.state.regs self.old.state.temps) self.old.state.mem).temps }
-        ensures mem { self.new.state.mem
-            ≡ write_all
-            (outcome (R.act k.now self.old.flags self.old.state.regs self.old.state.temps) self.old.state.mem).writes
-            self.old.state.mem }
-        ensures kind { result
-            ≡ kind_of
-            (outcome (R.act k.now self.old.flags self.old.state.regs self.old.state.temps) self.old.state.mem).end }
+        ensures regs { self.new.state.regs ≡ (part_of (R.kind k.now) self.old.flags self.old.state).regs }
+        ensures temps { self.new.state.temps ≡ (part_of (R.kind k.now) self.old.flags self.old.state).temps }
+        ensures mem { self.new.state.mem ≡ (after_part (R.kind k.now) self.old.flags self.old.state).mem }
+        ensures kind { result ≡ kind_of (part_of (R.kind k.now) self.old.flags self.old.state).end }
         ensures machine { SameMachine self.old self.new }
     {
         let end = k.part(&mut self.regs, &mut self.mem, &mut self.temps, self.flags);

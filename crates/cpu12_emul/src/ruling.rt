@@ -1,9 +1,9 @@
 //! Many parts of REV or REVW at once.
-ghost use Rattle.std.specs.Prelude.{◌≡◌, ◌≢◌, ◌≤◌, true};
-ghost use Rattle.cpu12_isa.specs.Memory.{plus};
+ghost use Rattle.std.specs.Prelude.{ℕ, ◌≡◌, ◌≢◌, ◌≤◌, List, true};
+ghost use Rattle.cpu12_isa.specs.{declared.instr.Regs.Regs, Memory.plus};
 ghost use Rattle.cpu12_parts.specs.Laws.{IsOff, state_of};
-ghost use Rattle.cpu12_emul.specs.{Ruling.Stands, Ruling.RevGoesOn, Ruling.RevwGoesOn, Ruling.Ruled, Run.PartsTo};
-ghost use Rattle.cpu12_emul.specs.Step.{SameMachine};
+ghost use Rattle.cpu12_emul.specs.Ruling.{Stands, RevGoesOn, RevwGoesOn, Ruled, RulesWhere};
+ghost use Rattle.cpu12_emul.specs.{Run.PartsTo, Step.SameMachine};
 
 use crate::fetch::{is_rev, is_revw};
 use crate::machine::Machine;
@@ -22,63 +22,80 @@ fn is_beside(at: u16, pc: u16) -> bool
     at.wrapping_sub(pc) >= 2
 }
 
-/// Whether the next part of REV is not its last, and cannot write to REV's own bytes.
-#[inline(always)]
-fn rev_goes_on<M: Mem>(m: &M, r: Regs) -> bool
-    ensures { result ≡ true → RevGoesOn (M.bytes m.now) r }
-{
-    let e = m.read(r.x);
-    e != 0xFF && is_beside(r.y.wrapping_add(e as u16), r.pc)
+/// REV or REVW, whose parts go on as long as they cannot write to its own two bytes.
+trait Ruling: Resumable {
+    /// Its second byte.
+    ghost opcode: { ℕ };
+
+    /// The next part is not its last, and cannot write to its own bytes.
+    ghost on: { List ℕ → Regs → Type 0 };
+
+    /// Whether that holds.
+    fn goes_on<M: Mem>(&self, m: &M, r: Regs) -> bool
+        ensures { result ≡ true → on (M.bytes m.now) r };
+
+    /// Such a part leaves PC, SP and the instruction that is there. This does nothing.
+    fn rules(&self)
+        ensures { RulesWhere (Self.kind self.now) opcode on };
 }
 
-/// Whether the next part of REVW is not its last, and cannot write to REVW's own bytes.
-#[inline(always)]
-fn revw_goes_on<M: Mem>(m: &M, r: Regs) -> bool
-    ensures { result ≡ true → RevwGoesOn (M.bytes m.now) r }
-{
-    let e = word_of(m.read(r.x), m.read(r.x.wrapping_add(1)));
-    e != 0xFFFF && is_beside(e, r.pc)
-}
+impl Ruling for Rev {
+    ghost opcode = { 0x3A };
 
-/// Does parts of REV that are not the last and leave its bytes unchanged, at most `most`. Returns the registers
-/// after them, and their number.
-fn rev_parts<M: Mem>(m: &mut M, regs: Regs, temps: Temps, flags: u8, most: u32) -> (Regs, u32)
-    requires off { IsOff temps }
-    requires stands { Stands 0x3A regs.pc (M.bytes m.old) }
-    ensures parts { Ruled 0x3A flags (state_of regs temps (M.bytes m.old))
-        (state_of result.0 temps (M.bytes m.new)) result.1 }
-    ensures most { result.1 ≤ most }
-    ensures tags { M.tags m.new ≡ M.tags m.old }
-{
-    rev_stays();
-    rev_steady();
-    let mut r = regs;
-    let mut done = 0;
-    while done < most && rev_goes_on(m, r) {
-        let mut t = temps;
-        let _ = Rev.part(&mut r, m, &mut t, flags);
-        done += 1;
+    ghost on = { RevGoesOn };
+
+    #[inline(always)]
+    fn goes_on<M: Mem>(&self, m: &M, r: Regs) -> bool {
+        let e = m.read(r.x);
+        e != 0xFF && is_beside(r.y.wrapping_add(e as u16), r.pc)
     }
-    (r, done)
+
+    fn rules(&self) {
+        rev_stays();
+        rev_steady();
+    }
 }
 
-/// Does parts of REVW that are not the last and leave its bytes unchanged, at most `most`. Returns the registers
-/// after them, and their number.
-fn revw_parts<M: Mem>(m: &mut M, regs: Regs, temps: Temps, flags: u8, most: u32) -> (Regs, u32)
+impl Ruling for Revw {
+    ghost opcode = { 0x3B };
+
+    ghost on = { RevwGoesOn };
+
+    #[inline(always)]
+    fn goes_on<M: Mem>(&self, m: &M, r: Regs) -> bool {
+        let e = word_of(m.read(r.x), m.read(r.x.wrapping_add(1)));
+        e != 0xFFFF && is_beside(e, r.pc)
+    }
+
+    fn rules(&self) {
+        revw_stays();
+        revw_steady();
+    }
+}
+
+/// Does parts that are not the last and leave the instruction's bytes unchanged, at most `most`. Returns the
+/// registers after them, and their number.
+fn parts_of<R: Ruling, M: Mem>(
+    k: &R,
+    m: &mut M,
+    regs: Regs,
+    temps: Temps,
+    flags: u8,
+    most: u32,
+) -> (Regs, u32)
     requires off { IsOff temps }
-    requires stands { Stands 0x3B regs.pc (M.bytes m.old) }
-    ensures parts { Ruled 0x3B flags (state_of regs temps (M.bytes m.old))
+    requires stands { Stands R.opcode regs.pc (M.bytes m.old) }
+    ensures parts { Ruled R.opcode flags (state_of regs temps (M.bytes m.old))
         (state_of result.0 temps (M.bytes m.new)) result.1 }
     ensures most { result.1 ≤ most }
     ensures tags { M.tags m.new ≡ M.tags m.old }
 {
-    revw_stays();
-    revw_steady();
+    k.rules();
     let mut r = regs;
     let mut done = 0;
-    while done < most && revw_goes_on(m, r) {
+    while done < most && k.goes_on(m, r) {
         let mut t = temps;
-        let _ = Revw.part(&mut r, m, &mut t, flags);
+        let _ = k.part(&mut r, m, &mut t, flags);
         done += 1;
     }
     (r, done)
@@ -98,13 +115,14 @@ impl<M: Mem> Machine<M> {
         if let Temps::Running(_, _) = self.temps {
             return 0;
         }
-        if is_rev(&self.mem, self.regs.pc) {
-            let (regs, done) = rev_parts(&mut self.mem, self.regs, self.temps, self.flags, most);
+        let (regs, temps, flags) = (self.regs, self.temps, self.flags);
+        if is_rev(&self.mem, regs.pc) {
+            let (regs, done) = parts_of(&Rev, &mut self.mem, regs, temps, flags, most);
             self.regs = regs;
             return done;
         }
-        if is_revw(&self.mem, self.regs.pc) {
-            let (regs, done) = revw_parts(&mut self.mem, self.regs, self.temps, self.flags, most);
+        if is_revw(&self.mem, regs.pc) {
+            let (regs, done) = parts_of(&Revw, &mut self.mem, regs, temps, flags, most);
             self.regs = regs;
             return done;
         }

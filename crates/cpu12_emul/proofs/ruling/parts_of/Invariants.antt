@@ -1,11 +1,11 @@
 use Rattle.std.proofs.Common.{◌≡◌, ◌≤◌, ◌-◌}
 use Rattle.cpu12_parts.specs.Laws.{state_of}
 use Rattle.cpu12_emul.specs.Ruling.{Ruled}
-use Rattle.cpu12_emul.proofs.ruling.revw_parts.Given as goal
+use Rattle.cpu12_emul.proofs.ruling.parts_of.Given as goal
 
 abbrev pub invariant-loop-done : goal.invariant-loop-done
 invariant-loop-done g l = record {
-  ruled : Ruled 0x3B l.fn.flags (state_of l.fn.regs l.fn.temps (g.M.Mem.bytes l.fn.m))
+  ruled : Ruled g.R.Ruling.opcode l.fn.flags (state_of l.fn.regs l.fn.temps (g.M.Mem.bytes l.fn.m))
       (state_of l.r l.fn.temps (g.M.Mem.bytes l.m)) l.done;
   within : l.done ≤ l.fn.most;
   tags : g.M.Mem.tags l.m ≡ g.M.Mem.tags l.fn.m;
