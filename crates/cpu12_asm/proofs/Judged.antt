@@ -22,6 +22,7 @@ use Rattle.cpu12_asm.specs.declared.{operands.Limits.Limits, statements.Action.A
 use Rattle.cpu12_asm.specs.declared.statements.Action.TheVariants.{Nothing, Origin, Equate, Bytes, Words, Operate}
 use Rattle.cpu12_asm.specs.declared.faults.LineFault.TheVariants as line
 use Rattle.cpu12_asm.specs.declared.items.AsmFault.TheVariants as fault
+use Rattle.cpu12_asm.proofs.Writing.{highest}
 use Rattle.cpu12_asm.proofs.Placing.{byte_at-append, is_same, is_same-comm, none_from_test, none_in_cond, or_else}
 
 -- ---- what a line leaves keeps a property that what is put keeps, and its fault is no want of memory
@@ -110,9 +111,6 @@ both_false true b is = absurd (let z : ⊥ = cc in z)
 
 lower : (p q : ℕ) → q < p → is_same q p ≡ false
 lower p q l = grind (arith, nat_tests)
-
-higher : (p q : ℕ) → p < q → is_same q p ≡ false
-higher p q l = grind (arith, nat_tests)
 
 below_placed : (p q : ℕ) (xs : List ℕ) → q < p → byte_at (placed p xs) q ≡ None
 below_placed p q [] l = refl
@@ -312,18 +310,6 @@ module _ (f : ℕ → Option ℕ) where
           → IsAscending (with_byte at o (bytes_from (at + 1) n))
       by_first None rest = rest
       by_first (Some v) rest = (keys_above at (at + 1) n (omega arith), rest)
-
--- behind some address none stands
-highest : (bytes : List (ℕ × ℕ)) → (n : ℕ) × ((q : ℕ) → n ≤ q → byte_at bytes q ≡ None)
-highest [] = (0, λ q l. refl)
-highest (b ∷ bytes) =
-    let r = highest bytes in (
-      r.0 + b.0 + 1,
-      λ q l.
-          let other : is_same q b.0 ≡ false = higher b.0 q (omega (arith, l)) in
-          let rest : byte_at bytes q ≡ None = r.1 q (omega (arith, l)) in
-          rw (other, rest) refl,
-    )
 
 image_of : (given : List (ℕ × ℕ)) → AreOnce given
     → (image : List (ℕ × ℕ)) × IsAscending image × Holds image given

@@ -23,7 +23,8 @@ use Rattle.cpu12_asm.specs.Giving.{operand_limits, operand_with, overlaps, put, 
 use Rattle.cpu12_asm.specs.Giving.{any_unknown, values_within, word_bytes}
 use Rattle.cpu12_asm.specs.{Lines.behind_word, Lines.code_of, Lines.first_word, Lines.lines_of, Lines.pieces}
 use Rattle.cpu12_asm.specs.Sources.{assembled, empty, given_by_line, names_of, with_names}
-use Rattle.cpu12_asm.specs.Statements.{Statement, action_of, allowed, are_expressions, is_expression, is_form, operate}
+use Rattle.cpu12_asm.specs.Statements.{Statement, action_of, allowed, are_expressions, is_expression, is_named_by}
+use Rattle.cpu12_asm.specs.Statements.{operate}
 use Rattle.cpu12_asm.specs.Statements.{stated, statement_of, statement_with}
 use Rattle.cpu12_asm.specs.Values.{fits, within}
 use Rattle.cpu12_asm.specs.Laws.{GiveBytes}
@@ -132,7 +133,7 @@ allowed_says false a is = tt
 action_says : (is_named : Bool) (word text : List ℕ) → Says (action_of is_named word text)
 action_says is_named word text =
     let parts = are_expressions text in
-    let o5 = operate (find (is_form word text) every) in
+    let o5 = operate (find (is_named_by word text) every) in
     let o4 = if bytes_eq word (codes "FDB") then allowed parts Words else o5 in
     let o3 = if bytes_eq word (codes "FCB") then allowed parts Bytes else o4 in
     let o2 = if bytes_eq word (codes "EQU") then allowed (is_named && is_expression text) Equate else o3 in
@@ -145,7 +146,7 @@ action_says is_named word text =
     (λ is. cond_both (bytes_eq word (codes "FCB")) (allowed parts Bytes) o4 Says
     (λ is. allowed_says parts Bytes tt)
     (λ is. cond_both (bytes_eq word (codes "FDB")) (allowed parts Words) o5 Says
-    (λ is. allowed_says parts Words tt) (λ is. operate_says (find (is_form word text) every))))))
+    (λ is. allowed_says parts Words tt) (λ is. operate_says (find (is_named_by word text) every))))))
 
 abbrev States : Option Statement → Type 0
 States o = IfSome o (λ s. IsInstruction s.action)
@@ -219,21 +220,9 @@ moved_fits g (Err f) have = tt
 with_fits : (value : List ℕ → Option ℕ) (g : Given) (a : Action) (text : List ℕ) → IsInstruction a
     → GiveBytes g.bytes → Fits (given_with value g a text)
 with_fits value g Origin text is have = moved_fits g (within 0xFFFF (sum_of value text)) have
-with_fits value g Nothing text is have =
-    values_fit g Nothing (values_within value text (limits_of Nothing)) is have
-    (within_are_words value text (limits_of Nothing) (limits_are Nothing))
-with_fits value g Equate text is have =
-    values_fit g Equate (values_within value text (limits_of Equate)) is have
-    (within_are_words value text (limits_of Equate) (limits_are Equate))
-with_fits value g Bytes text is have =
-    values_fit g Bytes (values_within value text (limits_of Bytes)) is have
-    (within_are_words value text (limits_of Bytes) (limits_are Bytes))
-with_fits value g Words text is have =
-    values_fit g Words (values_within value text (limits_of Words)) is have
-    (within_are_words value text (limits_of Words) (limits_are Words))
-with_fits value g (Operate encoding) text is have =
-    values_fit g (Operate encoding) (values_within value text (limits_of (Operate encoding))) is have
-    (within_are_words value text (limits_of (Operate encoding)) (limits_are (Operate encoding)))
+with_fits value g a text is have =
+    values_fit g a (values_within value text (limits_of a)) is have
+    (within_are_words value text (limits_of a) (limits_are a))
 
 given_fits : (value : List ℕ → Option ℕ) (g : Given) (o : Option Statement) → States o → GiveBytes g.bytes
     → Fits (given value g o)

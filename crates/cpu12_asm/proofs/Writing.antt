@@ -1,5 +1,5 @@
 -- Bytes of an image written one after the other, by ascending addresses.
-use Rattle.std.proofs.Common.{◌≡◌, ℕ, ◌<◌, ◌≤◌, Bool, true, false, cond, List, [], ◌∷◌, length, get_or, Some, None}
+use Rattle.std.proofs.Common.{◌≡◌, ℕ, ◌+◌, ◌<◌, ◌≤◌, Bool, true, false, cond, List, [], ◌∷◌, length, get_or, Some, None}
 use Rattle.std.proofs.Common.{unwrap_or, refl, sym, ap, ◌∙◌, subst, arith, inl, inr, nat_cmp, get_or-set_same}
 use Rattle.std.proofs.Common.{get_or-set_other}
 use Rattle.std.proofs.lemmas.Bool.{cases_eq}
@@ -43,6 +43,13 @@ byte_at-head b bytes = ap (λ (t : Bool). cond t (Some b.1) (byte_at bytes b.0))
 
 pub byte_at-other : (b : ℕ × ℕ) (bytes : List (ℕ × ℕ)) (q : ℕ) → (q ≡ b.0 → ⊥) → byte_at (b ∷ bytes) q ≡ byte_at bytes q
 byte_at-other b bytes q other = ap (λ (t : Bool). cond t (Some b.1) (byte_at bytes q)) (is_at-other q b.0 other)
+
+-- behind some address no byte stands
+pub highest : (bytes : List (ℕ × ℕ)) → (n : ℕ) × ((q : ℕ) → n ≤ q → byte_at bytes q ≡ None)
+highest [] = (0, λ q l. refl)
+highest (b ∷ bytes) =
+    let r = highest bytes in
+    (r.0 + b.0 + 1, λ q l. byte_at-other b bytes q (λ same. omega (arith, l, same)) ∙ r.1 q (omega (arith, l)))
 
 pub byte_at-behind : (b : ℕ × ℕ) (bytes : List (ℕ × ℕ)) (q : ℕ) → IsAscending (b ∷ bytes) → q ≤ b.0
     → byte_at bytes q ≡ None

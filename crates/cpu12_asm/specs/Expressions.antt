@@ -16,11 +16,11 @@ abbrev pub is_in_name : ℕ → Bool
 is_in_name b = is_letter b || is_ascii_digit b
 
 -- the word is the mnemonic of an instruction
-abbrev pub names_form : List ℕ → Instr → Bool
-names_form word i = bytes_eq word (text_of (encoding_of i).mnemonic)
+abbrev pub names_instruction : List ℕ → Instr → Bool
+names_instruction word i = bytes_eq word (text_of (encoding_of i).mnemonic)
 
 abbrev pub is_mnemonic : List ℕ → Bool
-is_mnemonic word = list_any (names_form word) every
+is_mnemonic word = list_any (names_instruction word) every
 
 abbrev pub is_directive : List ℕ → Bool
 is_directive word =
@@ -31,12 +31,12 @@ abbrev pub is_operation : List ℕ → Bool
 is_operation word = is_directive word || is_mnemonic word
 
 -- a letter, then letters and digits, and no operation
-abbrev pub has_name_form : List ℕ → Bool
-has_name_form [] = false
-has_name_form (b ∷ bs) = is_letter b && list_all is_in_name (b ∷ bs)
+abbrev pub has_letters_of_name : List ℕ → Bool
+has_letters_of_name [] = false
+has_letters_of_name (b ∷ bs) = is_letter b && list_all is_in_name (b ∷ bs)
 
 abbrev pub is_name : List ℕ → Bool
-is_name word = has_name_form word && not (is_operation word)
+is_name word = has_letters_of_name word && not (is_operation word)
 
 abbrev pub is_hex_digit : ℕ → Bool
 is_hex_digit b = is_ascii_digit b || (nat_le 0x41 b && nat_le b 0x46)

@@ -11,7 +11,7 @@ use Rattle.cpu12_isa.specs.declared.encodings.Operand.TheVariants.{AddressToAddr
 use Rattle.cpu12_asm.specs.declared.statements.Action.{Action}
 use Rattle.cpu12_asm.specs.declared.statements.Action.TheVariants as action
 use Rattle.cpu12_asm.specs.Lines.{pieces, code_of, first_word, behind_word}
-use Rattle.cpu12_asm.specs.Expressions.{sum_of, names_form, is_name}
+use Rattle.cpu12_asm.specs.Expressions.{sum_of, names_instruction, is_name}
 
 -- each term is a number or a name
 abbrev pub is_expression : List ℕ → Bool
@@ -45,8 +45,8 @@ takes (Offset _) text = has_parts 1 text
 takes (ByteToAddress _ _) text = is_immediate 2 text
 takes (AddressToAddress _ _) text = has_parts 2 text
 
-abbrev pub is_form : List ℕ → List ℕ → Instr → Bool
-is_form word text i = names_form word i && takes (encoding_of i).operand text
+abbrev pub is_named_by : List ℕ → List ℕ → Instr → Bool
+is_named_by word text i = names_instruction word i && takes (encoding_of i).operand text
 
 abbrev pub allowed : Bool → Action → Option Action
 allowed b a = if b then Some a else None
@@ -63,7 +63,7 @@ action_of is_named word text =
     if bytes_eq word (codes "EQU") then allowed (is_named && is_expression text) action.Equate else (
     if bytes_eq word (codes "FCB") then allowed (are_expressions text) action.Bytes else (
     if bytes_eq word (codes "FDB") then allowed (are_expressions text) action.Words else
-    operate (find (is_form word text) every)))))
+    operate (find (is_named_by word text) every)))))
 
 -- a line's name, where it has one, with what it does and its operand
 pub record Statement : Type 0 where

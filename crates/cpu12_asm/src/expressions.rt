@@ -7,7 +7,7 @@ ghost use Rattle.cpu12_isa.specs.Encodings.{encoding_of};
 ghost use Rattle.cpu12_asm.specs.{Names.value_in, Lines.pieces, Shapes.may_be_mnemonic};
 ghost use Rattle.cpu12_asm.specs.Left.{pieces_left, size_left};
 ghost use Rattle.cpu12_asm.specs.Expressions.{is_letter, is_in_name, is_mnemonic, is_directive, is_operation};
-ghost use Rattle.cpu12_asm.specs.Expressions.{has_name_form, is_name, is_hex_digit, hex_value, decimal_value};
+ghost use Rattle.cpu12_asm.specs.Expressions.{has_letters_of_name, is_name, is_hex_digit, hex_value, decimal_value};
 ghost use Rattle.cpu12_asm.specs.Expressions.{hexadecimal_value, number, plain_term, term_of, with_term, with_group};
 ghost use Rattle.cpu12_asm.specs.Expressions.{sum_of};
 
@@ -105,8 +105,8 @@ fn are_in_name(word: &[u8]) -> bool
     word.iter().all(|b| is_in_name(*b))
 }
 
-fn has_name_form(word: &[u8]) -> bool
-    ensures { result ≡ has_name_form word.now }
+fn has_letters_of_name(word: &[u8]) -> bool
+    ensures { result ≡ has_letters_of_name word.now }
 {
     match word {
         [] => false,
@@ -118,7 +118,7 @@ fn has_name_form(word: &[u8]) -> bool
 pub(crate) fn is_name(word: &[u8]) -> bool
     ensures { result ≡ is_name word.now }
 {
-    has_name_form(word) && !is_operation(word)
+    has_letters_of_name(word) && !is_operation(word)
 }
 
 fn are_decimal(digits: &[u8]) -> bool

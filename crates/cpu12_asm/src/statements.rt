@@ -4,7 +4,7 @@ ghost use Rattle.std.specs.List.{list_all, find};
 ghost use Rattle.cpu12_isa.specs.Encodings.{every, encoding_of};
 ghost use Rattle.cpu12_asm.specs.{Lines.pieces, Told.told};
 ghost use Rattle.cpu12_asm.specs.Statements.{is_expression, are_expressions, part_count, has_parts, is_immediate};
-ghost use Rattle.cpu12_asm.specs.Statements.{takes, is_form, allowed, action_of, operate, statement_with};
+ghost use Rattle.cpu12_asm.specs.Statements.{takes, is_named_by, allowed, action_of, operate, statement_with};
 ghost use Rattle.cpu12_asm.specs.Statements.{statement_of};
 
 use crate::expressions::{expression, is, is_name};
@@ -111,9 +111,9 @@ fn takes(alloc: Global, operand: Operand, text: &[u8]) -> bool
 }
 
 /// The first of these instructions that a word names and that takes an operand.
-fn first_form(alloc: Global, word: &[u8], text: &[u8], mut rows: &[Instr]) -> Option<Action>
+fn first_encoding(alloc: Global, word: &[u8], text: &[u8], mut rows: &[Instr]) -> Option<Action>
     requires { length text.now ≤ 2 ^ 32 }
-    ensures { result ≡ operate (find (is_form word.now text.now) rows.now) }
+    ensures { result ≡ operate (find (is_named_by word.now text.now) rows.now) }
 {
     while let [i, rest @ ..] = rows {
         let encoding = i.encoding();
@@ -146,7 +146,7 @@ fn action_of(alloc: Global, is_named: bool, word: &[u8], text: &[u8]) -> Option<
     } else if is(word, "FDB") {
         allowed(are_expressions(alloc, text), Action::Words)
     } else {
-        first_form(alloc, word, text, &EVERY)
+        first_encoding(alloc, word, text, &EVERY)
     }
 }
 
