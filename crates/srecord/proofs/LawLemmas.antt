@@ -15,30 +15,23 @@ use Rattle.srecord.specs.Texts.{after_end, at_line, count_differs, fields_fail, 
 use Rattle.srecord.specs.Texts.{nothing_given, opening_fails, overlap, record_fails}
 use Rattle.srecord.proofs.FieldLemmas.{same_address, same_body, same_payload, same_sum, snoc_last, snoc_same}
 
-module _ (line : List ℕ) (d e : ℕ) (ds es : List ℕ) (one : parts_of line ≡ Some (d, ds))
-    (other : parts_of line ≡ Some (e, es)) where
-  pair_same : ◌≡◌ {A = ℕ × List ℕ} (d, ds) (e, es)
-  pair_same = cc
-
-  pub digit_same : d ≡ e
-  digit_same = ap (λ (p : ℕ × List ℕ). p.0) pair_same
-
-  pub digits_same : ds ≡ es
-  digits_same = ap (λ (p : ℕ × List ℕ). p.1) pair_same
+parts_same : (line : List ℕ) (p q : ℕ × List ℕ) → parts_of line ≡ Some p → parts_of line ≡ Some q → p ≡ q
+parts_same line p q one other = cc
 
 module _ (line : List ℕ) (j k : Kind) (bs cs : List ℕ) (one : Opens line j bs) (other : Opens line k cs) where
+  opened_same : ◌≡◌ {A = ℕ × List ℕ} (one.digit, one.digits) (other.digit, other.digits)
+  opened_same = parts_same line _ _ one.parts other.parts
+
   pub kind_same : j ≡ k
   kind_same =
-      let here : kind_of one.digit ≡ kind_of other.digit =
-      ap kind_of (digit_same line one.digit other.digit one.digits other.digits one.parts other.parts) in
+      let here : kind_of one.digit ≡ kind_of other.digit = ap (λ (p : ℕ × List ℕ). kind_of p.0) opened_same in
       let first = one.kind_is in
       let second = other.kind_is in
       cc
 
   pub bytes_same : bs ≡ cs
   bytes_same =
-      let here : decode_of one.digits ≡ decode_of other.digits =
-      ap decode_of (digits_same line one.digit other.digit one.digits other.digits one.parts other.parts) in
+      let here : decode_of one.digits ≡ decode_of other.digits = ap (λ (p : ℕ × List ℕ). decode_of p.1) opened_same in
       let first = one.bytes_are in
       let second = other.bytes_are in
       cc
@@ -144,7 +137,8 @@ pub opens : (n : ℕ) (line : List ℕ) (k : Kind) (bytes : List ℕ) (fault : S
     → OpeningFails line n fault → ⊥
 opens n line k bytes _ one (wide w) =
     wide_has_no_kind one.digit k
-    (ap is_wide (digit_same line one.digit w.digit one.digits w.digits one.parts w.parts) ∙ w.wide) one.kind_is
+    (ap (λ (p : ℕ × List ℕ). is_wide p.0) (parts_same line _ (w.digit, w.digits) one.parts w.parts) ∙ w.wide)
+    one.kind_is
 opens n line k bytes _ one (unopened narrow never) = never k bytes one
 
 pub has_fields : (n : ℕ) (k : Kind) (bytes : List ℕ) (at : ℕ) (payload : List ℕ) (fault : SrecFault)
