@@ -1,6 +1,6 @@
 -- The next sample of a run under way: its requests, its room, and what the run has to give from its first boundary.
-use Rattle.std.proofs.Common.{◌≡◌, ◌≤◌, ◌<◌, ℕ, false, ◌+◌, ◌-◌, List, ◌∷◌, length, length-drop, take, drop, map, ap}
-use Rattle.std.proofs.Common.{ap₂, sym, ◌∙◌, subst, vec_len, vec_capacity, arith}
+use Rattle.std.proofs.Common.{◌≡◌, ◌≤◌, ◌<◌, ℕ, false, ◌+◌, ◌-◌, ◌^◌, List, ◌∷◌, length, length-drop, take, drop, map}
+use Rattle.std.proofs.Common.{ap, ap₂, sym, ◌∙◌, subst, vec_len, vec_capacity, arith}
 use Rattle.std.specs.Prelude.{Some, slice_get}
 use Rattle.cpu12_parts.specs.State.{State}
 use Rattle.run_law.specs.Forms.{Form, run_from}
@@ -8,7 +8,7 @@ use Rattle.run_forms.specs.declared.{boundary.SampleState.SampleState}
 use Rattle.run_forms.specs.declared.{sample.Counts.Counts, run_state.RunState.RunState}
 use Rattle.run_forms.specs.{Forms.plan_form, Forms.Harness, Rest.counted_at, Rest.shown_by}
 use Rattle.run_forms.specs.Slices.{Follow, requests_first, HasRoom, HaveRoom}
-use Rattle.run_forms.specs.SampleRests.{before_takes, after_takes, IsSteady}
+use Rattle.run_forms.specs.SampleRests.{Arrives, before_takes, after_takes, IsSteady}
 use Rattle.run_forms.specs.RunRests.{from_here, rest_before, sample_at, with_row, rest_here, rows_here, state_here}
 use Rattle.run_forms.specs.RunRests.{IsUnderWay}
 use Rattle.run_forms.proofs.PlanSlices.{room_first, slice_first, count_there, few_there, rest_further, first_few}
@@ -76,12 +76,26 @@ module _ {A U R S B T : Type 0} {fits : U → ℕ → Type 0} {h : Harness A U R
       fewer next_rooms.1)
 
   -- what is left of its room before its first boundary
-  pub next_room : fits st.counts.notes (length (requests_from plan p.behind n) - st.counts.next)
+  next_room : fits st.counts.notes (length (requests_from plan p.behind n) - st.counts.next)
   next_room =
       given_room fits h.notes (requests_from plan p.behind n) (next_requests h plan p) room st.counts
       next.counts next_rooms.0
       (slice_first h.parts.place (p.number + 1) p.behind n (drop p.behind plan) counted)
       (few_there plan p.behind (p.behind + n - p.behind) next.under_way.few)
+
+  pub next_arrives : st.over ≡ false → st.counts.moment + st.left < 2 ^ 32
+      → Arrives fits (requests_from plan p.behind n) st
+  next_arrives on sum =
+      let first : st.counts.next ≡ 0 = ap (λ (t : Counts U). t.next) next.counts in
+      let instrs : st.counts.instrs ≡ 0 = ap (λ (t : Counts U). t.instrs) next.counts in
+      let resumed : st.counts.resumed ≡ 0 = ap (λ (t : Counts U). t.resumed) next.counts in
+      record {
+        on = (on, ap (λ (t : Counts U). t.arrived) next.counts);
+        next = omega (arith, first);
+        room = next_room;
+        counts = (omega (arith, instrs), omega (arith, resumed));
+        sum = sum;
+      }
 
   -- at its first boundary the run is under way, with one row more
   pub under_way_next : (q : RunState U R) → q.rooms.items ≡ rooms → vec_len q.rows ≡ p.number

@@ -39,7 +39,20 @@ taken_there inside taken b fs fs2 ef ta =
     ap (λ (k : Bool). one_if (inside && k))
     (sym (is_longer fs b.frames) ∙ ap (λ (l : List (ℕ × FrameSeen)). nat_lt (length fs) (length l)) ef ∙ sym ta)
 
--- a boundary and a step, with what was counted before them
+-- a boundary and a step
+first_step : {S A B : Type 0} (g : Form S A B) (n m : ℕ) (inside : Bool) (qs : List A) (s t : State) (next : Next)
+    → let b : Taking A B = takes g m qs s in
+    g.ends m s ≡ false → b.state ≡ t → next_of g.flags t ≡ Ok next
+    → run_from g (suc n) m inside qs s
+    ≡ before_rest inside b next.kind (run_from g n (suc m) (is_part next.kind) b.left next.state)
+unfolding run_from
+first_step {A = A} {B = B} g n m inside qs s t next on es ne =
+    let b : Taking A B = takes g m qs s in
+    let rest : Bool → State → Ran A B = λ k u. run_from g n (suc m) k b.left u in
+    let one : run_from g (suc n) m inside qs s ≡ then_rest inside b rest (next_of g.flags b.state) = rw on refl in
+    one ∙ ap (then_rest inside b rest) (ap (next_of g.flags) es ∙ ne)
+
+-- and with what was counted before them
 pub onward : {S A B : Type 0} (g : Form S A B) (n m : ℕ) (inside taken : Bool) (qs qs2 : List A) (s t : State)
     (next : Next) (i j r : ℕ) (fs fs2 : List (ℕ × FrameSeen)) (ts ts2 : List B) → g.ends m s ≡ false
     → with_before fs ts (takes g m qs s) ≡ record { state = t; frames = fs2; told = ts2; left = qs2 }
@@ -53,16 +66,12 @@ onward {A = A} {B = B} g n m inside taken qs qs2 s t next i j r fs fs2 ts ts2 on
     let ef : fs ++ b.frames ≡ fs2 = ap (λ (k : TakingSummary A B). k.frames) te in
     let el : b.left ≡ qs2 = ap (λ (k : TakingSummary A B). k.left) te in
     let m1 : suc m ≡ m + 1 = omega arith in
-    let rest : Bool → State → Ran A B = λ k u. run_from g n (suc m) k b.left u in
-    let one : run_from g (suc n) m inside qs s ≡ then_rest inside b rest (next_of g.flags b.state) = rw on refl in
-    let two : then_rest inside b rest (next_of g.flags b.state) ≡ before_rest inside b next.kind
-    (run_from g n (suc m) (is_part next.kind) b.left next.state) =
-    ap (then_rest inside b rest) (ap (next_of g.flags) es ∙ ne) in
+    let first = first_step g n m inside qs s t next on es ne in
     let there : Ran A B = run_from g n (suc m) (is_part next.kind) b.left next.state in
     let same : there ≡ run_from g n (m + 1) (is_part next.kind) qs2 next.state =
     ap₂ (λ (k : ℕ) (l : List A). run_from g n k (is_part next.kind) l next.state) m1 el in
     let et : ts ++ tellings b.told ≡ ts2 = ap (λ (k : TakingSummary A B). k.told) te in
-    ap (λ (o : Ran A B). after i j r ts fs (summary o)) (one ∙ two)
+    ap (λ (o : Ran A B). after i j r ts fs (summary o)) first
     ∙ merged inside b next.kind i j r ts fs there
     ∙ ap₂ (λ (k : ℕ) (l : List (ℕ × FrameSeen)). after (i + one_if (not (is_part next.kind))) (j + 1) (r + k)
     (ts ++ tellings b.told) l (summary there)) (taken_there inside taken b fs fs2 ef ta) ef
@@ -177,14 +186,10 @@ runs_onward {A = A} {B = B} g n m inside qs qs2 s t next fs fs2 ts ts2 on te ne 
     let es : b.state ≡ t = ap (λ (k : TakingSummary A B). k.state) te in
     let el : b.left ≡ qs2 = ap (λ (k : TakingSummary A B). k.left) te in
     let m1 : suc m ≡ m + 1 = omega arith in
-    let rest : Bool → State → Ran A B = λ k u. run_from g n (suc m) k b.left u in
-    let one : run_from g (suc n) m inside qs s ≡ then_rest inside b rest (next_of g.flags b.state) = rw on refl in
-    let two : then_rest inside b rest (next_of g.flags b.state) ≡ before_rest inside b next.kind
-    (run_from g n (suc m) (is_part next.kind) b.left next.state) =
-    ap (then_rest inside b rest) (ap (next_of g.flags) es ∙ ne) in
+    let first = first_step g n m inside qs s t next on es ne in
     let same = ap₂ (λ (k : ℕ) (l : List A). run_from g n k (is_part next.kind) l next.state) m1 el in (
-      ap (λ (r : Ran A B). r.left) (one ∙ two) ∙ ap (λ (r : Ran A B). r.left) same,
-      ap (λ (r : Ran A B). r.states) (one ∙ two) ∙ ap₂ (λ (u : State) (r : Ran A B). u ∷ r.states) es same,
+      ap (λ (r : Ran A B). r.left) first ∙ ap (λ (r : Ran A B). r.left) same,
+      ap (λ (r : Ran A B). r.states) first ∙ ap₂ (λ (u : State) (r : Ran A B). u ∷ r.states) es same,
     )
 
 pub runs_stuck : {S A B : Type 0} (g : Form S A B) (n m : ℕ) (inside : Bool) (qs qs2 : List A) (s t : State)

@@ -52,6 +52,15 @@ abbrev pub after_takes : {A U R S B T : Type 0} → ℕ → Harness A U R S B T 
 after_takes flags h qs st s =
     if st.over then at_end h.notes qs st.counts s else by_step flags h qs st s (next_of flags s)
 
+-- A sample's state where it comes to a boundary: it is not over, there is room for the requests that are left, and no
+-- count is too large.
+pub record Arrives {A U : Type 0} (fits : U → ℕ → Type 0) (requests : List A) (st : SampleState U) : Type 0 where
+  pub on : (st.over ≡ false) × (st.counts.arrived ≡ false)
+  pub next : st.counts.next ≤ length requests
+  pub room : fits st.counts.notes (length requests - st.counts.next)
+  pub counts : (st.counts.instrs ≤ st.counts.moment) × (st.counts.resumed ≤ st.counts.moment)
+  pub sum : st.counts.moment + st.left < 2 ^ 32
+
 -- A sample's state that may go on: there is room for the requests that are left, and no count is too large.
 pub record IsSteady {A U : Type 0} (fits : U → ℕ → Type 0) (requests : List A) (st : SampleState U) : Type 0 where
   pub next : st.counts.next ≤ length requests

@@ -6,7 +6,7 @@ ghost use Rattle.cpu12_emul.specs.{declared.ends.Stepped.Stepped as Kind, Step.n
 ghost use Rattle.cpu12_emul.specs.Step.{SameMachine};
 ghost use Rattle.run_law.specs.Forms.{one_if};
 ghost use Rattle.run_forms.specs.SampleRests.{before_takes, after_takes, after_state, at_end, stepped_counts};
-ghost use Rattle.run_forms.specs.SampleRests.{IsSteady};
+ghost use Rattle.run_forms.specs.SampleRests.{Arrives, IsSteady};
 
 use crate::form::SampleForm;
 use crate::sample::{Counts, take_due};
@@ -52,22 +52,11 @@ pub(crate) fn come<M: Mem, A, U, R, F: SampleForm<A, U, R>>(
     st: &mut SampleState<U>,
 )
     requires served { All (F.serves form.now) requests.now }
-    requires on { (st.old.over ≡ false) × (st.old.counts.arrived ≡ false) }
-    requires next { st.old.counts.next ≤ length requests.now }
-    requires room { F.fits st.old.counts.notes
-        (length requests.now - st.old.counts.next) }
-    requires counts { (st.old.counts.instrs ≤ st.old.counts.moment) × (st.old.counts.resumed ≤ st.old.counts.moment) }
-    requires sum { st.old.counts.moment + st.old.left < 2 ^ 32 }
+    requires arrives { Arrives F.fits requests.now st.old }
     ensures rest { after_takes m.old.flags (F.harness form.now) requests.now st.new m.new.state
         ≡ before_takes m.old.flags (F.harness form.now) requests.now st.old m.old.state }
     ensures moment { st.new.counts.moment ≡ st.old.counts.moment }
-    ensures next { st.new.counts.next ≤ length requests.now }
-    ensures room { F.fits st.new.counts.notes
-        (length requests.now - st.new.counts.next) }
-    ensures counts { (st.new.counts.instrs ≤ st.new.counts.moment)
-        × (st.new.counts.resumed ≤ st.new.counts.moment + 1) }
-    ensures on { st.new.over ≡ false → (st.new.counts.arrived ≡ false)
-        × (st.new.counts.moment + st.new.left + 1 < 2 ^ 32) }
+    ensures steady { IsSteady F.fits requests.now st.new }
     ensures machine { SameMachine m.old m.new }
 {
     if form.ends(m, st.counts.moment) {

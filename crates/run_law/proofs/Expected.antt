@@ -242,17 +242,14 @@ here_then {A = A} moment m n (q ∷ qs) l = elim (split (moment q) m) [
   | inr not_due ↦ rw (le_false (moment q) m not_due) refl
 ]
 
-taken_are : {A : Type 0} (moment : A → ℕ) (n m : ℕ) (qs : List A) → Ascend moment m qs
-    → taken_along moment m n qs ≡ taken_before moment (m + n) qs
-taken_are {A = A} moment zero m qs h =
-    let e : m + 0 ≡ m = omega arith in
-    sym (ap (λ (k : ℕ). taken_before moment k qs) e ∙ none_taken moment m qs h)
-taken_are {A = A} moment (suc n) m qs h =
-    let e : suc m + n ≡ m + suc n = omega arith in
-    let r = taken_are moment n (suc m) (drop_due moment true m qs) (ascend_rest moment m qs h) in
+pub taken_whole : {A : Type 0} (moment : A → ℕ) (m n all : ℕ) (qs : List A) → m + n ≡ all → Ascend moment m qs
+    → taken_along moment m n qs ≡ taken_before moment all qs
+taken_whole moment m zero all qs sum h =
+    let e : m ≡ all = omega (arith, sum) in sym (none_taken moment all qs (subst (λ (k : ℕ). Ascend moment k qs) e h))
+taken_whole {A = A} moment m (suc n) all qs sum h =
     ap (λ (xs : List A). taken_here moment true m qs ++ xs)
-    (r ∙ ap (λ (k : ℕ). taken_before moment k (drop_due moment true m qs)) e)
-    ∙ here_then moment m (m + suc n) qs (omega arith)
+    (taken_whole moment (suc m) n all (drop_due moment true m qs) (omega arith) (ascend_rest moment m qs h))
+    ∙ here_then moment m all qs (omega arith)
 
 all_left : {A : Type 0} (moment : A → ℕ) (n : ℕ) (qs : List A) → Ascend moment n qs → left_from moment n qs ≡ qs
 all_left moment n [] h = refl
@@ -268,21 +265,10 @@ left_then moment m n (q ∷ qs) l = elim (split (moment q) m) [
   | inr not_due ↦ rw (le_false (moment q) m not_due) refl
 ]
 
-left_are : {A : Type 0} (moment : A → ℕ) (n m : ℕ) (qs : List A) → Ascend moment m qs
-    → left_along moment m n qs ≡ left_from moment (m + n) qs
-left_are {A = A} moment zero m qs h =
-    let e : m + 0 ≡ m = omega arith in
-    sym (ap (λ (k : ℕ). left_from moment k qs) e ∙ all_left moment m qs h)
-left_are {A = A} moment (suc n) m qs h =
-    let e : suc m + n ≡ m + suc n = omega arith in
-    left_are moment n (suc m) (drop_due moment true m qs) (ascend_rest moment m qs h)
-    ∙ ap (λ (k : ℕ). left_from moment k (drop_due moment true m qs)) e
-    ∙ left_then moment m (m + suc n) qs (omega arith)
-
-pub taken_whole : {A : Type 0} (moment : A → ℕ) (m n all : ℕ) (qs : List A) → m + n ≡ all → Ascend moment m qs
-    → taken_along moment m n qs ≡ taken_before moment all qs
-taken_whole moment m n all qs sum h = taken_are moment n m qs h ∙ ap (λ (k : ℕ). taken_before moment k qs) sum
-
 pub left_whole : {A : Type 0} (moment : A → ℕ) (m n all : ℕ) (qs : List A) → m + n ≡ all → Ascend moment m qs
     → left_along moment m n qs ≡ left_from moment all qs
-left_whole moment m n all qs sum h = left_are moment n m qs h ∙ ap (λ (k : ℕ). left_from moment k qs) sum
+left_whole moment m zero all qs sum h =
+    let e : m ≡ all = omega (arith, sum) in sym (all_left moment all qs (subst (λ (k : ℕ). Ascend moment k qs) e h))
+left_whole moment m (suc n) all qs sum h =
+    left_whole moment (suc m) n all (drop_due moment true m qs) (omega arith) (ascend_rest moment m qs h)
+    ∙ left_then moment m all qs (omega arith)

@@ -8,3 +8,8 @@ pub record Ground {S A B : Type 0} (marks : Marks) (open_to : ℕ → Bool) (f :
     (Good : A → Type 0) (Own : List (A × B) → State → Type 0) : Type 0 where
   pub sound : Sound marks open_to f P Good Own
   pub machine : MachineLaws
+
+pub ground : {S A B : Type 0} {marks : Marks} {open_to : ℕ → Bool} {f : Form S A B} {P : State → Type 0}
+    {Good : A → Type 0} {Own : List (A × B) → State → Type 0} → Sound marks open_to f P Good Own → MachineLaws
+    → Ground marks open_to f P Good Own
+ground sound machine = record { sound = sound; machine = machine }

@@ -36,20 +36,16 @@ loop-m-preserved g c =
 pub loop-m-smaller : goal.loop-m-smaller
 loop-m-smaller g c = (further g c).less
 
-pub returns-clause-rows : goal.returns-clause-rows
-returns-clause-rows g c =
+pub returns : goal.returns
+returns g c =
     let l = c.loop-m in
     let n = c.advance.new in
     let same = c.advance.ensures.same c.loop-m-test.false in
-    (stays_here c.args.m.now.flags (g.F.SampleForm.harness c.args.form.now) c.args.plan.now l.p n.p l.m n.m _ same.0
-    same.1 l.invariant.flags (c.advance.ensures.ends c.loop-m-test.false)).rows_are
-    ∙ l.invariant.rows
-
-pub returns-clause-state : goal.returns-clause-state
-returns-clause-state g c =
-    let l = c.loop-m in
-    let n = c.advance.new in
-    let same = c.advance.ensures.same c.loop-m-test.false in
-    (stays_here c.args.m.now.flags (g.F.SampleForm.harness c.args.form.now) c.args.plan.now l.p n.p l.m n.m _ same.0
-    same.1 l.invariant.flags (c.advance.ensures.ends c.loop-m-test.false)).state_is
-    ∙ l.invariant.state
+    let stays =
+    stays_here c.args.m.now.flags (g.F.SampleForm.harness c.args.form.now) c.args.plan.now l.p n.p l.m n.m _ same.0
+    same.1 l.invariant.flags (c.advance.ensures.ends c.loop-m-test.false) in
+    record {
+      rows = stays.rows_are ∙ l.invariant.rows;
+      state = stays.state_is ∙ l.invariant.state;
+      under_way = c.advance.ensures.under_way;
+    }

@@ -1,6 +1,6 @@
-use Rattle.std.proofs.Common.{◌∙◌, ◌-◌, length, refl, ap, sym, subst}
+use Rattle.std.proofs.Common.{◌∙◌, ◌+◌, ◌-◌, ◌<◌, ◌^◌, length, refl, ap, sym, subst}
 use Rattle.run_forms.specs.RunRests.{requests_at}
-use Rattle.run_forms.proofs.NextSamples.{HasNext, given_next, next_room, under_way_next}
+use Rattle.run_forms.proofs.NextSamples.{HasNext, given_next, next_arrives, under_way_next}
 use Rattle.run_forms.proofs.{run_state.give_next.Given.Over, run_state.give_next.Goals.After-count_of}
 use Rattle.run_forms.proofs.run_state.give_next.Goals as goal
 
@@ -18,8 +18,11 @@ next_there g c = record {
   left = ap (λ s. s.left) c.replace-sample.ensures.after ∙ c.fresh_sample.ensures.left;
 }
 
-pub come-requires-clause-room : goal.come-requires-clause-room
-come-requires-clause-room g c = next_room (next_there g (goal.at.come-requires-clause-room g c).After-count_of)
+pub come-requires-clause-arrives : goal.come-requires-clause-arrives
+come-requires-clause-arrives g c =
+    next_arrives (next_there g (goal.at.come-requires-clause-arrives g c).After-count_of)
+    (ap (λ s. s.over) c.replace-sample.ensures.after ∙ c.fresh_sample.ensures.on)
+    (subst (λ s. s.counts.moment + s.left < 2 ^ 32) (sym c.replace-sample.ensures.after) c.fresh_sample.ensures.sum)
 
 pub returns-clause-rest : goal.returns-clause-rest
 returns-clause-rest g c =
@@ -35,16 +38,9 @@ returns-clause-rest g c =
 pub returns-clause-under_way : goal.returns-clause-under_way
 returns-clause-under_way g c =
     let past = c.end_sample in
-    let came = c.come.ensures in
     under_way_next (next_there g (goal.at.returns-clause-under_way g c).After-count_of)
     (record (c.args.p.now) { sample = c.come.new.st; rooms = c.pop_front.new.self; rows = past.new.rows })
-    refl past.ensures.len past.ensures.room (record {
-      next = came.next;
-      room = came.room;
-      instrs = came.counts.0;
-      resumed = came.counts.1;
-      on = came.on;
-    })
+    refl past.ensures.len past.ensures.room c.come.ensures.steady
 
 pub end_sample-requires-clause-few : goal.end_sample-requires-clause-few
 end_sample-requires-clause-few g c =
