@@ -7,6 +7,7 @@ use Rattle.handler_check.proofs.Words.{IsForward, IsFrom, IsIn, IsSummary, Jumps
 use Rattle.handler_check.proofs.Words.{led_all, length, List, None, NotFree, Option, Passes, PathSummary, Pulls}
 use Rattle.handler_check.proofs.Words.{Pushes, refl, Refused, Returns, Rti, size_of, Some, subst, suc, sym, take}
 use Rattle.handler_check.proofs.Words.{Target, Trap, true, written_by, zero, ℕ}
+use Rattle.handler_check.proofs.Words.{FitsHeight, GoesForward, ◌==◌}
 use Rattle.std.specs.Prelude.{MatchOption}
 use Rattle.handler_check.specs.{Judging.Fails}
 use Rattle.handler_check.proofs.{Marking.mark_on, Marking.mark_first, Marking.accepted_of, FirstFaults.fails_first}
@@ -75,6 +76,10 @@ first_or is trapped at = elim (from_or 16384 is at) [
 
 -- ---- one instruction
 
+abbrev choose : Bool → Type 0 → Type 0 → Type 0
+choose true A B = A
+choose false A B = B
+
 module _ (is : List Instr) (trapped : Bool) (at : ℕ) (i : Instr) (summary : PathSummary) (here : IsAt is at i)
     (told : IsSummary is at summary) where
   abbrev HasFailed : Type 0
@@ -84,34 +89,48 @@ module _ (is : List Instr) (trapped : Bool) (at : ℕ) (i : Instr) (summary : Pa
   abbrev PassesTo : ℕ → Type 0
   PassesTo = Passes is trapped at i summary
 
-  start : PassesTo 3
-  start = record {
-    allowed = λ l. absurd (omega (arith, l));
-    free = λ l. absurd (omega (arith, l));
-    forward = λ l. absurd (omega (arith, l));
-    branches = λ l. absurd (omega (arith, l));
-    meets = λ l. absurd (omega (arith, l));
-    height = λ l. absurd (omega (arith, l));
-    falls = λ l. absurd (omega (arith, l));
+  -- what holds where no fault of a rank applies
+  abbrev Fact : ℕ → Type 0
+  Fact n =
+      choose (n == 3) (is_allowed i ≡ true)
+      (choose (n == 4) ((to : ℕ) → IsIn (written_by i) to → is_free to ≡ true)
+      (choose (n == 5) (GoesForward i)
+      (choose (n == 6) ((to : ℕ) → IsIn (branches_to at i) to → IsFirst is trapped to)
+      (choose (n == 7) ((summary.meets ≡ false) × FitsHeight i summary.height)
+      (choose (n == 8) ((to : ℕ) → IsIn (falls_to at i) to → IsFirst is trapped to) (Unit {0}))))))
+
+  abbrev FactsTo : ℕ → Type 0
+  FactsTo r = (n : ℕ) → 3 ≤ n → n < r → Fact n
+
+  start : FactsTo 3
+  start n from l = absurd (omega (arith, from, l))
+
+  onward : (r : ℕ) → FactsTo r → Fact r → FactsTo (suc r)
+  onward r facts next n from l = elim (cases_eq n r) [
+    | inl here ↦ subst Fact (sym here) next
+    | inr other ↦ facts n from (omega (arith, l, other))
+  ]
+
+  passes_to : (r : ℕ) → FactsTo r → PassesTo r
+  passes_to r facts = record {
+    allowed = facts 3 (omega arith);
+    free = facts 4 (omega arith);
+    forward = facts 5 (omega arith);
+    branches = facts 6 (omega arith);
+    meets = λ l. (facts 7 (omega arith) l).0;
+    height = λ l. (facts 7 (omega arith) l).1;
+    falls = facts 8 (omega arith);
   }
 
-  judged_allowed : PassesTo 4 ⊎ HasFailed
+  judged_allowed : FactsTo 4 ⊎ HasFailed
   judged_allowed = by_bool (is_allowed i) refl
     where
-      by_bool : (c : Bool) → is_allowed i ≡ c → PassesTo 4 ⊎ HasFailed
+      by_bool : (c : Bool) → is_allowed i ≡ c → FactsTo 4 ⊎ HasFailed
       by_bool false never = inr (
         Refused at,
-        record { applies = (i, (here, never)); place = refl; passes = start },
+        record { applies = (i, (here, never)); place = refl; passes = passes_to 3 start },
       )
-      by_bool true may = inl (record {
-        allowed = λ l. may;
-        free = λ l. absurd (omega (arith, l));
-        forward = λ l. absurd (omega (arith, l));
-        branches = λ l. absurd (omega (arith, l));
-        meets = λ l. absurd (omega (arith, l));
-        height = λ l. absurd (omega (arith, l));
-        falls = λ l. absurd (omega (arith, l));
-      })
+      by_bool true may = inl (onward 3 start may)
 
   free_or : (to : ℕ) → IsDecided (is_free to ≡ true)
   free_or to = by_bool (is_free to) refl
@@ -120,104 +139,71 @@ module _ (is : List Instr) (trapped : Bool) (at : ℕ) (i : Instr) (summary : Pa
       by_bool true e = inl e
       by_bool false e = inr (λ t. false≢true (sym e ∙ t))
 
-  judged_free : PassesTo 4 → PassesTo 5 ⊎ HasFailed
+  judged_free : FactsTo 4 → FactsTo 5 ⊎ HasFailed
   judged_free p = elim (each_or_one (λ to. is_free to ≡ true) free_or (written_by i)) [
     | inr (to, (writes, not_free)) ↦ inr (
       NotFree at to,
-      record { applies = (i, (here, writes, other to (is_free to) refl not_free)); place = refl; passes = p },
+      record {
+        applies = (i, (here, writes, other to (is_free to) refl not_free));
+        place = refl;
+        passes = passes_to 4 p;
+      },
     )
-    | inl free ↦ inl (record {
-      allowed = λ l. p.allowed (omega arith);
-      free = λ l. free;
-      forward = λ l. absurd (omega (arith, l));
-      branches = λ l. absurd (omega (arith, l));
-      meets = λ l. absurd (omega (arith, l));
-      height = λ l. absurd (omega (arith, l));
-      falls = λ l. absurd (omega (arith, l));
-    })
+    | inl free ↦ inl (onward 4 p free)
   ]
     where
       other : (to : ℕ) (c : Bool) → is_free to ≡ c → (is_free to ≡ true → ⊥) → is_free to ≡ false
       other to false e n = e
       other to true e n = absurd (n e)
 
-  judged_forward : PassesTo 5 → PassesTo 6 ⊎ HasFailed
+  judged_forward : FactsTo 5 → FactsTo 6 ⊎ HasFailed
   judged_forward p = elim (forward_or (kind_of i)) [
-    | inr back ↦ inr (Backward at, record { applies = (i, (here, back)); place = refl; passes = p })
-    | inl forward ↦ inl (record {
-      allowed = λ l. p.allowed (omega arith);
-      free = λ l. p.free (omega arith);
-      forward = λ l. forward;
-      branches = λ l. absurd (omega (arith, l));
-      meets = λ l. absurd (omega (arith, l));
-      height = λ l. absurd (omega (arith, l));
-      falls = λ l. absurd (omega (arith, l));
-    })
+    | inr back ↦ inr (Backward at, record { applies = (i, (here, back)); place = refl; passes = passes_to 5 p })
+    | inl forward ↦ inl (onward 5 p forward)
   ]
 
-  judged_branches : PassesTo 6 → PassesTo 7 ⊎ HasFailed
+  judged_branches : FactsTo 6 → FactsTo 7 ⊎ HasFailed
   judged_branches p = elim (each_or_one (IsFirst is trapped) (first_or is trapped) (branches_to at i)) [
     | inr (to, (there, none)) ↦
-        inr (Target at to, record { applies = (i, (here, there, none)); place = refl; passes = p })
-    | inl all ↦ inl (record {
-      allowed = λ l. p.allowed (omega arith);
-      free = λ l. p.free (omega arith);
-      forward = λ l. p.forward (omega arith);
-      branches = λ l. all;
-      meets = λ l. absurd (omega (arith, l));
-      height = λ l. absurd (omega (arith, l));
-      falls = λ l. absurd (omega (arith, l));
-    })
+        inr (Target at to, record { applies = (i, (here, there, none)); place = refl; passes = passes_to 6 p })
+    | inl all ↦ inl (onward 6 p all)
   ]
 
-  judged_height : PassesTo 7 → PassesTo 8 ⊎ HasFailed
+  judged_height : FactsTo 7 → FactsTo 8 ⊎ HasFailed
   judged_height p = by_bool summary.meets refl
     where
-      by_bool : (c : Bool) → summary.meets ≡ c → PassesTo 8 ⊎ HasFailed
+      by_bool : (c : Bool) → summary.meets ≡ c → FactsTo 8 ⊎ HasFailed
       by_bool true meets =
-          inr (Height at, record { applies = (i, (here, inl (told.two meets))); place = refl; passes = p })
+          inr (Height at, record { applies = (i, (here, inl (told.two meets))); place = refl; passes = passes_to 7 p })
       by_bool false apart = elim (height_or (kind_of i) summary.height) [
         | inr none ↦ inr (
           Height at,
           record {
             applies = (i, (here, inr (summary.most, summary.height, (told.one apart, none))));
             place = refl;
-            passes = p;
+            passes = passes_to 7 p;
           },
         )
-        | inl fits ↦ inl (record {
-          allowed = λ l. p.allowed (omega arith);
-          free = λ l. p.free (omega arith);
-          forward = λ l. p.forward (omega arith);
-          branches = λ l. p.branches (omega arith);
-          meets = λ l. apart;
-          height = λ l. fits;
-          falls = λ l. absurd (omega (arith, l));
-        })
+        | inl fits ↦ inl (onward 7 p (apart, fits))
       ]
 
-  judged_falls : PassesTo 8 → PassesTo 9 ⊎ HasFailed
+  judged_falls : FactsTo 8 → FactsTo 9 ⊎ HasFailed
   judged_falls p = elim (each_or_one (IsFirst is trapped) (first_or is trapped) (falls_to at i)) [
     | inr (to, (there, none)) ↦
-        inr (Falls at, record { applies = (i, to, (here, there, none)); place = refl; passes = p })
-    | inl all ↦ inl (record {
-      allowed = λ l. p.allowed (omega arith);
-      free = λ l. p.free (omega arith);
-      forward = λ l. p.forward (omega arith);
-      branches = λ l. p.branches (omega arith);
-      meets = λ l. p.meets (omega arith);
-      height = λ l. p.height (omega arith);
-      falls = λ l. all;
-    })
+        inr (Falls at, record { applies = (i, to, (here, there, none)); place = refl; passes = passes_to 8 p })
+    | inl all ↦ inl (onward 8 p all)
   ]
 
-  after : {n m : ℕ} → (PassesTo n → PassesTo m ⊎ HasFailed) → PassesTo n ⊎ HasFailed → PassesTo m ⊎ HasFailed
+  after : {n m : ℕ} → (FactsTo n → FactsTo m ⊎ HasFailed) → FactsTo n ⊎ HasFailed → FactsTo m ⊎ HasFailed
   after {n} {m} next (inl p) = next p
   after {n} {m} next (inr failed) = inr failed
 
   judged_here : PassesTo 9 ⊎ HasFailed
-  judged_here = after judged_falls (after judged_height (after judged_branches (after judged_forward
-      (after judged_free judged_allowed))))
+  judged_here = elim (after judged_falls (after judged_height (after judged_branches (after judged_forward
+      (after judged_free judged_allowed))))) [
+        | inl facts ↦ inl (passes_to 9 facts)
+        | inr failed ↦ inr failed
+      ]
 
 -- ---- one after the other
 

@@ -1,26 +1,14 @@
 -- The bytes of an image end somewhere, or one stands outside.
-use Rattle.handler_check.proofs.Words.{[], ◌+◌, ◌<◌, ◌∷◌, ◌≡◌, ◌≤◌, ◌⊎◌, arith, byte_at, cases_eq, cases_lt}
-use Rattle.handler_check.proofs.Words.{false, inl, inr, IsOutside, IsSome, List, nat_tests, None}
+use Rattle.handler_check.proofs.Words.{◌+◌, ◌<◌, ◌≡◌, ◌≤◌, ◌⊎◌, arith, byte_at, cases_eq, cases_lt}
+use Rattle.handler_check.proofs.Words.{inl, inr, IsOutside, IsSome, List, None}
 use Rattle.handler_check.proofs.Words.{Option, refl, Some, subst, suc, sym, zero, ℕ}
-use Rattle.std.specs.{BTreeMap.is_at, Ordering.nat_cmp}
+use Rattle.cpu12_asm.proofs.Algebra.{highest}
 use Rattle.handler_check.specs.{Images.IsRun}
 use Rattle.handler_check.proofs.Extents.{none_not}
 
 pub none_or_some : (o : Option ℕ) → (o ≡ None) ⊎ IsSome o
 none_or_some None = inl refl
 none_or_some (Some b) = inr refl
-
--- behind some address an image has no byte
-highest : (image : List (ℕ × ℕ)) → (n : ℕ) × ((q : ℕ) → n ≤ q → byte_at image q ≡ None)
-highest [] = (0, λ q l. refl)
-highest (b ∷ image) =
-    let r = highest image in (
-      r.0 + b.0 + 1,
-      λ q l.
-          let other : is_at (nat_cmp q) b.0 ≡ false = grind (arith, nat_tests) in
-          let rest : byte_at image q ≡ None = r.1 q (omega (arith, l)) in
-          rw other rest,
-    )
 
 -- from $4000 on each byte is there, up to $4FFF or up to one that is not
 pub record IsExtent (image : List (ℕ × ℕ)) (end : ℕ) : Type 0 where
