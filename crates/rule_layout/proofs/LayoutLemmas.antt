@@ -177,26 +177,16 @@ numbers_in_range b v =
         })
 
 pub rules_countable : (b : Block) → IsValid b → All IsCountable b.rules
-rules_countable b v = λ k d lt.
-    let r = get_or b.rules k d in
-    let made : IsCountable r =
-    record {
-      fits = rule_fits b r v (v.rules k d lt);
-      few =
-          omega (arith, v.size, get_or-le-sum_by rule_size b.rules k d lt);
-    } in
-    made
+rules_countable b v = λ k d lt. record {
+  fits = rule_fits b _ v (v.rules k d lt);
+  few = omega (arith, v.size, get_or-le-sum_by rule_size b.rules k d lt);
+}
 
 pub rules_spreadable : (b : Block) → IsValid b → All IsSpreadable b.rules
-rules_spreadable b v = λ k d lt.
-    let r = get_or b.rules k d in
-    let made : IsSpreadable r =
-    record {
-      fits = rule_fits b r v (v.rules k d lt);
-      conclusions =
-          λ j p here. ((rules_have_slots b v k d lt).conclusions j p here).known;
-    } in
-    made
+rules_spreadable b v = λ k d lt. record {
+  fits = rule_fits b _ v (v.rules k d lt);
+  conclusions = λ j p here. ((rules_have_slots b v k d lt).conclusions j p here).known;
+}
 
 width_le : (f : RuleInstruction) → element_width f ≤ 2
 width_le Rev = omega arith

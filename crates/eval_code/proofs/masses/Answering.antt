@@ -12,28 +12,19 @@ use Rattle.eval_code.proofs.{phases.SlotValues.slice_get_behind, phases.Quotient
 use Rattle.eval_code.proofs.phases.Outputs.{output_answer, output_answers}
 
 -- the sums over an output's terms
-pub sums_total : (b : Block) (bytes : List ℕ) (i : ℕ) (x : Output) (t : ℕ) (us : List Dec)
-    → total (map (λ k. byte_mass b bytes i k) (range_with_len t (length us))) ≡ total_mass
-    (byte_shares_from b bytes i x t us)
-sums_total b bytes i x t [] = refl
-sums_total b bytes i x t (u ∷ us) =
-    let s : ByteShare = record { byte = nearest_byte x u; mass = byte_mass b bytes i t } in
-    omega (
-      arith,
-      sums_total b bytes i x (t + 1) us,
-      sum_by-cons (λ (s : ByteShare). s.mass) s (byte_shares_from b bytes i x (t + 1) us),
-    )
+abbrev masses_from : Block → List ℕ → ℕ → ℕ → List Dec → List ℕ
+masses_from b bytes i t us = map (λ k. byte_mass b bytes i k) (range_with_len t (length us))
 
-pub sums_dot : (b : Block) (bytes : List ℕ) (i : ℕ) (x : Output) (t : ℕ) (us : List Dec)
-    → dot (map (nearest_byte x) us) (map (λ k. byte_mass b bytes i k) (range_with_len t (length us))) ≡ weighted_sum
-    (byte_shares_from b bytes i x t us)
-sums_dot b bytes i x t [] = refl
-sums_dot b bytes i x t (u ∷ us) =
+pub sums_are : (b : Block) (bytes : List ℕ) (i : ℕ) (x : Output) (t : ℕ) (us : List Dec)
+    → (total (masses_from b bytes i t us) ≡ total_mass (byte_shares_from b bytes i x t us))
+    × (dot (map (nearest_byte x) us) (masses_from b bytes i t us) ≡ weighted_sum (byte_shares_from b bytes i x t us))
+sums_are b bytes i x t [] = (refl, refl)
+sums_are b bytes i x t (u ∷ us) =
     let s : ByteShare = record { byte = nearest_byte x u; mass = byte_mass b bytes i t } in
-    omega (
-      arith,
-      sums_dot b bytes i x (t + 1) us,
-      sum_by-cons (λ (s : ByteShare). s.byte * s.mass) s (byte_shares_from b bytes i x (t + 1) us),
+    let rest = byte_shares_from b bytes i x (t + 1) us in
+    let sums = sums_are b bytes i x (t + 1) us in (
+      omega (arith, sums.0, sum_by-cons (λ (s : ByteShare). s.mass) s rest),
+      omega (arith, sums.1, sum_by-cons (λ (s : ByteShare). s.byte * s.mass) s rest),
     )
 
 -- one output's byte from the masses of its terms
@@ -58,8 +49,8 @@ answer_is : (w : Width) (b : Block) (bytes : List ℕ) (i : ℕ) (x : Output) (b
     → output_answer w x (own_masses b bytes i x) before ≡ centre (parts w) (byte_shares b bytes i x)
     (resting_answer (parts w) x before)
 answer_is w b bytes i x before =
-    ap₂ (λ (m n : ℕ). quotient_of w m n (option_map (nearest_byte x) x.default) before)
-    (sums_total b bytes i x 1 x.singletons) (sums_dot b bytes i x 1 x.singletons)
+    let sums = sums_are b bytes i x 1 x.singletons in
+    ap₂ (λ (m n : ℕ). quotient_of w m n (option_map (nearest_byte x) x.default) before) sums.0 sums.1
     ∙ ap (λ (k : ℕ). centre (parts w) (byte_shares b bytes i x) k) (rests (parts w) x x.default before)
 
 -- output by output

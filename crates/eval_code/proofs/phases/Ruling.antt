@@ -104,33 +104,25 @@ pub entries_some : (c : Conjunction) (cs : List Conjunction) → 2 ≤ sum_by en
 entries_some c cs = omega (arith, sum_by-cons entry_count c cs)
 
 -- addresses of one kind
-each_below : (P : ℕ → Type 0) (f : RuleOperands) (base n : ℕ) (name : ℕ → ℕ) → NamesSlots f base n name
-    → ((k : ℕ) → base ≤ k → k < base + n → P k) → (ks : List ℕ)
-    → Below n ks → Each P (named f (map name ks))
-each_below P f base n name h e [] b = tt
-each_below P f base n name h e (k ∷ ks) b = (
-  subst P (sym (h.place k b.0)) (e (base + k) (omega arith) (let q = b.0 in omega arith)),
-  each_below P f base n name h e ks b.1,
-)
+module _ (P : ℕ → Type 0) (f : RuleOperands) (base n : ℕ) (name : ℕ → ℕ) (h : NamesSlots f base n name)
+    (e : (k : ℕ) → base ≤ k → k < base + n → P k) where
+  each_below : (ks : List ℕ) → Below n ks → Each P (named f (map name ks))
+  each_below [] b = tt
+  each_below (k ∷ ks) b =
+      (subst P (sym (h.place k b.0)) (e (base + k) (omega arith) (let q = b.0 in omega arith)), each_below ks b.1)
 
-named_each : (P : ℕ → Type 0) (f : RuleOperands) (base n : ℕ) (name : ℕ → ℕ) → NamesSlots f base n name
-    → ((k : ℕ) → base ≤ k → k < base + n → P k)
-    → (cs : List Conjunction) (ws : List ℕ) → AllBelow n cs → Each P (rules_named f (rules_by name cs ws))
-named_each P f base n name h e [] ws b = tt
-named_each P f base n name h e (c ∷ cs) [] b = tt
-named_each P f base n name h e (c ∷ cs) (w ∷ ws) b =
-    each_append P (named f (map name c.literals)) _ (each_below P f base n name h e c.literals b.0)
-    (each_append P (named f (map name c.conclusions)) _ (each_below P f base n name h e c.conclusions b.1)
-    (named_each P f base n name h e cs ws b.2))
+  named_each : (cs : List Conjunction) (ws : List ℕ) → AllBelow n cs → Each P (rules_named f (rules_by name cs ws))
+  named_each [] ws b = tt
+  named_each (c ∷ cs) [] b = tt
+  named_each (c ∷ cs) (w ∷ ws) b =
+      each_append P (named f (map name c.literals)) _ (each_below c.literals b.0)
+      (each_append P (named f (map name c.conclusions)) _ (each_below c.conclusions b.1) (named_each cs ws b.2))
 
-target_each : (P : ℕ → Type 0) (f : RuleOperands) (base n : ℕ) (name : ℕ → ℕ) → NamesSlots f base n name
-    → ((k : ℕ) → base ≤ k → k < base + n → P k)
-    → (cs : List Conjunction) (ws : List ℕ) → AllBelow n cs → Each P (rules_target f (rules_by name cs ws))
-target_each P f base n name h e [] ws b = tt
-target_each P f base n name h e (c ∷ cs) [] b = tt
-target_each P f base n name h e (c ∷ cs) (w ∷ ws) b =
-    each_append P (named f (map name c.conclusions)) _ (each_below P f base n name h e c.conclusions b.1)
-    (target_each P f base n name h e cs ws b.2)
+  target_each : (cs : List Conjunction) (ws : List ℕ) → AllBelow n cs → Each P (rules_target f (rules_by name cs ws))
+  target_each [] ws b = tt
+  target_each (c ∷ cs) [] b = tt
+  target_each (c ∷ cs) (w ∷ ws) b =
+      each_append P (named f (map name c.conclusions)) _ (each_below c.conclusions b.1) (target_each cs ws b.2)
 
 elements_each : (P : ℕ → Type 0) (f : RuleOperands) (x : ℕ) (es : List ℕ) → x + span f es < 65536
     → ((k : ℕ) → x ≤ k → k < x + span f es → P k)
@@ -212,6 +204,17 @@ pub record AtRules (c : Ctx) (m ss : List ℕ) (k : Conjunction) (ks : List Conj
   pub below : AllBelow (length ss) (k ∷ ks)
   pub weights : length ws ≡ length ks
   pub few : length ss ≤ 300
+
+at_rules_later : (c : Ctx) (m ss : List ℕ) (k : Conjunction) (ks : List Conjunction) (w : ℕ) (ws : List ℕ)
+    (s t : State) → AtRules c m ss k ks w ws s → Live c t → t.mem ≡ s.mem → AtRules c m ss k ks w ws t
+at_rules_later c m ss k ks w ws s t h live same = record {
+  live = live;
+  mem_is = same ∙ h.mem_is;
+  size = h.size;
+  below = h.below;
+  weights = h.weights;
+  few = h.few;
+}
 
 -- REV itself
 rev_step : (c : Ctx) (m ss : List ℕ) (k : Conjunction) (ks : List Conjunction) (w : ℕ) (ws : List ℕ) (s : State)
@@ -365,16 +368,7 @@ rev_run c m ss k ks w ws s p h ep st full few hl le =
     let n2 = straight c s1 (p + 3) _ n1.live n1.pc_is st.1.0 refl tt tt in
     let n3 = straight c s2 (p + 3 + 3) _ n2.live n2.pc_is st.1.1.0 refl tt tt in
     let n4 = straight c s3 (p + 3 + 3 + 2) _ n3.live n3.pc_is st.1.1.1.0 refl tt tt in
-    let h4 : AtRules c m ss k ks w ws s4 =
-    record {
-      live = n4.live;
-      mem_is = h.mem_is;
-      size = h.size;
-      below = h.below;
-      weights =
-          h.weights;
-      few = h.few;
-    } in
+    let h4 = at_rules_later c m ss k ks w ws s s4 h n4.live refl in
     let here = st.1.1.1.1.0 in
     let lo = here.low in
     let hi = here.high in
@@ -434,16 +428,7 @@ revw_run c m ss k ks w ws s p h ep st light hl le hw whi =
     let n3 = straight c s2 (p + 3 + 3) _ n2.live n2.pc_is st.1.1.0 refl tt tt in
     let n4 = straight c s3 (p + 3 + 3 + 2) _ n3.live n3.pc_is st.1.1.1.0 refl tt tt in
     let n5 = straight c s4 (p + 3 + 3 + 2 + 2) _ n4.live n4.pc_is st.1.1.1.1.0 refl tt tt in
-    let h5 : AtRules c m ss k ks w ws s5 =
-    record {
-      live = n5.live;
-      mem_is = h.mem_is;
-      size = h.size;
-      below = h.below;
-      weights =
-          h.weights;
-      few = h.few;
-    } in
+    let h5 = at_rules_later c m ss k ks w ws s s5 h n5.live refl in
     let here = st.1.1.1.1.1.0 in
     let lo = here.low in
     let hi = here.high in
