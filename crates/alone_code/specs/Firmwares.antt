@@ -1,14 +1,12 @@
 -- The firmware of a block that stands alone.
 -- Beside the promise.
 use Rattle.std.specs.Prelude.{◌≡◌, List, [], ◌∷◌, ◌++◌, length}
-use Rattle.fuzzy_meaning.specs.{declared.block.Block.Block, Blocks.IsValid}
-use Rattle.rule_layout.specs.Layouts.{IsWithinLimits}
+use Rattle.fuzzy_meaning.specs.declared.block.Block.{Block}
 use Rattle.byte_scaling.specs.declared.width.Width.{Width}
-use Rattle.cpu12_isa.specs.{declared.instr.Instr.TheVariants.Rts, Fits.AreBytes}
+use Rattle.cpu12_isa.specs.declared.instr.Instr.TheVariants.{Rts}
 use Rattle.cpu12_asm.specs.declared.items.Item.{Item}
-use Rattle.cpu12_emul.specs.Image.{image_memory}
 use Rattle.firmware_code.specs.{declared.firmware.Firmware.Firmware, Code.frame_code, Images.vector_items}
-use Rattle.firmware_code.specs.Images.{IsImageOf}
+use Rattle.firmware_code.specs.{Images.IsImageOf, Forms.BlocksHave, Forms.BlocksHaveOne, Forms.ImagesAreBytes}
 use Rattle.eval_code.specs.{declared.memory_map.MemoryMap.MemoryMap, Items.block_items}
 use Rattle.eval_code.specs.{MemoryMaps.main_map, Bounds.instruction_bound, Bounds.step_bound}
 
@@ -28,14 +26,12 @@ pub record IsFirmwareOf (b : Block) (f : Firmware) : Type 0 where
 
 -- A valid block within the limits has one of each width.
 abbrev pub BlocksHaveFirmware : Type 0
-BlocksHaveFirmware =
-    (width : Width) (b : Block) → IsValid b → IsWithinLimits b → (f : Firmware) × IsFirmwareOf b f × (f.width ≡ width)
+BlocksHaveFirmware = BlocksHave IsFirmwareOf
 
 -- In one width it has one.
 abbrev pub FirmwaresAreOne : Type 0
-FirmwaresAreOne = (b : Block) (f g : Firmware) → f.width ≡ g.width → IsFirmwareOf b f → IsFirmwareOf b g → f ≡ g
+FirmwaresAreOne = BlocksHaveOne IsFirmwareOf
 
 -- The memory of its image is one of bytes.
 abbrev pub FirmwareIsBytes : Type 0
-FirmwareIsBytes =
-    (b : Block) (f : Firmware) → IsValid b → IsWithinLimits b → IsFirmwareOf b f → AreBytes (image_memory f.image.bytes)
+FirmwareIsBytes = ImagesAreBytes IsFirmwareOf

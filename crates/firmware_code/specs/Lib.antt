@@ -6,5 +6,6 @@ pub mod Settings
 pub mod Calls
 pub mod Laws
 pub mod Standing
+pub mod Forms
 pub mod Frames
 pub mod Uninterrupted

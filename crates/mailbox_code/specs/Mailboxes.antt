@@ -4,12 +4,12 @@ use Rattle.std.specs.Prelude.{◌≡◌, ◌≤◌, ℕ, zero, suc, ◌+◌, ◌
 use Rattle.std.specs.Prelude.{◌++◌, length}
 use Rattle.fuzzy_meaning.specs.{declared.block.Block.Block, Blocks.IsValid}
 use Rattle.rule_layout.specs.Layouts.{IsWithinLimits}
-use Rattle.cpu12_isa.specs.{declared.instr.Instr.Instr, Fits.AreBytes, Regions.is_free, Regions.stack_end}
+use Rattle.cpu12_isa.specs.{declared.instr.Instr.Instr, Regions.is_free, Regions.stack_end}
 use Rattle.cpu12_isa.specs.declared.instr.Instr.TheVariants.{LdaaExtended, LdsImmediate, ClrExtended, Beq, Bra}
 use Rattle.cpu12_isa.specs.declared.instr.Instr.TheVariants.{JsrExtended, Rts, Andcc, Orcc, Rti, MovbExtended}
 use Rattle.cpu12_asm.specs.declared.items.Item.{Item}
-use Rattle.cpu12_emul.specs.Image.{image_memory}
 use Rattle.firmware_code.specs.{declared.firmware.Firmware.Firmware, Images.vector_items, Images.IsImageOf}
+use Rattle.firmware_code.specs.Forms.{BlocksHave, BlocksHaveOne, ImagesAreBytes}
 use Rattle.eval_code.specs.declared.memory_map.MemoryMap.{MemoryMap}
 use Rattle.eval_code.specs.{MemoryMaps.main_map, Items.block_items, Bounds.instruction_bound, Bounds.steps_by}
 use Rattle.byte_scaling.specs.declared.width.Width.{Width}
@@ -67,17 +67,15 @@ pub record IsMailboxOf (b : Block) (f : Firmware) : Type 0 where
 
 -- A valid block within the limits has one of each width.
 abbrev pub BlocksHaveMailboxes : Type 0
-BlocksHaveMailboxes =
-    (width : Width) (b : Block) → IsValid b → IsWithinLimits b → (f : Firmware) × IsMailboxOf b f × (f.width ≡ width)
+BlocksHaveMailboxes = BlocksHave IsMailboxOf
 
 -- In one width it has one.
 abbrev pub MailboxesAreOne : Type 0
-MailboxesAreOne = (b : Block) (f g : Firmware) → f.width ≡ g.width → IsMailboxOf b f → IsMailboxOf b g → f ≡ g
+MailboxesAreOne = BlocksHaveOne IsMailboxOf
 
 -- The memory of its image is one of bytes.
 abbrev pub MailboxIsBytes : Type 0
-MailboxIsBytes =
-    (b : Block) (f : Firmware) → IsValid b → IsWithinLimits b → IsMailboxOf b f → AreBytes (image_memory f.image.bytes)
+MailboxIsBytes = ImagesAreBytes IsMailboxOf
 
 -- A sample takes it a step at least, and at most 20000.
 abbrev pub MailboxStepsAreFew : Type 0

@@ -113,6 +113,8 @@ pub fn compile_post(alloc: Global, block: &Block) -> Result<Firmware, LayoutFaul
     ensures limits { OnOk result (IsWithinLimits block.now) }
     ensures fault { IfErr result (IsFaultOf block.now) }
 {
+    mailbox_takes_posts();
+    mailbox_is_uninterrupted();
     let laid_out = spread(alloc, block)?;
     Ok(compile_post_laid_out(alloc, &laid_out)?)
 }
@@ -121,11 +123,7 @@ pub fn compile_post(alloc: Global, block: &Block) -> Result<Firmware, LayoutFaul
 fn compile_post_laid_out(alloc: Global, laid_out: &LaidOut<'_>) -> Result<Firmware, AllocError>
     ensures firmware { IfOk result (IsMailboxOf laid_out.now.block.now) }
     ensures width { IfOk result (λ f. f.width ≡ Byte) }
-    ensures turns { IfOk result (TakesPosts laid_out.now.block.now) }
-    ensures uninterrupted { IfOk result (AnswersUninterrupted laid_out.now.block.now) }
 {
-    mailbox_takes_posts();
-    mailbox_is_uninterrupted();
     blocks_are_placed();
     let block = laid_out.block;
     let inputs = block.inputs.len() as u8;

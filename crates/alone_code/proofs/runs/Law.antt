@@ -19,7 +19,8 @@ use Rattle.eval_code.specs.declared.memory_map.MemoryMap.{MemoryMap}
 use Rattle.cpu12_isa.specs.declared.instr.Instr.TheVariants.{Rts, LdaaExtended, Beq, JsrExtended, ClrExtended, Bra, Rti}
 use Rattle.firmware_code.specs.Arrivals.{IsArrivedBeside, LeavesMapped, FreeBytesLeave}
 use Rattle.alone_code.specs.Answers.{FirmwareAnswersBeside, ArrivesAlike, FirmwareArrivesAlike}
-use Rattle.alone_code.specs.Firmwares.{FirmwareIsBytes}
+use Rattle.alone_code.specs.Firmwares.{FirmwareIsBytes, IsFirmwareOf}
+use Rattle.firmware_code.specs.declared.firmware.Firmware.{Firmware}
 use Rattle.eval_code.proofs.Algebra.{bytes_front}
 use Rattle.cpu12_isa.specs.declared.instr.Instr.{Instr}
 use Rattle.firmware_code.proofs.Algebra.{idles, steady_of, whole_is_short, whole_rises}
@@ -184,11 +185,16 @@ from_arrival c b w samples h all =
     let a = h.arrived in
     (a.t, (arrived_at c b w h.samples.framed.started a, are_answered c b w samples (λ o. 0) a.t h.samples a.home all))
 
+-- what leaves a firmware's memory map leaves the main one, which is the same
+pub leaves_main : (open_to : ℕ → Bool) (b : Block) (f : Firmware) → IsFirmwareOf b f
+    → LeavesMapped open_to f.memory_map → LeavesMapped open_to main_map
+leaves_main open_to b f h = subst (λ (l : MemoryMap). LeavesMapped open_to l) h.memory_map
+
 pub firmware_answers_beside : LowerLaws → FirmwareAnswersBeside
 firmware_answers_beside laws open_to b f leaves v limits h flags samples fits all =
     let w = f.width in
     let image = image_memory f.image.bytes in
-    let mine : LeavesMapped open_to main_map = subst (λ (l : MemoryMap). LeavesMapped open_to l) h.memory_map leaves in
+    let mine = leaves_main open_to b f h leaves in
     let c = over_main laws open_to mine image flags fits in
     subst (λ (l : MemoryMap). Answers open_to l b w f.instr_bound image flags samples) (sym h.memory_map)
     (subst (λ (most : ℕ). Answers open_to main_map b w most image flags samples) (sym h.instructions)
@@ -219,10 +225,9 @@ alike arrives c b w mem h reset agree =
 
 pub firmware_arrives_alike : LowerLaws → FirmwareArrivesAlike
 firmware_arrives_alike laws open_to b f mem flags fits leaves v limits h agree =
-    let w = f.width in
     let image = image_memory f.image.bytes in
-    let mine : LeavesMapped open_to main_map = subst (λ (l : MemoryMap). LeavesMapped open_to l) h.memory_map leaves in
+    let mine = leaves_main open_to b f h leaves in
     let c = over_main laws open_to mine image flags fits in
     subst (λ (l : MemoryMap). ArrivesAlike open_to l image mem flags) (sym h.memory_map)
-    (alike laws.alike c b w mem (founded laws open_to mine b w f.image.bytes flags fits v limits h.image.bytes)
-    mine.reset agree)
+    (alike laws.alike c b f.width mem
+    (founded laws open_to mine b f.width f.image.bytes flags fits v limits h.image.bytes) mine.reset agree)

@@ -6,10 +6,11 @@ use Rattle.firmware_code.proofs.Words.{IsInterruptibleStep, IsShut, length, List
 use Rattle.firmware_code.proofs.Words.{nat_tests, Next, Ok, plain_act, read_by, refl, Setting, six_from, stack_end}
 use Rattle.firmware_code.proofs.Words.{State, sym, true}
 use Rattle.firmware_code.specs.Interruptible.{IsSteady}
-use Rattle.cpu12_isa.specs.{Agreement.Uncovers, Code.FitsOperands, Fits.EncodedIsShort, Meaning.is_plain}
-use Rattle.cpu12_isa.specs.{Regions.stack_start}
+use Rattle.cpu12_isa.specs.{Agreement.Agree, Agreement.Uncovers, Code.FitsOperands, Fits.EncodedIsShort}
+use Rattle.cpu12_isa.specs.{Meaning.is_plain, Regions.stack_start}
 use Rattle.cpu12_isa.specs.Plain.{StraightGoesOn, interrupt_masks}
 use Rattle.std.proofs.Common.{ap₂}
+use Rattle.std.proofs.lemmas.Bool.{or_parts}
 use Rattle.firmware_code.specs.{Interruptible.IsStackOfOneCall, Settings.InstructionGoesOn}
 use Rattle.eval_code.proofs.{Algebra.below_more, Algebra.bytes_writes, Algebra.instructions_stand}
 use Rattle.cpu12_isa.proofs.Algebra.{length_writes}
@@ -64,26 +65,37 @@ steady_of c masked s l lo hi = record {
 pub interruptible_of : LiveIsInterruptible
 interruptible_of c = steady_of c false
 
+-- where fewer bytes are open, no more is hidden
+pub hidden_less : (few many : ℕ → Bool) (sp : ℕ) (m n : List ℕ) → ((at : ℕ) → many at ≡ false → few at ≡ false)
+    → Agree (is_hidden few sp) m n → Agree (is_hidden many sp) m n
+hidden_less few many sp m n less a = record { size = a.size; bytes = λ at h. a.bytes at (shown at h) }
+  where
+    shown : (at : ℕ) → is_hidden many sp at ≡ false → is_hidden few sp at ≡ false
+    shown at h =
+        let p = or_parts (many at) (nat_le 0x1FE0 at && nat_lt at sp) h in
+        let is_shut = less at p.0 in
+        rw (is_shut, p.1) refl
+
 writes_shown : (open_to : ℕ → Bool) (sp : ℕ) (ws : List (ℕ × ℕ)) → WriteBelow 0x1800 ws
     → AllShown open_to (addresses ws)
     → AllShown (is_hidden open_to sp) (addresses ws)
 writes_shown open_to sp [] h shut = tt
 writes_shown open_to sp (w ∷ ws) h shut = (low_shown open_to sp w.0 shut.0 h.0, writes_shown open_to sp ws h.1 shut.1)
 
+-- a conclusion from what an instruction reads, writes and uncovers being shown, its writes low, and the stack in place
+abbrev WhereShown : Setting → State → Instr → Type 0 → Type 0
+WhereShown c s i Conclusion = let e = effect c.flags i s.regs s.mem in
+    AllShown (is_hidden c.open_to s.regs.sp) (read_by (plain_act c.flags i s.regs) s.mem)
+    → AllShown (is_hidden c.open_to (min s.regs.sp e.regs.sp)) (addresses e.writes)
+    → Uncovers (is_hidden c.open_to s.regs.sp) e.writes (is_hidden c.open_to e.regs.sp)
+    → WriteBelow 0x2000 e.writes → IsStackOfOneCall e.regs.sp → Conclusion
+
 -- a plain instruction that stands in the image and leaves the stack as the code has it, with I set or not
 pub plain_went : (c : Setting) (masked later : Bool) (s : State) (p q : ℕ) (i : Instr) → Lives c.image masked s
     → s.regs.pc ≡ p → c.memory_map.code ≤ p → p + 6 ≤ c.memory_map.code + code_room
     → decode_at c.image p ≡ Ok i → is_plain i ≡ true → FitsOperands i
-    → AllShown (is_hidden c.open_to s.regs.sp) (read_by (plain_act c.flags i s.regs) s.mem)
-    → AllShown (is_hidden c.open_to (min s.regs.sp (effect c.flags i s.regs s.mem).regs.sp))
-    (addresses (effect c.flags i s.regs s.mem).writes)
-    → Uncovers (is_hidden c.open_to s.regs.sp) (effect c.flags i s.regs s.mem).writes
-    (is_hidden c.open_to (effect c.flags i s.regs s.mem).regs.sp)
-    → WriteBelow 0x2000 (effect c.flags i s.regs s.mem).writes
-    → IsStackOfOneCall (effect c.flags i s.regs s.mem).regs.sp
-    → has (effect c.flags i s.regs s.mem).regs.ccr 4 ≡ later
-    → (effect c.flags i s.regs s.mem).regs.pc ≡ q
-    → Went c later i s (after_plain c.flags i s) q
+    → WhereShown c s i (has (effect c.flags i s.regs s.mem).regs.ccr 4 ≡ later
+    → (effect c.flags i s.regs s.mem).regs.pc ≡ q → Went c later i s (after_plain c.flags i s) q)
 plain_went c masked later s p q i l ep lo hi de pl fo reads writes uncovers below stack mask pc =
     let e = effect c.flags i s.regs s.mem in
     let fit = c.stays_fit c.flags i s.regs s.mem c.fits fo l.fits l.bytes in
@@ -116,16 +128,8 @@ pub busy_next : (c : Setting) (s : State) (p q : ℕ) (i : Instr) → Live c s �
     → s.regs.pc ≡ p
     → c.memory_map.code ≤ p → p + 6 ≤ c.memory_map.code + code_room
     → decode_at c.image p ≡ Ok i → is_plain i ≡ true → FitsOperands i
-    → AllShown (is_hidden c.open_to s.regs.sp) (read_by (plain_act c.flags i s.regs) s.mem)
-    → AllShown (is_hidden c.open_to (min s.regs.sp (effect c.flags i s.regs s.mem).regs.sp))
-    (addresses (effect c.flags i s.regs s.mem).writes)
-    → Uncovers (is_hidden c.open_to s.regs.sp) (effect c.flags i s.regs s.mem).writes
-    (is_hidden c.open_to (effect c.flags i s.regs s.mem).regs.sp)
-    → WriteBelow 0x2000 (effect c.flags i s.regs s.mem).writes
-    → IsStackOfOneCall (effect c.flags i s.regs s.mem).regs.sp
-    → interrupt_masks (effect c.flags i s.regs s.mem).regs.ccr ≡ interrupt_masks s.regs.ccr
-    → (effect c.flags i s.regs s.mem).regs.pc ≡ q
-    → Next c s (after_plain c.flags i s) q
+    → WhereShown c s i (interrupt_masks (effect c.flags i s.regs s.mem).regs.ccr ≡ interrupt_masks s.regs.ccr
+    → (effect c.flags i s.regs s.mem).regs.pc ≡ q → Next c s (after_plain c.flags i s) q)
 busy_next c s p q i l busy ep lo hi de pl fo reads writes uncovers below stack masks pc =
     let w = plain_went c false false s p q i l ep lo hi de pl fo reads writes uncovers below stack
     (ap (λ (m : Bool × Bool). m.0) masks ∙ l.mask) pc in

@@ -78,6 +78,12 @@ pub short_sum : (code : List Instr) (gs : List Segment) → code ≡ LdabImmedia
     → code_length code ≤ 42
 short_sum code gs is few = omega (arith, ap code_length is, length-sum gs)
 
+pub short_both : (bad sum : List Instr) (l : MemoryMap) (os : List Output) (gs : List Segment) → bad ≡ bad_code l os
+    → length os ≤ 4 → sum ≡ LdabImmediate 0 ∷ segments_code gs → length gs ≤ 4
+    → code_length bad + code_length sum ≤ 68
+short_both bad sum l os gs bad_is few sum_is few_segments =
+    omega (arith, short_bad bad l os bad_is few, short_sum sum gs sum_is few_segments)
+
 -- the operands fit
 fits_default : (at : ℕ) (byte : Option ℕ) → FitDefault byte → at < 65536 → FitCode (default_code at byte)
 fits_default at None fit lt = tt

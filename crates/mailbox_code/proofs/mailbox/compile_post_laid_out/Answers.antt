@@ -32,13 +32,3 @@ image_of-requires-clause-rising c =
 
 pub returns-clause-firmware : goal.returns-clause-firmware
 returns-clause-firmware c = search rules
-
-pub returns-clause-turns : goal.returns-clause-turns
-returns-clause-turns c =
-    let laid = c.args.laid_out.now in
-    c.mailbox_takes_posts.ensures laid.block.now _ laid.valid laid.limits (returns-clause-firmware c)
-
-pub returns-clause-uninterrupted : goal.returns-clause-uninterrupted
-returns-clause-uninterrupted c =
-    let laid = c.args.laid_out.now in
-    c.mailbox_is_uninterrupted.ensures laid.block.now _ laid.valid laid.limits (returns-clause-firmware c)
