@@ -6,13 +6,15 @@
 //! the cell of its byte. Each call returns exactly the value of its definition, and none allocates memory.
 #![tactic(auto)]
 
+mod by_width;
 mod inputs;
 pub mod laws;
 mod outputs;
 mod weights;
 mod width;
 
+pub use by_width::{value, value16};
 pub use inputs::{OutOfRange, byte_within, cell, to_byte};
-pub use outputs::{near, value, value16};
+pub use outputs::near;
 pub use weights::weight_byte;
 pub use width::Width;

@@ -4,8 +4,8 @@ use Rattle.std.specs.Prelude.{◌≢◌}
 use Rattle.fuzzy_meaning.specs.declared.block.Block.{Block}
 use Rattle.rule_layout.specs.declared.flat.LayoutFault.TheVariants as memory_map
 use Rattle.rule_layout.specs.Layouts.{IsWithinLimits, IsFaultOf}
-use Rattle.two_level_code.specs.declared.two.TwoFault.{TwoFault}
-use Rattle.two_level_code.specs.declared.two.TwoFault.TheVariants.{Slow, Fast, Memory}
+use Rattle.two_level_code.specs.declared.from_blocks.TwoFault.{TwoFault}
+use Rattle.two_level_code.specs.declared.from_blocks.TwoFault.TheVariants.{Slow, Fast, Memory}
 
 -- both can be laid out
 pub record AreWithinLimits (slow fast : Block) : Type 0 where

@@ -8,9 +8,11 @@
 //! an interrupt enters it, reaches its return with its block's answers.
 #![tactic(auto)]
 
+mod from_blocks;
 mod items;
 pub mod laws;
 mod two;
 
+pub use from_blocks::{TwoFault, compile_two};
 pub use items::fast_map;
-pub use two::{FastCode, Two, TwoFault, compile_two, compile_two_laid_out};
+pub use two::{FastCode, Two, compile_two_laid_out};

@@ -1,7 +1,6 @@
 //! Two blocks at two levels.
-ghost use Rattle.std.specs.Prelude.{◌≡◌, IfOk, IfErr, OnOk};
-ghost use Rattle.fuzzy_meaning.specs.Blocks.{IsValid};
-ghost use Rattle.two_level_code.specs.{Images.IsTwoOf, Images.fast_most, Faults.AreWithinLimits, Faults.IsTwoFaultOf};
+ghost use Rattle.std.specs.Prelude.{◌≡◌, IfOk};
+ghost use Rattle.two_level_code.specs.Images.{IsTwoOf, fast_most};
 ghost use Rattle.two_level_code.specs.{Running.AnswersEntered, Standing.StandsBeside, Standing.SlowAnswersBeside};
 
 use crate::items::two_items;
@@ -12,10 +11,8 @@ use cpu12_asm::Image;
 use eval_code::laws::blocks_are_placed;
 use eval_code::{instruction_bound, steps_by};
 use firmware_code::{Firmware, image_of};
-use fuzzy_meaning::Block;
-use rule_layout::{LaidOut, LayoutFault, spread};
+use rule_layout::LaidOut;
 use std::alloc::{AllocError, Global};
-use thiserror::Error;
 
 /// A slow block with a fast one that runs inside its interrupts.
 #[derive(Drop)]
@@ -36,21 +33,6 @@ pub struct FastCode {
     pub instr_bound: u32,
     /// The most steps that a sample takes there.
     pub step_bound: u32,
-}
-
-/// Why two blocks are refused: for the slow one's rules, or else for the fast one's, or for lack of memory, which
-/// implies nothing about either.
-#[derive(Clone, Copy, PartialEq, Eq, Debug, Error)]
-pub enum TwoFault {
-    /// The slow block's rules can't be laid out. It is never `LayoutFault::Memory`.
-    #[error("the slow block's rules can't be laid out")]
-    Slow(LayoutFault),
-    /// The fast block's rules can't be laid out. It is never `LayoutFault::Memory`.
-    #[error("the fast block's rules can't be laid out")]
-    Fast(LayoutFault),
-    /// Out of memory for the firmware.
-    #[error("no memory")]
-    Memory,
 }
 
 impl Two {
@@ -77,46 +59,17 @@ fn fast_most(bound: u32) -> u32
     bound.saturating_sub(4)
 }
 
-/// The firmware for two levels: a slow block with a fast block that runs inside its interrupts. It is refused
-/// where `compile` refuses the slow block, or else the fast one.
-pub fn compile_two(alloc: Global, slow: &Block, fast: &Block) -> Result<Two, TwoFault>
-    requires slow { IsValid slow.now }
-    requires fast { IsValid fast.now }
-    ensures two { IfOk result (IsTwoOf slow.now fast.now) }
-
-    // The slow firmware answers as it does alone beside interrupts to which all is open that is the fast
-    // block's; wherever one enters the fast code, this leads to its return with its block's answers.
-    ensures beside { IfOk result (StandsBeside fast.now) }
-    ensures slow_answers { IfOk result (SlowAnswersBeside slow.now) }
-    ensures fast_answers { IfOk result (AnswersEntered fast.now) }
-
-    // Refused exactly where the rules of one can't be laid out.
-    ensures limits { OnOk result (AreWithinLimits slow.now fast.now) }
-    ensures fault { IfErr result (IsTwoFaultOf slow.now fast.now) }
-{
-    let slow = match spread(alloc, slow) {
-        Ok(slow) => slow,
-        Err(LayoutFault::Memory) => return Err(TwoFault::Memory),
-        Err(fault) => return Err(TwoFault::Slow(fault)),
-    };
-    let fast = match spread(alloc, fast) {
-        Ok(fast) => fast,
-        Err(LayoutFault::Memory) => return Err(TwoFault::Memory),
-        Err(fault) => return Err(TwoFault::Fast(fault)),
-    };
-    match compile_two_laid_out(alloc, &slow, &fast) {
-        Ok(two) => Ok(two),
-        Err(AllocError) => Err(TwoFault::Memory),
-    }
-}
-
-/// The same for two blocks that are already laid out. It can only fail for lack of memory.
+/// The firmware for two levels: a slow block with a fast block that runs inside its interrupts, both laid out. It
+/// can only fail for lack of memory.
 pub fn compile_two_laid_out(
     alloc: Global,
     slow: &LaidOut<'_>,
     fast: &LaidOut<'_>,
 ) -> Result<Two, AllocError>
     ensures two { IfOk result (IsTwoOf slow.now.block.now fast.now.block.now) }
+
+    // The slow firmware answers as it does alone beside interrupts to which all is open that is the fast
+    // block's; wherever one enters the fast code, this leads to its return with its block's answers.
     ensures beside { IfOk result (StandsBeside fast.now.block.now) }
     ensures slow_answers { IfOk result (SlowAnswersBeside slow.now.block.now) }
     ensures fast_answers { IfOk result (AnswersEntered fast.now.block.now) }

@@ -18,21 +18,15 @@ returns-clause-two c = record {
 
 pub returns-clause-beside : goal.returns-clause-beside
 returns-clause-beside c =
-    let slow = c.args.slow.now in
-    let fast = c.args.fast.now in
-    (c.two_stand_beside.ensures slow.block.now fast.block.now _ slow.valid slow.limits fast.valid
-    fast.limits (returns-clause-two c)).0
+    (c.two_stand_beside.ensures _ _ _ c.args.slow.now.valid c.args.slow.now.limits c.args.fast.now.valid
+    c.args.fast.now.limits (returns-clause-two c)).0
 
 pub returns-clause-slow_answers : goal.returns-clause-slow_answers
 returns-clause-slow_answers c =
-    let slow = c.args.slow.now in
-    let fast = c.args.fast.now in
-    (c.two_stand_beside.ensures slow.block.now fast.block.now _ slow.valid slow.limits fast.valid
-    fast.limits (returns-clause-two c)).1
+    (c.two_stand_beside.ensures _ _ _ c.args.slow.now.valid c.args.slow.now.limits c.args.fast.now.valid
+    c.args.fast.now.limits (returns-clause-two c)).1
 
 pub returns-clause-fast_answers : goal.returns-clause-fast_answers
 returns-clause-fast_answers c =
-    let slow = c.args.slow.now in
-    let fast = c.args.fast.now in
-    c.fast_answers_entered.ensures slow.block.now fast.block.now _ slow.valid slow.limits fast.valid
-    fast.limits (returns-clause-two c)
+    c.fast_answers_entered.ensures _ _ _ c.args.slow.now.valid c.args.slow.now.limits c.args.fast.now.valid
+    c.args.fast.now.limits (returns-clause-two c)

@@ -1,4 +1,4 @@
-use Rattle.two_level_code.proofs.two.compile_two.Goals as goal
+use Rattle.two_level_code.proofs.from_blocks.compile_two.Goals as goal
 
 pub returns-in-Ok-compile_two_laid_out-clause-fast_answers :
     goal.returns-in-Ok-compile_two_laid_out-clause-fast_answers
