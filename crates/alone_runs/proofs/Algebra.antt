@@ -11,6 +11,7 @@ use Rattle.firmware_runs.specs.Ports.{given}
 use Rattle.alone_runs.specs.{Forms.stand_alone, Forms.with_writes, OpenBytes.AreOpenAlike, OpenBytes.GivenLeavesOpen}
 pub use Rattle.alone_runs.proofs.OpenBytes.{sp_of, step_left, written_parts}
 pub use Rattle.alone_runs.proofs.SampleBytes.{got}
+pub use Rattle.alone_runs.proofs.Requests.{slice_in_order}
 
 pub all_complete : {A B : Type 0} (P : State → Type 0) (flags : ℕ) (f : Firmware) (p : FormParts (List ℕ) A B)
     (ns : List ℕ) (samples : List (List ℕ)) (s : State) → AllComplete P (with_writes flags f) ns samples s

@@ -24,6 +24,7 @@ use Rattle.firmware_code.specs.Arrivals.{LeavesMapped, IsArrivedBeside, IsArrive
 use Rattle.alone_code.specs.Answers.{FirmwareAnswersBeside, ArrivesAlike, FirmwareArrivesAlike, AreAnswered}
 use Rattle.alone_code.specs.Answers.{IsAnsweredBeside, AreAnsweredBeside}
 use Rattle.alone_code.specs.Firmwares.{IsFirmwareOf}
+use Rattle.alone_code.proofs.Algebra.{leaves_main}
 use Rattle.firmware_code.specs.Uninterrupted.{Answer, values_in, AreUninterrupted, AreAnswersOf}
 use Rattle.alone_code.specs.Uninterrupted.{answers_by}
 use Rattle.eval_code.specs.Firing.{AreInputBytes}
@@ -306,14 +307,16 @@ is_alone : (b : Block) (f : Firmware) → IsFirmwareOf b f → f ≡ alone f (le
 unfolding by_map
 is_alone b f h = ap₂ (by_map f) h.memory_map h.outputs
 
+as_alone : (b : Block) (f : Firmware) → IsFirmwareOf b f → IsFirmwareOf b (alone f (length b.outputs))
+as_alone b f h = subst (λ (d : Firmware). IsFirmwareOf b d) (is_alone b f h) h
+
 pub runs_beside : ExecutionLaws → FirmwareAnswersBeside → FirmwareRunsBeside
 runs_beside laws answers open_to b f flags samples hf leaves v limits h all =
     let n = length b.outputs in
-    let same = is_alone b f h in
-    let own : IsFirmwareOf b (alone f n) = subst (λ (d : Firmware). IsFirmwareOf b d) same h in
-    let mine : LeavesMapped open_to main_map = subst (λ (l : MemoryMap). LeavesMapped open_to l) h.memory_map leaves in
+    let own = as_alone b f h in
+    let mine = leaves_main open_to b f h leaves in
     let from = answers open_to b (alone f n) mine v limits own flags samples hf all in
-    subst (λ (d : Firmware). RunsBeside open_to d flags samples) (sym same)
+    subst (λ (d : Firmware). RunsBeside open_to d flags samples) (sym (is_alone b f h))
     (beside laws open_to b f n flags samples from.0 hf v.few_outputs v.few_outputs own
     (all_short b samples v.few_inputs all) from.1.0 from.1.1)
 
@@ -341,15 +344,12 @@ first_alike arrives_plainly open_to b f n flags mem few h a =
 
 pub first_states_alike : ArrivesPlainly → FirmwareArrivesAlike → FirstStatesAlike
 first_states_alike arrives_plainly arrives open_to b f flags mem hf leaves v limits h agree =
-    let n = length b.outputs in
-    let same = is_alone b f h in
-    let own : IsFirmwareOf b (alone f n) = subst (λ (d : Firmware). IsFirmwareOf b d) same h in
-    let mine : LeavesMapped open_to main_map = subst (λ (l : MemoryMap). LeavesMapped open_to l) h.memory_map leaves in
+    let own = as_alone b f h in
     subst (λ (d : Firmware). FirstAlike open_to d flags mem (arrival flags d.memory_map.wait d.step_bound
     (reset_with mem)))
-    (sym same)
-    (first_alike arrives_plainly open_to b f n flags mem v.few_outputs own
-    (arrives open_to b (alone f n) mem flags hf mine v limits own agree))
+    (sym (is_alone b f h))
+    (first_alike arrives_plainly open_to b f _ flags mem v.few_outputs own
+    (arrives open_to b _ mem flags hf (leaves_main open_to b f h leaves) v limits own agree))
 
 -- such a state is the same but for what is hidden
 pub first_states_agree : FirstStatesAgree

@@ -5,7 +5,7 @@ use Rattle.std.specs.Prelude.{All}
 use Rattle.interrupt_plan.specs.declared.Request.{Request}
 use Rattle.interrupt_plan.specs.Plans.{NotAfter, Ascends, IsGoodRequest, IsGood}
 use Rattle.alone_runs.specs.{Forms.place_of, Rows.requests_of, Given.RequestsAreGood, Given.PlansAreInOrder}
-use Rattle.run_forms.specs.{Rows.is_of, Slices.Follow}
+use Rattle.run_forms.specs.{Rows.is_of, Slices.Follow, Slices.IsInOrder}
 use Rattle.run_law.specs.Soundness.{AllGood, Ascend}
 use Rattle.run_forms.proofs.Algebra.{one_is, other_is, of_here, of_not}
 
@@ -24,6 +24,10 @@ follow_good (a ∷ rest) h =
 
 pub plans_are_in_order : PlansAreInOrder
 plans_are_in_order plan good = record { few = good.few; follow = follow_good plan good }
+
+pub slice_in_order : PlansAreInOrder → (plan slice : List Request) → IsGood plan → slice ≡ plan
+    → IsInOrder place_of slice
+slice_in_order in_order plan slice good is = subst (IsInOrder place_of) (sym is) (in_order plan good)
 
 -- by sample and then by moment, from a pair of numbers on, and each request is good
 abbrev pub Goes : ℕ → ℕ → List Request → Type 0

@@ -1,17 +1,18 @@
 -- A firmware that stands alone is sound under requests that list writes, and so its runs follow those without
 -- interrupts.
-use Rattle.std.proofs.Common.{◌≡◌, ℕ, suc, not, List, [], ◌∷◌, refl, ap, ap₂, ◌∙◌}
+use Rattle.std.proofs.Common.{◌≡◌, ℕ, suc, List, [], ◌∷◌, refl, ap, ap₂, ◌∙◌}
 use Rattle.cpu12_isa.specs.Regions.{is_free, is_hidden}
 use Rattle.cpu12_isa.proofs.Algebra.{agree_self}
 use Rattle.cpu12_parts.specs.State.{State}
 use Rattle.run_law.specs.{Forms.RowSeen, Following.AllComplete, Following.expected_rows, Moments.TakenAtOnce}
-use Rattle.run_law.specs.Uninterrupted.{uninterrupted, counted, taken_at, resumed_of, frames_of}
+use Rattle.run_law.specs.Uninterrupted.{uninterrupted, counted, resumed_of, frames_of}
 use Rattle.interrupt_plan.specs.declared.Request.{Request}
 use Rattle.firmware_code.specs.declared.firmware.Firmware.{Firmware}
 use Rattle.firmware_runs.specs.Ports.{given, answers_in}
 use Rattle.alone_runs.specs.{Forms.with_writes, Rows.requests_of, SoundAloneProof.free_opens, Given.RequestsAreGood}
 use Rattle.alone_runs.specs.Following.{rows_of_samples, RunsFollowAlone, RunsFollowBeside}
 use Rattle.firmware_runs.specs.Facts.{FactsAlone}
+use Rattle.firmware_runs.proofs.Algebra.{at_moments}
 
 same_rows : TakenAtOnce → (flags : ℕ) (f : Firmware) (plan : List Request) (k : ℕ) (ns : List ℕ)
     (samples : List (List ℕ)) (s : State)
@@ -22,10 +23,8 @@ same_rows law flags f plan k [] samples s h = refl
 same_rows law flags f plan k (n ∷ ns) [] s h = refl
 same_rows law flags f plan k (n ∷ ns) (bytes ∷ rest) s h =
     let u : State = given f.memory_map bytes s in
-    let holds = (let z = h.0 in z.holds) in
-    let at : taken_at flags (λ (r : Request). r.moment) n u ≡ (λ (r : Request). r.moment) =
-    λ i. λ r. law flags n u r.moment
-    (λ j l. ap not (let p = holds j l in let facts = p.facts in facts.unmasked)) i in
+    let at = at_moments law (FactsAlone flags f) (λ v p. (let facts = p.facts in facts.unmasked)) flags n u
+    (λ (r : Request). r.moment) (let complete = h.0 in complete.holds) in
     ap₂ (λ (x : RowSeen (List ℕ)) (xs : List (RowSeen (List ℕ))). x ∷ xs) (ap (λ (moment : Request → ℕ). by moment) at)
     (same_rows law flags f plan (suc k) ns rest (uninterrupted flags n u) h.1)
   where

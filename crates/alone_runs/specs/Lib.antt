@@ -6,3 +6,4 @@ pub mod SoundAloneProof
 pub mod Answering
 pub mod Given
 pub mod OpenBytes
+pub mod Showing

@@ -1,7 +1,8 @@
 //! The form of a firmware that stands alone.
-ghost use Rattle.std.specs.Prelude.{ℕ, ◌≡◌, ◌<◌, ◌≤◌, Some, List, length, slice_get};
+ghost use Rattle.std.specs.Prelude.{ℕ, ◌≡◌, ◌<◌, ◌≤◌, List, length};
 ghost use Rattle.run_law.specs.Forms.{RowSeen};
-ghost use Rattle.run_forms.specs.{Rest.counted_at, Rest.shown_by, Rooms.Fits};
+ghost use Rattle.run_forms.specs.Rooms.{Fits};
+ghost use Rattle.alone_runs.specs.Showing.{ShowsSample};
 ghost use Rattle.alone_runs.specs.Rows.{writes_harness};
 ghost use Rattle.cpu12_emul.specs.Simulation.{OnStackOnly};
 ghost use Rattle.interrupt_plan.specs.Plans.{IsGoodRequest};
@@ -92,12 +93,7 @@ impl<'a> RunForm<Request, Notes<()>, Row> for AloneForm<'a> {
     fn row<M: Mem>(&self, m: &Machine<M>, k: usize, counts: Counts<Notes<()>>) -> Row
         requires sample { k < length (writes_harness self.now.firmware.now self.now.samples.now).samples }
         requires few { (n : ℕ) × Fits counts.notes n }
-        ensures { (x : List ℕ)
-            → slice_get (writes_harness self.now.firmware.now self.now.samples.now).samples k ≡ Some x
-            → (writes_harness self.now.firmware.now self.now.samples.now).seen result
-            ≡ shown_by (writes_harness self.now.firmware.now self.now.samples.now).shows
-            (writes_harness self.now.firmware.now self.now.samples.now).parts.answers
-            (counted_at (writes_harness self.now.firmware.now self.now.samples.now).notes counts m.now.state) x }
+        ensures { ShowsSample (writes_harness self.now.firmware.now self.now.samples.now) k counts m.now.state result }
     {
         let bytes = self.samples[k].bytes.as_slice();
         row_of(bytes, answers(self.firmware, m), counts).0

@@ -20,7 +20,7 @@ use Rattle.handler_check.specs.Images.{IsWhole, IsHandler}
 use Rattle.handler_check.specs.Running.{HasImage, CanBegin, IsQuietCode, HandlersAreQuiet}
 use Rattle.interrupt_plan.specs.{declared.Request.Request, Plans.IsGoodRequest}
 use Rattle.firmware_code.specs.{declared.firmware.Firmware.Firmware}
-use Rattle.firmware_code.proofs.Algebra.{sp_near}
+use Rattle.firmware_code.proofs.Algebra.{hidden_less, sp_near}
 use Rattle.firmware_runs.specs.Facts.{FactsBeside}
 use Rattle.alone_runs.specs.Following.{IsLow, OpensFree}
 use Rattle.alone_runs.specs.OpenBytes.{AreOpenAlike, StepsLeaveOpen}
@@ -116,13 +116,8 @@ all_open [] g = tt
 all_open (w ∷ ws) g = (g 0 w (omega arith), all_open ws (λ k x l. g (suc k) x (omega arith)))
 
 more_hidden : (sp : ℕ) (m n : List ℕ) → Agree (is_hidden is_free sp) m n → Agree (is_hidden is_open_to_code sp) m n
-more_hidden sp m n a = record { size = a.size; bytes = λ at h. a.bytes at (less at h) }
-  where
-    less : (at : ℕ) → is_hidden is_open_to_code sp at ≡ false → is_hidden is_free sp at ≡ false
-    less at h =
-        let p = or_parts (is_open_to_code at) (nat_le 0x1FE0 at && nat_lt at sp) h in
-        let f = or_parts (is_free at) (is_code at || is_vector at) p.0 in
-        rw (f.0, p.1) refl
+more_hidden sp m n = hidden_less is_free is_open_to_code sp m n
+    (λ at h. (let f = or_parts (is_free at) (is_code at || is_vector at) h in f.0))
 
 shown_high : (sp at : ℕ) → sp ≤ stack_end → 0x4000 ≤ at → is_hidden is_free sp at ≡ false
 shown_high sp at l h =

@@ -1,6 +1,7 @@
 //! A firmware whose interrupts run code, as a form of runs.
-ghost use Rattle.std.specs.Prelude.{ℕ, ◌≡◌, ◌≤◌, ◌<◌, List, Some, length, slice_get};
-ghost use Rattle.run_forms.specs.{Rest.counted_at, Rest.shown_by, Rooms.Fits};
+ghost use Rattle.std.specs.Prelude.{ℕ, ◌≡◌, ◌≤◌, ◌<◌, List, length};
+ghost use Rattle.run_forms.specs.Rooms.{Fits};
+ghost use Rattle.alone_runs.specs.Showing.{ShowsSample};
 ghost use Rattle.handled_runs.specs.Forms.{HandledSeen, code_harness, steps_of};
 ghost use Rattle.handled_runs.specs.declared.back.HandlerEnd as end;
 ghost use Rattle.cpu12_emul.specs.Simulation.{OnStackOnly};
@@ -104,13 +105,7 @@ impl<'a> RunForm<Request, Notes<HandlerEnd>, HandledRow> for HandledForm<'a> {
     fn row<M: Mem>(&self, m: &Machine<M>, k: usize, counts: Counts<Notes<HandlerEnd>>) -> HandledRow
         requires sample { k < length (code_harness self.now.firmware.now self.now.samples.now).samples }
         requires few { (n : ℕ) × Fits counts.notes n }
-        ensures { (x : List ℕ)
-            → slice_get (code_harness self.now.firmware.now self.now.samples.now).samples k ≡ Some x
-            → (code_harness self.now.firmware.now self.now.samples.now).seen result
-            ≡ shown_by (code_harness self.now.firmware.now self.now.samples.now).shows
-            (code_harness self.now.firmware.now self.now.samples.now).parts.answers
-            (counted_at (code_harness self.now.firmware.now self.now.samples.now).notes counts
-            m.now.state) x }
+        ensures { ShowsSample (code_harness self.now.firmware.now self.now.samples.now) k counts m.now.state result }
     {
         let handler = steps_in(counts.notes.told.as_slice());
         let bytes = self.samples[k].bytes.as_slice();

@@ -27,39 +27,6 @@ pub struct HandledRow {
     pub handler: u32,
 }
 
-/// The rows of the run over the joint image.
-fn joint_rows(
-    alloc: Global,
-    firmware: &Firmware,
-    image: &Image,
-    samples: &[Sample],
-    plan: &Plan,
-    flags: u8,
-) -> Result<Vec<HandledRow>, Memory>
-    requires outputs { firmware.now.outputs ≤ 4 }
-    requires plan { IsGood plan.now }
-    ensures { IfOk result (λ rows. map row_seen rows.items
-        ≡ handled_seen firmware.now image.now.bytes (map input_bytes samples.now) plan.now flags) }
-{
-    plans_are_in_order();
-    images_load_alike();
-    let joint = joint_image(alloc, &firmware.image, image)?;
-    let form = HandledForm { firmware, samples };
-    let start = Start {
-        image: &joint,
-        wait: firmware.memory_map.wait,
-        most: firmware.step_bound,
-    };
-    let (rows, _memory): (Vec<HandledRow>, PageMem) = run_form(
-        alloc,
-        &form,
-        &start,
-        plan.as_slice(),
-        flags,
-    )?;
-    Ok(rows)
-}
-
 /// Runs a firmware over a trace under a plan, where each interrupt runs the code of a handler's image, up to its
 /// RTI or to the limit for all handlers, and returns a row for each sample. Bits of `flags` supply the flags that
 /// the CPU12 Reference Manual leaves undefined. If the image is an accepted handler and the firmware a block's,
@@ -81,7 +48,22 @@ pub fn run_handler(
         → IfOk result (λ rows. HandlesItsBlock firmware.now image.now.bytes instrs flags
         (map input_bytes samples.now) plan.now (map row_seen rows.items)) }
 {
+    plans_are_in_order();
+    images_load_alike();
     handled_answers();
-    let rows = joint_rows(alloc, firmware, image, samples, plan, flags)?;
+    let joint = joint_image(alloc, &firmware.image, image)?;
+    let form = HandledForm { firmware, samples };
+    let start = Start {
+        image: &joint,
+        wait: firmware.memory_map.wait,
+        most: firmware.step_bound,
+    };
+    let (rows, _memory): (Vec<HandledRow>, PageMem) = run_form(
+        alloc,
+        &form,
+        &start,
+        plan.as_slice(),
+        flags,
+    )?;
     Ok(rows)
 }

@@ -4,22 +4,23 @@ use Rattle.mailbox_runs.proofs.Words.{AllSimulate, answer_of, answers_by, Answer
 use Rattle.mailbox_runs.proofs.Words.{ap₂, AreOfSize, arith, asked, before_turns, begun, behind, Bool, bytes_of}
 use Rattle.mailbox_runs.proofs.Words.{counted, drop, End, ended, false, Firmware, frames_after, frames_from}
 use Rattle.mailbox_runs.proofs.Words.{frames_in, FrameSeen, get_or, given, has_moment, if◌then◌else◌, image_memory}
-use Rattle.mailbox_runs.proofs.Words.{is_empty, is_free, is_hidden, is_inside, is_over, is_part, is_postable}
+use Rattle.mailbox_runs.proofs.Words.{is_empty, is_free, is_inside, is_over, is_part, is_postable}
 use Rattle.mailbox_runs.proofs.Words.{IsAnswerRun, IsAt, IsBox, IsGoodPost, IsIdleRun, length, List, mailed, map, max}
-use Rattle.mailbox_runs.proofs.Words.{nat_le, nat_lt, nat_tests, no_turn, None, one_if, OnStackOnly, part_taken}
+use Rattle.mailbox_runs.proofs.Words.{nat_le, nat_tests, no_turn, None, one_if, OnStackOnly, part_taken}
 use Rattle.mailbox_runs.proofs.Words.{places, plain_frame, Post, posted, Ran, refl, resumed_in, resumed_of, run_from}
 use Rattle.mailbox_runs.proofs.Words.{run_of_turns, RunSeen, Same, State, subst, suc, sym, taken_from, takes}
 use Rattle.mailbox_runs.proofs.Words.{then_turns, true, Turn, turn_form, turn_from, TurnEnds, TurnLaws, turns_from}
 use Rattle.mailbox_runs.proofs.Words.{uninterrupted, up_to, values_in, waiting, waits_by, zero, ℕ}
 use Rattle.std.specs.{Prelude.◌==◌}
 use Rattle.mailbox_runs.specs.{Answering.SimulatesTurn}
-use Rattle.mailbox_runs.proofs.{Posting.waits_within, Running.run_over, Running.run_on, Running.waits_behind}
+use Rattle.mailbox_runs.proofs.{Posting.IsReady, Posting.waits_within}
+use Rattle.mailbox_runs.proofs.Running.{run_over, run_on, waits_behind}
 use Rattle.mailbox_runs.proofs.{CopyRuns.kind_plain, CopyRuns.copy_run, TurnViews.frames_seen, TurnViews.resumed_seen}
 use Rattle.mailbox_runs.proofs.{Mailing.mailed_apart, IdleRuns.idle_turns_follow, AnswerRuns.good_behind}
 use Rattle.mailbox_runs.proofs.{AnswerRuns.posted_turns_follow, Behind.values_alike}
 use Rattle.mailbox_runs.proofs.LastOnes.{split, waiting_append, further, not_zero}
 use Rattle.mailbox_runs.proofs.TakenLists.{Rise, rise_behind, frames_at, last_before, up_up, behind_up, behind_behind}
-use Rattle.mailbox_runs.proofs.TwoSteps.{IsHere, here_at, Stands, taken_at as taken_here, posted_is}
+use Rattle.mailbox_runs.proofs.TwoSteps.{IsHere, here_at, Stands, Taken, taken_at as taken_here, posted_is, ready_shown}
 
 -- a run by its parts
 built : (a b : List AnswerSeen) (fs gs : List (ℕ × FrameSeen)) (r q : ℕ) (x y : RunSeen) → a ≡ b → fs ≡ gs → r ≡ q
@@ -114,6 +115,18 @@ module _ (laws : TurnLaws) (flags : ℕ) (f : Firmware) (samples : List (List �
     pub rise : Rise g posts
     pub same : Same is_free v (posted f.memory_map samples w s)
 
+  abbrev ready_at : (s : State) → IsAt image f.memory_map.wait s → IsReady s
+  ready_at s at = (here_at image f.memory_map.wait s at).ready
+
+  -- the posts that are taken there
+  taken_there : (g w : ℕ) (posts : List Post) (s v : State) → Begins g w posts s v
+      → (at : IsAt image f.memory_map.wait s)
+      → Taken laws.posting.steps laws.posting.taking flags f samples n g image box size s.mem (ready_at s at).size s w g
+      posts v
+  taken_there g w posts s v h at =
+      taken_here laws.posting.steps laws.posting.taking flags f samples n g image box size s.mem (ready_at s at).size s
+      w g posts v (ready_at s at) h.within h.good h.same
+
   -- no sample waits, and no post is left
   pub over_turn : (m g w : ℕ) (posts : List Post) (s v : State) → Begins g w posts s v → IsAt image f.memory_map.wait s
       → get_or s.mem f.memory_map.sample_flag 0 ≡ 0
@@ -121,21 +134,16 @@ module _ (laws : TurnLaws) (flags : ℕ) (f : Firmware) (samples : List (List �
       → run (suc m) g w posts v ≡ run_of_turns flags f samples
       (record { begin = g; sample = 0; steps = 0; taken = taken_from g posts } ∷ []) s
   over_turn m g w posts s v h at cleared none left =
-      let here = here_at image f.memory_map.wait s at in
-      let r = here.ready in
+      let r = ready_at s at in
       let taking = laws.posting.taking in
       let b = takes (turn_form flags f samples g) g posts v in
-      let t = taken_here laws.posting.steps taking flags f samples n g image box size s.mem r.size s w g posts v r
-      h.within h.good h.same in
+      let t = taken_there g w posts s v h at in
       let stands : Stands laws.posting.steps taking flags f samples n g image box size s.mem r.size s 0 b.state =
       subst (λ (x : ℕ). Stands laws.posting.steps taking flags f samples n g image box size s.mem r.size s x
       b.state) none t.stands in
       let sp = at.sp in
       let at_ready = box.ready in
-      let free : is_hidden is_free s.regs.sp f.memory_map.sample_flag ≡ false =
-      (let a : is_free f.memory_map.sample_flag ≡ false = grind (arith, nat_tests) in
-      let c : (nat_le 0x1FE0 f.memory_map.sample_flag && nat_lt f.memory_map.sample_flag s.regs.sp) ≡ false =
-      grind (arith, nat_tests) in rw (a, c) refl) in
+      let free = ready_shown s.regs.sp f.memory_map.sample_flag at_ready in
       let zero_there : get_or b.state.mem f.memory_map.sample_flag 0 ≡ 0 = stands.mem.bytes f.memory_map.sample_flag free
       ∙ cleared in
       let done : is_over f.memory_map b ≡ true =
@@ -178,13 +186,11 @@ module _ (laws : TurnLaws) (flags : ℕ) (f : Firmware) (samples : List (List �
       → Next m g w posts s v (turn g 0 2 (taken_from g (up_to (g + 1) posts))) (g + 2) (waiting w (up_to (g + 1) posts))
       (behind (g + 1) posts)
   idle_turn m g w posts s v h at bound none some idle_run end =
-      let here = here_at image f.memory_map.wait s at in
-      let r = here.ready in
+      let r = ready_at s at in
       let taking = laws.posting.taking in
       let form = turn_form flags f samples g in
       let b = takes form g posts v in
-      let tk = taken_here laws.posting.steps taking flags f samples n g image box size s.mem r.size s w g posts v r
-      h.within h.good h.same in
+      let tk = taken_there g w posts s v h at in
       let q0 = behind g posts in
       let a0 = up_to g posts in
       let a1 = up_to (g + 1) q0 in
@@ -344,13 +350,11 @@ module _ (laws : TurnLaws) (flags : ℕ) (f : Firmware) (samples : List (List �
         × ((turn_under g posts v).state ≡ z) × ((turn_under g posts v).left ≡ behind e q2)
         × SimulatesTurn flags f shown u (turn_under g posts v)
     answer_turn some0 run1 end =
-        let here = here_at image f.memory_map.wait s at in
-        let r = here.ready in
+        let r = ready_at s at in
         let taking = laws.posting.taking in
         let form = turn_form flags f samples g in
         let b = takes form g posts v in
-        let tk = taken_here laws.posting.steps taking flags f samples n g image box size s.mem r.size s w g posts v r
-        h.within h.good h.same in
+        let tk = taken_there g w posts s v h at in
         let v0 = waiting w a0 in
         let some : 1 ≤ v0 = not_zero v0 waits in
         let le0 = waits_within (length samples) g w posts h.within h.good in
@@ -358,8 +362,7 @@ module _ (laws : TurnLaws) (flags : ℕ) (f : Firmware) (samples : List (List �
         let st = tk.stands in
         let ready = box.ready in
         let sp = at.sp in
-        let free : is_hidden is_free s.regs.sp f.memory_map.sample_flag ≡ false = ready_shown s.regs.sp f.memory_map.sample_flag
-        ready in
+        let free = ready_shown s.regs.sp f.memory_map.sample_flag ready in
         let one : get_or b.state.mem f.memory_map.sample_flag 0 ≡ 1 = st.mem.bytes f.memory_map.sample_flag free
         ∙ posted_is laws.posting.steps taking flags f samples n g image box size s.mem r.size v0 some le0 in
         let on : is_over f.memory_map b ≡ false = ap (λ (x : ℕ). is_empty b.left && (x == 0)) one
@@ -431,12 +434,6 @@ module _ (laws : TurnLaws) (flags : ℕ) (f : Firmware) (samples : List (List �
           }),
         )
       where
-        ready_shown : (sp q : ℕ) → q ≡ 0x1028 → is_hidden is_free sp q ≡ false
-        ready_shown sp q z =
-            let a : is_free q ≡ false = grind (arith, nat_tests) in
-            let c : (nat_le 0x1FE0 q && nat_lt q sp) ≡ false = grind (arith, nat_tests) in
-            rw (a, c) refl
-
         answered_by : (x : ℕ) (ts : List Post) (i : ℕ) (z : State) → (x == 0) ≡ false
             → answers_by f samples g x ts (g + all) i z
             ≡ record {

@@ -37,6 +37,13 @@ wide_less n sp q few h =
     let p = or_parts (is_postable q) (nat_le 0x1FE0 q && nat_lt q sp) h in
     rw (less_hidden sp q h, unboxed n q few p.0) refl
 
+-- POSTED is not hidden by the stack or the free bytes
+pub ready_shown : (sp q : ℕ) → q ≡ 0x1028 → is_hidden is_free sp q ≡ false
+ready_shown sp q z =
+    let a : is_free q ≡ false = grind (arith, nat_tests) in
+    let b : (nat_le 0x1FE0 q && nat_lt q sp) ≡ false = grind (arith, nat_tests) in
+    rw (a, b) refl
+
 -- an interrupt may come, and the code that stands at PC is shown
 pub record IsHere (s : State) : Type 0 where
   pub ready : IsReady s
@@ -136,12 +143,6 @@ module _ (steps : PlainStepLaws) (laws : TakingLaws) (flags : ℕ) (f : Firmware
           (let z : q ≡ 0x1028 = grind (arith, nat_tests) in ready_shown y.regs.sp q z) in
           l.mem.bytes q free ∙ ap (λ (p : ℕ). get_or (mailed f.memory_map samples w base) p 0) there ∙ same
           ∙ ap (λ (p : ℕ). get_or (mailed f.memory_map samples k base) p 0) (sym there)
-        where
-          ready_shown : (sp q : ℕ) → q ≡ 0x1028 → is_hidden is_free sp q ≡ false
-          ready_shown sp q z =
-              let a : is_free q ≡ false = grind (arith, nat_tests) in
-              let b : (nat_le 0x1FE0 q && nat_lt q sp) ≡ false = grind (arith, nat_tests) in
-              rw (a, b) refl
       by q false e h =
           let shown : wide (is_hidden is_free y.regs.sp) n q ≡ false =
           only (wide (is_hidden is_free y.regs.sp) n q) (q == 0x1028) e h in

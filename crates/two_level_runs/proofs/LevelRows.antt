@@ -1,14 +1,15 @@
 -- What rows under levels are to be.
 use Rattle.two_level_runs.proofs.Words.{[], ◌<◌, ◌∙◌, ◌∷◌, ◌≡◌, ◌≤◌, ◌⊎◌, All, All-cons, AllComplete, ap, ap₂}
-use Rattle.two_level_runs.proofs.Words.{AreOnStack, arith, Before, both_ways, Completes, counted, FactsBeside, false}
+use Rattle.two_level_runs.proofs.Words.{AreOnStack, arith, Before, both_ways, Completes, counted, FactsBeside}
 use Rattle.two_level_runs.proofs.Words.{frames_of, FrameSeen, given, inl, inr, is_open_to_fast, Level, two_level_form}
-use Rattle.two_level_runs.proofs.Words.{levels_of, List, map, may_interrupt, None, not, plan_of, refl, Request}
+use Rattle.two_level_runs.proofs.Words.{levels_of, List, map, None, plan_of, refl, Request}
 use Rattle.two_level_runs.proofs.Words.{request_of, requests_of, resumed_of, rows_of_samples, RowSeen, State, subst}
-use Rattle.two_level_runs.proofs.Words.{suc, sym, taken_at, taken_before, taken_by, TakenAtOnce, true, Two}
+use Rattle.two_level_runs.proofs.Words.{suc, sym, taken_at, taken_before, taken_by, TakenAtOnce, Two}
 use Rattle.two_level_runs.proofs.Words.{uninterrupted, with_writes, ℕ, cases_lt, length, OnStackOrNone}
 use Rattle.run_law.specs.Following.{expected_rows, expected_taken, RowsSimulate}
 use Rattle.alone_runs.specs.Following.{AllWait}
 use Rattle.firmware_runs.specs.{Facts.WaitsAlone, Ports.answers_in}
+use Rattle.firmware_runs.proofs.Algebra.{at_moments}
 use Rattle.firmware_code.specs.declared.firmware.Firmware.{Firmware}
 use Rattle.firmware_code.proofs.Algebra.{in_room}
 use Rattle.two_level_runs.proofs.Frames.{HasFrameRoom, frames_fit, low_all}
@@ -48,13 +49,10 @@ same_numbers P Q flags f (m ∷ ms) (n ∷ ns) (x ∷ xs) s a b =
     (same_numbers P Q flags f ms ns xs (uninterrupted flags m (given f.memory_map x s)) a.1 rest)
 
 -- I is 0 throughout: a level is taken at its moment
-open_at : (flags : ℕ) (two : Two) (n : ℕ) (s : State) → Before (SlowFacts flags two) flags n s
-    → (j : ℕ) → j < n → may_interrupt (uninterrupted flags j s) ≡ true
-open_at flags two n s holds j l = ap not (let p = holds j l in let facts = p.facts in facts.unmasked)
-
 pub moments_are : TakenAtOnce → (flags : ℕ) (two : Two) (n : ℕ) (s : State) → Before (SlowFacts flags two) flags n s
     → taken_at flags (λ (l : Level). l.moment) n s ≡ (λ l. l.moment)
-moments_are law flags two n s holds = λ i. λ l. law flags n s l.moment (open_at flags two n s holds) i
+moments_are law flags two n s =
+    at_moments law (SlowFacts flags two) (λ v p. (let facts = p.facts in facts.unmasked)) flags n s (λ l. l.moment)
 
 -- a row by when levels are taken
 abbrev row_by : ℕ → Two → List Level → ℕ → List ℕ → State → (Level → ℕ) → RowSeen (List ℕ)
@@ -119,10 +117,10 @@ same_taken law flags two fast levels k [] samples s h = refl
 same_taken law flags two fast levels k (n ∷ ns) [] s h = refl
 same_taken law flags two fast levels k (n ∷ ns) (x ∷ rest) s h =
     let u : State = given two.slow.memory_map x s in
-    let holds = (let one = h.0 in one.holds) in
-    let ls = levels_of k levels in
+    let complete = h.0 in
     ap₂ (λ (ts : List Level) (tss : List (List Level)). ts ∷ tss)
-    (ap (λ (moment : Level → ℕ). taken_before moment n ls) (moments_are law flags two n u holds))
+    (ap (λ (moment : Level → ℕ). taken_before moment n (levels_of k levels))
+    (moments_are law flags two n u complete.holds))
     (same_taken law flags two fast levels (suc k) ns rest (uninterrupted flags n u) h.1)
 
 -- and no frame stands below the stack's start.

@@ -1,11 +1,12 @@
 -- An outer request is quiet.
-use Rattle.two_level_runs.proofs.Words.{[], ◌&&◌, ◌<◌, ◌∙◌, ◌≡◌, ◌≤◌, Agree, arith, both_ways, cases_lt, entered}
+use Rattle.two_level_runs.proofs.Words.{[], ◌<◌, ◌∙◌, ◌≡◌, ◌≤◌, Agree, arith, both_ways, cases_lt, entered}
 use Rattle.two_level_runs.proofs.Words.{false, fast_run, Free, inl, inr, is_fast_ram, is_fast_rom, is_free, is_hidden}
 use Rattle.two_level_runs.proofs.Words.{is_open_to_fast, IsOff, IsQuietRun, IsServable, LeavesStack, length, List}
-use Rattle.two_level_runs.proofs.Words.{nat_le, nat_lt, nat_tests, OnStack, OnStackOrNone, or_parts, OuterIsQuiet}
+use Rattle.two_level_runs.proofs.Words.{nat_tests, OnStack, OnStackOrNone, or_parts, OuterIsQuiet}
 use Rattle.two_level_runs.proofs.Words.{OuterServes, Quiet, refl, Running, RunsFast, served_by, sym, Temps}
 use Rattle.two_level_runs.proofs.Words.{WritesAreQuiet, ℕ}
 use Rattle.std.proofs.Common.{◌||◌, Option, None, Some}
+use Rattle.firmware_code.proofs.Algebra.{hidden_less}
 use Rattle.firmware_runs.specs.{Facts.AreNoneOrRunning}
 use Rattle.cpu12_isa.specs.{Regions.is_vector}
 use Rattle.run_law.specs.{Soundness.AreLeft}
@@ -30,14 +31,9 @@ open_apart at h = elim (cases_lt at 0x1FE0) [
 
 -- less is hidden where the RAM alone is open
 more_hidden : (sp : ℕ) (m n : List ℕ) → Agree (is_hidden is_fast_ram sp) m n → Agree (is_hidden is_open_to_fast sp) m n
-more_hidden sp m n a = record { size = a.size; bytes = λ at h. a.bytes at (less at h) }
-  where
-    less : (at : ℕ) → is_hidden is_open_to_fast sp at ≡ false → is_hidden is_fast_ram sp at ≡ false
-    less at h =
-        let p = or_parts (is_open_to_fast at) (nat_le 0x1FE0 at && nat_lt at sp) h in
-        let f = or_parts (is_free at) (is_fast_ram at || (is_fast_rom at || is_vector at)) p.0 in
-        let r = or_parts (is_fast_ram at) (is_fast_rom at || is_vector at) f.1 in
-        rw (r.0, p.1) refl
+more_hidden sp m n = hidden_less is_fast_ram is_open_to_fast sp m n (λ at h.
+    (let f = or_parts (is_free at) (is_fast_ram at || (is_fast_rom at || is_vector at)) h in
+    let r = or_parts (is_fast_ram at) (is_fast_rom at || is_vector at) f.1 in r.0))
 
 -- the sums that are left
 left : (t u v : Temps) → AreNoneOrRunning t → IsOff u → (v ≡ Free → u ≡ Free) → (t ≡ Free → v ≡ Free)

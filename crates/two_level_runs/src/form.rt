@@ -1,6 +1,7 @@
 //! A slow firmware with a fast block, as a form of runs.
-ghost use Rattle.std.specs.Prelude.{ℕ, ◌≡◌, ◌≤◌, ◌<◌, List, Option, Some, length, slice_get};
-ghost use Rattle.run_forms.specs.{Rest.counted_at, Rest.shown_by, Rooms.Fits};
+ghost use Rattle.std.specs.Prelude.{ℕ, ◌≡◌, ◌≤◌, ◌<◌, List, Option, length};
+ghost use Rattle.run_forms.specs.Rooms.{Fits};
+ghost use Rattle.alone_runs.specs.Showing.{ShowsSample};
 ghost use Rattle.two_level_runs.specs.{Runs.FastSeen, Rows.TwoLevelSeen, Rows.two_level_form};
 ghost use Rattle.two_level_runs.specs.{Harness.two_level_harness};
 ghost use Rattle.cpu12_emul.specs.Simulation.{OnStackOrNone};
@@ -98,13 +99,8 @@ impl<'a> RunForm<Level, Notes<Option<FastRow>>, TwoRow> for TwoLevelForm<'a> {
     ) -> TwoRow
         requires sample { k < length (two_level_harness self.now.two.now self.now.slow.now self.now.fast.now).samples }
         requires few { (n : ℕ) × Fits counts.notes n }
-        ensures { (x : List ℕ)
-            → slice_get (two_level_harness self.now.two.now self.now.slow.now self.now.fast.now).samples k ≡ Some x
-            → (two_level_harness self.now.two.now self.now.slow.now self.now.fast.now).seen result
-            ≡ shown_by (two_level_harness self.now.two.now self.now.slow.now self.now.fast.now).shows
-            (two_level_harness self.now.two.now self.now.slow.now self.now.fast.now).parts.answers
-            (counted_at (two_level_harness self.now.two.now self.now.slow.now self.now.fast.now).notes counts
-            m.now.state) x }
+        ensures { ShowsSample (two_level_harness self.now.two.now self.now.slow.now self.now.fast.now) k counts
+            m.now.state result }
     {
         let bytes = self.slow[k].bytes.as_slice();
         let (row, fast) = row_of(bytes, answers(&self.two.slow, m), counts);

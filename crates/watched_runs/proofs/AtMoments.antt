@@ -1,13 +1,13 @@
 -- Each request is taken at its moment.
-use Rattle.std.proofs.Common.{◌≡◌, ℕ, suc, not, List, [], ◌∷◌, ◌++◌, refl, ap, ap₂, ◌∙◌, map}
+use Rattle.std.proofs.Common.{◌≡◌, ℕ, suc, List, [], ◌∷◌, ◌++◌, refl, ap, ap₂, ◌∙◌, map}
 use Rattle.std.specs.Prelude.{slice_index}
 use Rattle.cpu12_emul.specs.Image.{image_memory}
 use Rattle.cpu12_parts.specs.State.{State}
-use Rattle.run_law.specs.Uninterrupted.{uninterrupted, counted, taken_at, resumed_of, frames_of}
+use Rattle.run_law.specs.Uninterrupted.{uninterrupted, counted, resumed_of, frames_of}
 use Rattle.run_law.specs.{Following.AllComplete, Following.expected_rows, Moments.TakenAtOnce}
 use Rattle.interrupt_plan.specs.declared.Request.{Request}
 use Rattle.firmware_code.specs.declared.firmware.Firmware.{Firmware}
-use Rattle.firmware_runs.specs.Ports.{answers_in}
+use Rattle.firmware_runs.{specs.Ports.answers_in, proofs.Moments.at_moments}
 use Rattle.alone_runs.specs.{Following.row_of_sample, Rows.requests_of}
 use Rattle.watched_code.specs.{Watched.Watched, Watched.restored, WatchedCode.fault_at}
 use Rattle.watched_runs.specs.Forms.{given_changed, watched_form, FactsWatched}
@@ -50,10 +50,8 @@ same_rows law flags f plan k [] xs s h = refl
 same_rows law flags f plan k (n ∷ ns) [] s h = refl
 same_rows law flags f plan k (n ∷ ns) (x ∷ rest) s h =
     let u : State = given_changed f.memory_map x s in
-    let holds = (let z = h.0 in z.holds) in
-    let at : taken_at flags (λ (r : Request). r.moment) n u ≡ (λ (r : Request). r.moment) =
-    λ i. λ r. law flags n u r.moment
-    (λ j l. ap not (let p = holds j l in let facts = p.facts in facts.unmasked)) i in
+    let at = at_moments law (FactsWatched flags) (λ v p. (let facts = p.facts in facts.unmasked)) flags n u
+    (λ (r : Request). r.moment) (let complete = h.0 in complete.holds) in
     ap₂ (λ (row : FaultSeen) (rows : List FaultSeen). row ∷ rows)
     (ap (row_by flags f (requests_of k plan) n x u) at ∙ row_is flags f (requests_of k plan) n x u)
     (same_rows law flags f plan (suc k) ns rest

@@ -1,6 +1,7 @@
 //! A firmware with watched tables, as a form of runs.
 ghost use Rattle.std.specs.Prelude.{ℕ, ◌≡◌, ◌<◌, ◌≤◌, ◌+◌, List, Some, length, map, slice_get};
-ghost use Rattle.run_forms.specs.{Rest.counted_at, Rest.shown_by, Rooms.Fits};
+ghost use Rattle.run_forms.specs.Rooms.{Fits};
+ghost use Rattle.alone_runs.specs.Showing.{ShowsSample};
 ghost use Rattle.trace_io.specs.Traces.{input_bytes};
 ghost use Rattle.watched_code.specs.Watched as tables;
 ghost use Rattle.watched_runs.specs.{Rows.FaultSeen, Rows.watched_harness, Samples.AscendThroughout};
@@ -128,14 +129,8 @@ impl<'a> RunForm<Request, Notes<()>, WatchedRow> for WatchedForm<'a> {
         requires sample { k
             < length (watched_harness self.now.firmware.now self.now.samples.now self.now.upsets.now).samples }
         requires few { (n : ℕ) × Fits counts.notes n }
-        ensures { (x : tables.Watched)
-            → slice_get (watched_harness self.now.firmware.now self.now.samples.now self.now.upsets.now).samples k
-            ≡ Some x
-            → (watched_harness self.now.firmware.now self.now.samples.now self.now.upsets.now).seen result
-            ≡ shown_by (watched_harness self.now.firmware.now self.now.samples.now self.now.upsets.now).shows
-            (watched_harness self.now.firmware.now self.now.samples.now self.now.upsets.now).parts.answers
-            (counted_at (watched_harness self.now.firmware.now self.now.samples.now self.now.upsets.now).notes counts
-            m.now.state) x }
+        ensures { ShowsSample (watched_harness self.now.firmware.now self.now.samples.now self.now.upsets.now) k counts
+            m.now.state result }
     {
         let answers = answers(self.firmware, m);
         WatchedRow {

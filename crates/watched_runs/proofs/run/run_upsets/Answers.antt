@@ -2,21 +2,20 @@ use Rattle.std.proofs.Common.{◌∙◌, List, map, ap, sym, subst}
 use Rattle.run_law.specs.Forms.{RowSeen, rows_from}
 use Rattle.interrupt_plan.specs.declared.{Request.Request, upsets.Upset.Upset}
 use Rattle.watched_code.specs.Watched.{Watched}
-use Rattle.alone_runs.specs.{Forms.place_of, Rows.requests_of, Rows.first_state}
+use Rattle.alone_runs.specs.Rows.{requests_of, first_state}
+use Rattle.alone_runs.proofs.Algebra.{slice_in_order}
 use Rattle.trace_io.specs.Traces.{input_bytes}
-use Rattle.run_forms.specs.{Slices.IsInOrder, Rows.shown}
+use Rattle.run_forms.specs.Rows.{shown}
 use Rattle.watched_runs.specs.{Samples.with_upsets, Forms.watched_form, Answering.AnswersItsSamples}
 use Rattle.watched_runs.specs.Rows.{FaultSeen, fault_seen, upset_rows, faults_of}
 use Rattle.watched_runs.proofs.Shown.{shown_plainly}
 use Rattle.watched_runs.proofs.run.run_upsets.Goals as goal
 
 pub run_form-requires : goal.run_form-requires
-run_form-requires c =
-    record {
-      served = λ k q within. tt;
-      order = subst (IsInOrder place_of) (sym c.as_slice.ensures)
-          (c.plans_are_in_order.ensures c.args.plan.now c.requires.plan);
-    }
+run_form-requires c = record {
+  served = λ k q within. tt;
+  order = slice_in_order c.plans_are_in_order.ensures _ _ c.requires.plan c.as_slice.ensures;
+}
 
 pub returns-clause-rows : goal.returns-clause-rows
 returns-clause-rows c =

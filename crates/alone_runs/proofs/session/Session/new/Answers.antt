@@ -2,21 +2,19 @@ use Rattle.std.proofs.Common.{◌≡◌, ◌∙◌, ℕ, List, map, ap, ap₂, s
 use Rattle.cpu12_parts.specs.State.{State}
 use Rattle.run_law.specs.Forms.{RowSeen, Rows}
 use Rattle.interrupt_plan.specs.declared.Request.{Request}
-use Rattle.alone_runs.specs.Forms.{place_of, with_writes}
+use Rattle.alone_runs.specs.Forms.{with_writes}
 use Rattle.alone_runs.specs.Rows.{requests_of, first_state, firmware_rows, writes_harness}
 use Rattle.trace_io.specs.Traces.{input_bytes}
-use Rattle.run_forms.specs.{Positions.positions, Slices.IsInOrder, Rooms.Fits}
+use Rattle.run_forms.specs.{Positions.positions, Rooms.Fits}
 use Rattle.run_forms.specs.RunRests.{RunRest, from_here, rest_here, shown_run, IsUnderWay}
-use Rattle.alone_runs.proofs.Requests.{plans_are_in_order}
+use Rattle.alone_runs.proofs.Requests.{plans_are_in_order, slice_in_order}
 use Rattle.alone_runs.proofs.session.Session.new.Goals as goal
 
 pub begun-requires : goal.begun-requires
-begun-requires g c =
-    record {
-      served = λ k q within. tt;
-      order = subst (IsInOrder place_of) (sym c.as_slice.ensures)
-          (plans_are_in_order c.args.plan.now c.requires.plan);
-    }
+begun-requires g c = record {
+  served = λ k q within. tt;
+  order = slice_in_order plans_are_in_order _ _ c.requires.plan c.as_slice.ensures;
+}
 
 pub invariant_of-result : goal.invariant_of-result
 invariant_of-result g c =

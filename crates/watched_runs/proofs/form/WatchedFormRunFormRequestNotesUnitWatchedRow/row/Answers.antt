@@ -1,11 +1,9 @@
-use Rattle.std.proofs.Common.{ℕ, ◌<◌, subst}
-use Rattle.watched_runs.proofs.{Samples.bytes_there, Samples.count_given, Shown.row_is}
+use Rattle.watched_runs.proofs.{Samples.bytes_there, Samples.is_of_trace, Shown.row_is}
 use Rattle.watched_runs.proofs.form.WatchedFormRunFormRequestNotesUnitWatchedRow.row.Goals as goal
 
 pub bytes_of-requires : goal.bytes_of-requires
 bytes_of-requires g c =
-    let a = c.args in
-    subst (λ (n : ℕ). a.k < n) (count_given a.self.now.upsets.now a.self.now.samples.now) c.requires.sample
+    is_of_trace c.args.self.now.upsets.now c.args.self.now.samples.now c.args.k c.requires.sample
 
 pub returns : goal.returns
 returns g c = λ x is.

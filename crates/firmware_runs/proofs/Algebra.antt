@@ -1,0 +1,2 @@
+-- What the crates above cite of the moments of requests.
+pub use Rattle.firmware_runs.proofs.Moments.{at_moments}
