@@ -123,13 +123,14 @@ impl MemShelf {
 }
 
 impl Shelf for MemShelf {
-    ghost use Rattle.fz_shelf.specs.Fakes.{AreKept, failing_reads_of, failing_writes_of, reads_of, writes_of};
+    ghost use Rattle.fz_shelf.specs.Fakes.{AreKept, counts_of, IsReadListed, IsWriteListed, log_of};
+    ghost use Rattle.fz_shelf.specs.Fakes.{reads_of, writes_of};
 
     ghost files = { λ s. file_in s.files.items };
 
-    ghost counts = { λ s. record { reads = s.failed_reads; longs = s.too_long; writes = s.failed_writes } };
+    ghost counts = { counts_of };
 
-    ghost asked = { λ s. asked_of s.asked.items };
+    ghost asked = { log_of };
 
     ghost reliable = { λ s. All (λ n. n ≤ s.reads) s.failing_reads × All (λ n. n ≤ s.writes) s.failing_writes };
 
@@ -138,33 +139,24 @@ impl Shelf for MemShelf {
         requires { into.old.items ≡ [] }
         ensures files { ⟦<MemShelf as Shelf>⟧.files self.new ≡ ⟦<MemShelf as Shelf>⟧.files self.old }
         ensures tells { ReadTells (⟦<MemShelf as Shelf>⟧.files self.old name.now) result into.new.items }
-        ensures counts { ReadCounts (⟦<MemShelf as Shelf>⟧.counts self.old)
-            (⟦<MemShelf as Shelf>⟧.counts self.new) result }
-        ensures asked { ⟦<MemShelf as Shelf>⟧.asked self.new
-            ≡ asked_after (⟦<MemShelf as Shelf>⟧.asked self.old) name.now result }
+        ensures counts { ReadCounts (counts_of self.old) (counts_of self.new) result }
+        ensures asked { log_of self.new ≡ asked_after (log_of self.old) name.now result }
         ensures reliable { ⟦<MemShelf as Shelf>⟧.reliable self.old → ⟦<MemShelf as Shelf>⟧.reliable self.new }
         ensures steady { ⟦<MemShelf as Shelf>⟧.reliable self.old
             → IsThere (⟦<MemShelf as Shelf>⟧.files self.old name.now)
             → IsErrOf result ReadError.Failed → ⊥ }
 
-        ensures counted { ⟦<MemShelf as Shelf>⟧.counts self.new
-            ≡ counts_after_read (⟦<MemShelf as Shelf>⟧.counts self.old) result }
-        ensures listed { IsListed (failing_reads_of self.old) (reads_of self.old)
-            → IsErrOf result ReadError.Failed ⊎ IsErrOf result ReadError.Memory }
-        ensures unlisted { (IsListed (failing_reads_of self.old) (reads_of self.old) → ⊥)
+        ensures counted { counts_of self.new ≡ counts_after_read (counts_of self.old) result }
+        ensures listed { IsReadListed self.old → IsErrOf result ReadError.Failed ⊎ IsErrOf result ReadError.Memory }
+        ensures unlisted { (IsReadListed self.old → ⊥)
             → IsThere (⟦<MemShelf as Shelf>⟧.files self.old name.now)
             → IsErrOf result ReadError.Failed → ⊥ }
         ensures numbered { (IsErrOf result ReadError.Memory → ⊥) → reads_of self.new ≡ one_more (reads_of self.old) }
         ensures orders { AreKept self.old self.new × (writes_of self.new ≡ writes_of self.old) }
     {
-        let entry = match entry_for(self.alloc, &mut self.asked, name) {
-            Ok(entry) => entry,
-            Err(_) => return Err(ReadError::Memory),
-        };
-        let is_listed = is_listed(self.failing_reads.as_slice(), self.reads);
-        let place = place_of(&self.files, name);
-        match place {
-            Some(i) if !is_listed => {
+        let entry = entry_for(self.alloc, &mut self.asked, name).map_err(|_| ReadError::Memory)?;
+        match place_of(&self.files, name) {
+            Some(i) if !is_listed(self.failing_reads.as_slice(), self.reads) => {
                 let file = &self.files[i];
                 if file.bytes().len() > MOST_BYTES {
                     self.reads = self.reads.saturating_add(1);
@@ -198,29 +190,22 @@ impl Shelf for MemShelf {
             → ⟦<MemShelf as Shelf>⟧.files self.new other ≡ ⟦<MemShelf as Shelf>⟧.files self.old other }
         ensures kept { IsErrOf result WriteError.Memory
             → ⟦<MemShelf as Shelf>⟧.files self.new ≡ ⟦<MemShelf as Shelf>⟧.files self.old }
-        ensures counts { WriteCounts (⟦<MemShelf as Shelf>⟧.counts self.old)
-            (⟦<MemShelf as Shelf>⟧.counts self.new) result }
-        ensures asked { ⟦<MemShelf as Shelf>⟧.asked self.new
-            ≡ asked_to_write (⟦<MemShelf as Shelf>⟧.asked self.old) name.now result }
+        ensures counts { WriteCounts (counts_of self.old) (counts_of self.new) result }
+        ensures asked { log_of self.new ≡ asked_to_write (log_of self.old) name.now result }
         ensures reliable { ⟦<MemShelf as Shelf>⟧.reliable self.old → ⟦<MemShelf as Shelf>⟧.reliable self.new }
         ensures steady { ⟦<MemShelf as Shelf>⟧.reliable self.old
             → Fits (⟦<MemShelf as Shelf>⟧.files self.old name.now) (length bytes.now)
             → IsErrOf result WriteError.Failed → ⊥ }
 
-        ensures counted { ⟦<MemShelf as Shelf>⟧.counts self.new
-            ≡ counts_after_write (⟦<MemShelf as Shelf>⟧.counts self.old) result }
-        ensures listed { IsListed (failing_writes_of self.old) (writes_of self.old)
-            → IsErrOf result WriteError.Failed ⊎ IsErrOf result WriteError.Memory }
-        ensures unlisted { (IsListed (failing_writes_of self.old) (writes_of self.old) → ⊥)
+        ensures counted { counts_of self.new ≡ counts_after_write (counts_of self.old) result }
+        ensures listed { IsWriteListed self.old → IsErrOf result WriteError.Failed ⊎ IsErrOf result WriteError.Memory }
+        ensures unlisted { (IsWriteListed self.old → ⊥)
             → Fits (⟦<MemShelf as Shelf>⟧.files self.old name.now) (length bytes.now)
             → IsErrOf result WriteError.Failed → ⊥ }
         ensures numbered { (IsErrOf result WriteError.Memory → ⊥) → writes_of self.new ≡ one_more (writes_of self.old) }
         ensures orders { AreKept self.old self.new × (reads_of self.new ≡ reads_of self.old) }
     {
-        let entry = match entry_for(self.alloc, &mut self.asked, name) {
-            Ok(entry) => entry,
-            Err(_) => return Err(WriteError::Memory),
-        };
+        let entry = entry_for(self.alloc, &mut self.asked, name).map_err(|_| WriteError::Memory)?;
         let is_listed = is_listed(self.failing_writes.as_slice(), self.writes);
         self.writes = self.writes.saturating_add(1);
         let place = place_of(&self.files, name);

@@ -7,10 +7,9 @@ pub returns-then-stops-clause-place : goal.returns-then-stops-clause-place
 returns-then-stops-clause-place g c =
     let marks = c.args.marks.now in
     let old = c.loop-session.session in
-    let there = c.advance.new.self in
     let new = c.note.new.self in
-    let e = goes_on old there new (c.loop-session-test.ensures.goes refl) c.note.ensures.rest in
-    let is = stops_at_next marks old there new _ c.loop-session-test.ensures.noted c.has_all_bytes.ensures
+    let e = goes_on old c.advance.new.self new (c.loop-session-test.ensures.goes refl) c.note.ensures.rest in
+    let is = stops_at_next marks old c.advance.new.self new _ c.loop-session-test.ensures.noted c.has_all_bytes.ensures
     c.note.ensures.rest c.loop-session.invariant.notes c.is_stopped-stops.ensures ∙ c.if-stops.true in
     sym (stopped_place marks old new e is) ∙ c.loop-session.invariant.place
 
