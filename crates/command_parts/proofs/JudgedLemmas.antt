@@ -1,9 +1,8 @@
 -- Each file gives something or is refused, and so does a reading of several.
 use Rattle.std.proofs.Common.{◌≡◌, ◌≢◌, ◌⊎◌, ◌∙◌, inl, inr, ℕ, zero, suc, ◌+◌, ◌-◌, ◌<◌, ◌≤◌, List, [], ◌∷◌, ◌++◌, length}
 use Rattle.std.proofs.Common.{map, take, Option, Some, None, refl, sym, ap, subst, arith}
-use Rattle.std.proofs.{lemmas.Bool.cases_lt, lemmas.Bool.cases_eq, lemmas.Bool.Decides.nat_tests, Math.Seq.take-length}
-use Rattle.std.specs.{BTreeMap.is_at, Ordering.nat_cmp}
-use Rattle.std.proofs.Common.{false}
+use Rattle.std.proofs.{lemmas.Bool.cases_lt, lemmas.Bool.cases_eq, Math.Seq.take-length}
+use Rattle.cpu12_asm.proofs.Algebra.{highest}
 use Rattle.cpu12_asm.specs.Bytes.{IsFirstDifference, byte_at}
 use Rattle.std.specs.Prelude.{Result, Ok, Err}
 use Rattle.byte_scaling.specs.{Widths.parts, declared.width.Width.Width}
@@ -206,18 +205,6 @@ handlers_judged records images text = elim (records text) [
 ]
 
 -- ---- records that are to give an image
-
--- behind some address an image has no byte
-highest : (bytes : List (ℕ × ℕ)) → (n : ℕ) × ((q : ℕ) → n ≤ q → byte_at bytes q ≡ None)
-highest [] = (0, λ q l. refl)
-highest (b ∷ bytes) =
-    let r = highest bytes in (
-      r.0 + b.0 + 1,
-      λ q l.
-          let other : is_at (nat_cmp q) b.0 ≡ false = grind (arith, nat_tests) in
-          let rest : byte_at bytes q ≡ None = r.1 q (omega (arith, l)) in
-          rw other rest,
-    )
 
 alike_or : (o p : Option ℕ) → (o ≡ p) ⊎ (o ≢ p)
 alike_or None None = inl refl

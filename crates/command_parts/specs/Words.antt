@@ -1,7 +1,7 @@
 -- The forms of words.
 -- Beside the promise.
 use Rattle.std.specs.Prelude.{ℕ, ◌==◌, ◌≤◌, ◌&&◌, nat_le, nat_lt, if◌then◌else◌, List, [], ◌∷◌, All, length}
-use Rattle.std.specs.Prelude.{Option, Some, None, option_and_then, option_map}
+use Rattle.std.specs.Prelude.{Option, Some, None, option_and_then, option_map, ◌≡◌, ◌<◌, ◌^◌}
 use Rattle.std.specs.Char.{is_ascii_digit}
 use Rattle.std.specs.List.{list_all, slice_split}
 use Rattle.std.specs.Str.Parse.{digits_value}
@@ -9,7 +9,7 @@ use Rattle.box_tree.specs.declared.cert.CertKind.{CertKind}
 use Rattle.box_tree.specs.declared.cert.CertKind.TheVariants as kind
 use Rattle.error_certifier.specs.declared.targets.Targets.{Targets}
 use Rattle.error_certifier.specs.declared.targets.Targets.TheVariants as targets
-use Rattle.fz_status.specs.Words.{Text}
+use Rattle.fz_status.specs.Words.{Text, flags_of}
 
 -- one or more decimal digits, of a number up to the greatest
 abbrev pub number_up_to : ℕ → Text → Option ℕ
@@ -52,3 +52,8 @@ targets_in kind.Tight text = option_map targets_with (numbers_in 4 text)
 abbrev pub AreMillionths : Targets → Type 0
 AreMillionths (targets.All n) = n ≤ 1000000
 AreMillionths (targets.Each ns) = All (λ n. n ≤ 1000000) ns.items
+
+-- ---- FLAGS
+
+abbrev pub FlagsAreBytes : Type 0
+FlagsAreBytes = (text : Text) (n : ℕ) → flags_of text ≡ Some n → n < 2 ^ 8

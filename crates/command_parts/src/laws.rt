@@ -4,7 +4,7 @@ ghost use Rattle.command_parts.specs.Firmwares.{BlocksAreExact, FirmwaresAreExac
 ghost use Rattle.command_parts.specs.Judged.{BlocksAreJudged, CertsAreJudged, FirmwaresAreJudged, HalvingsAreJudged};
 ghost use Rattle.command_parts.specs.Judged.{HandlersAreJudged, ImagesAreJudged, TwosAreJudged};
 ghost use Rattle.command_parts.specs.{Handlers.HandlersAreExact, Images.GivenRecordsHaveNoFault, Images.ImagesAreExact};
-ghost use Rattle.command_parts.specs.{Twos.GivenBlocksHaveTwos, Twos.TwosAreExact};
+ghost use Rattle.command_parts.specs.{Twos.GivenBlocksHaveTwos, Twos.TwosAreExact, Words.FlagsAreBytes};
 
 use alone_code::laws::{blocks_have_firmware, firmwares_are_one};
 use cert_check::laws::{each_cert_text_is_judged, text_answers_are_one};
@@ -156,3 +156,8 @@ pub fn halvings_are_judged()
     each_block_is_halved();
     cells_are_out_of_reach()
 }
+
+/// FLAGS that a word spells are a byte.
+pub fn flags_are_bytes()
+    ensures { FlagsAreBytes }
+{}

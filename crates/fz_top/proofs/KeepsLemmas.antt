@@ -17,7 +17,7 @@ use Rattle.fz_top.specs.declared.{command.Command.Command, command.Command.TheVa
 use Rattle.fz_top.specs.{Reads.AreHeld, Reads.names_at, Runs.Runs}
 use Rattle.fz_shelf.specs.Told.{World, gained}
 use Rattle.fz_top.specs.declared.command.Name.TheVariants as name
-use Rattle.fz_top.proofs.FlagsLemmas.{flags_small}
+use Rattle.command_parts.specs.Words.{FlagsAreBytes}
 use Rattle.fz_top.specs.Done.{IsRunOf, run_name}
 use Rattle.fz_top.specs.Keeping.{AreOf, IsRunName, KeepsPromise, OkKeepsPromise}
 use Rattle.promise.specs.{Laws.CertifiedRunsKeepPromise, Promise.Promise}
@@ -105,7 +105,7 @@ are_of words names (a ∷ b ∷ c ∷ d ∷ e ∷ rest) held = record {
 
 -- ---- the promise
 
-module _ (keep : CertifiedRunsKeepPromise) (words : List Text) (old new : World) where
+module _ (keep : CertifiedRunsKeepPromise) (bytes : FlagsAreBytes) (words : List Text) (old new : World) where
   kept : (format : CertFormat) (flags : ℕ) → flags < 2 ^ 8 → (output : SeenOutput)
       (contents : List (List ℕ))
       → AreHeld old.files (names_at words run_inputs) contents → new.told ≡ gained old.told (concat output.lines)
@@ -135,7 +135,7 @@ module _ (keep : CertifiedRunsKeepPromise) (words : List Text) (old new : World)
   pub ok_keeps : (s : Status) → Runs words old new s → OkKeepsPromise words old new s
   ok_keeps s runs is width flags run =
       let kind = named_kind width (word_at words 1) run.name in
-      let byte = flags_small (word_at words 7) flags run.flags_are in
+      let byte = bytes (word_at words 7) flags run.flags_are in
       let ok : Runs words old new status.Ok = subst (λ (t : Status). Runs words old new t) is runs in
       let worked = ok.1 in
       by_command (format_of kind.0 width) flags byte ok.0 worked.command worked.contents

@@ -10,6 +10,7 @@ use Rattle.fz_top.specs.{Accepted.run_flags, Commands.Makes, Commands.inputs_of,
 use Rattle.fz_top.specs.{Others.OkServes, Others.RunServes, Reads.AreHeld, Reads.names_at}
 use Rattle.fz_top.specs.declared.command.Command.{Command}
 use Rattle.fz_top.specs.declared.command.Command.TheVariants.{Debug, Generate, Hrun, Lrun, Mrun, Srun}
+use Rattle.command_parts.specs.Words.{FlagsAreBytes}
 use Rattle.fz_top.proofs.{FlagsLemmas.byte_flags, RunLemmas.same_command}
 use Rattle.promise.specs.OtherRuns.{OtherRunsServe}
 use Rattle.run_commands.specs.Debug.{debug_files}
@@ -31,9 +32,9 @@ serves others (Srun srun) contents output byte gives =
     (gives, others.watched srun.kind srun.flags (watched_files contents) gives.report gives.run)
 serves others _ contents output byte gives = tt
 
-pub ok_serves : OtherRunsServe → (words : List Text) (old new : World) (s : Status) → Runs words old new s
-    → OkServes words old new s
-ok_serves others words old new s runs is command named =
+pub ok_serves : OtherRunsServe → FlagsAreBytes → (words : List Text) (old new : World) (s : Status)
+    → Runs words old new s → OkServes words old new s
+ok_serves others bytes words old new s runs is command named =
     let ok : Runs words old new status.Ok = subst (λ (t : Status). Runs words old new t) is runs in
     let worked = ok.1 in
     let same : worked.command ≡ command = same_command worked.is named in
@@ -42,6 +43,6 @@ ok_serves others words old new s runs is command named =
       held = subst (λ (c : Command). AreHeld old.files (names_at words (inputs_of c)) worked.contents) same worked.held;
       output = ok.0;
       put = ok.2.told;
-      serves = serves others command worked.contents ok.0 (byte_flags words command named)
+      serves = serves others command worked.contents ok.0 (byte_flags bytes words command named)
           (subst (λ (c : Command). Makes c worked.contents (Ok ok.0)) same worked.outcome);
     }

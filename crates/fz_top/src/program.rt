@@ -13,6 +13,7 @@ use crate::command::command_of;
 use crate::delivery::deliver;
 use crate::laws::{commands_are_settled, contents_have_one_result};
 use crate::reading::{Stop, read_all};
+use command_parts::laws::flags_are_bytes;
 use fz_shelf::{Shelf, Sink, WriteError};
 use fz_status::{Status, report};
 use fz_words::Refusal;
@@ -143,6 +144,7 @@ pub fn fuzz12<S: Shelf, O: Sink, F: Sink>(
     certified_runs_keep_promise();
     other_runs_serve();
     accepted_files_give_firmware();
+    flags_are_bytes();
     let status = run(alloc, words, shelf, out);
     report(err, words, &status);
     status

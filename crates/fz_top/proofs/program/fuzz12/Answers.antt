@@ -1,6 +1,6 @@
 use Rattle.std.proofs.Common.{inl, inr, ⊎_elim}
 use Rattle.fz_status.specs.Words.{texts_of, word_at}
-use Rattle.fz_top.proofs.{FlagsLemmas.byte_flags, FlagsLemmas.flags_small, KeepsLemmas.ok_keeps}
+use Rattle.fz_top.proofs.{FlagsLemmas.byte_flags, KeepsLemmas.ok_keeps}
 use Rattle.fz_top.proofs.OthersLemmas.{ok_serves}
 use Rattle.fz_top.proofs.CompletenessLemmas.{asked, can, contents_of, room_for}
 use Rattle.fz_top.proofs.RunLemmas.{does, no_faults, settles, completes, known_there, long_status}
@@ -36,7 +36,7 @@ pub returns-clause-done : goal.returns-clause-done
 returns-clause-done g c = λ command contents can why.
     let words = texts_of c.args.words.now in
     let run = c.run-status.ensures in
-    let byte = byte_flags words command can.is in
+    let byte = byte_flags c.flags_are_bytes.ensures words command can.is in
     let made = c.commands_are_settled.ensures command contents in
     let one = c.contents_have_one_result.ensures command contents in
     let ends = does words _ _ command contents can.is can.known one made.no_fault (made.some (byte, can.accepted)) _
@@ -54,16 +54,18 @@ returns-clause-carried g c =
 
 pub returns-clause-promise : goal.returns-clause-promise
 returns-clause-promise g c =
-    ok_keeps c.certified_runs_keep_promise.ensures (texts_of c.args.words.now) _ _ _ c.run-status.ensures.runs
+    ok_keeps c.certified_runs_keep_promise.ensures c.flags_are_bytes.ensures (texts_of c.args.words.now) _ _ _
+    c.run-status.ensures.runs
 
 pub returns-clause-others : goal.returns-clause-others
 returns-clause-others g c =
-    ok_serves c.other_runs_serve.ensures (texts_of c.args.words.now) _ _ _ c.run-status.ensures.runs
+    ok_serves c.other_runs_serve.ensures c.flags_are_bytes.ensures (texts_of c.args.words.now) _ _ _
+    c.run-status.ensures.runs
 
 pub returns-clause-accepted : goal.returns-clause-accepted
 returns-clause-accepted g c = λ format flags files are told accepted why.
     let words = texts_of c.args.words.now in
-    let byte = flags_small (word_at words 7) flags are.run.flags_are in
+    let byte = c.flags_are_bytes.ensures (word_at words 7) flags are.run.flags_are in
     let keep = c.certified_runs_keep_promise.ensures in
     let given = c.accepted_files_give_firmware.ensures format files accepted in
     returns-clause-done g c (asked format flags) (contents_of files)
