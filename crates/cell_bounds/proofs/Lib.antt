@@ -1,3 +1,4 @@
+pub mod Algebra
 pub mod CellLemmas
 pub mod WalkLemmas
 pub mod NarrowLemmas

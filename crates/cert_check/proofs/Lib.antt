@@ -1,3 +1,4 @@
+pub mod Algebra
 pub mod TreeLemmas
 pub mod AcceptedLemmas
 pub mod ExampleLemmas

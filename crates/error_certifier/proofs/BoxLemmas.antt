@@ -12,7 +12,7 @@ use Rattle.cell_bounds.specs.{CellBounds.cell_count, Cells.cell_of}
 use Rattle.cert_check.specs.Trees.{left_of, right_of, Part, IsTree, leaf, split, part_of, IsCut}
 use Rattle.cert_check.specs.{BoxLaws.HasHalves, BoxLaws.CutsHaveHalves, Walks.cuts_of, Walks.AreRaised}
 use Rattle.cert_check.specs.Acceptance.{HasBound}
-use Rattle.cert_check.proofs.{TreeLemmas.one_of, WalkLemmas.Any-left}
+use Rattle.cert_check.proofs.Algebra.{Any-left, one_of}
 use Rattle.error_certifier.specs.Halving.{IsWidest, IsHalvedAt, middle_of, IsToCut, Halves, leaf as halved_leaf}
 use Rattle.error_certifier.specs.{declared.leaves.FoundLeaf.FoundLeaf, Trees.IsFoundLeaf, Trees.RisesTo, Trees.Grows}
 use Rattle.error_certifier.specs.{Halving.split as halved_split, declared.halving.Tree.Tree}

@@ -15,7 +15,7 @@ use Rattle.box_tree.specs.{Trees.open_from, Trees.leaf_count}
 use Rattle.box_tree.specs.Laws.{OpenBoxesGoOn}
 use Rattle.cert_check.specs.Trees.{Part, IsTree, whole}
 use Rattle.cert_check.specs.Acceptance.{HasBound, IsGreatestBound, IsAccepted}
-use Rattle.cert_check.proofs.TreeLemmas.{some_leaf}
+use Rattle.cert_check.proofs.Algebra.{some_leaf}
 use Rattle.error_certifier.specs.{declared.halving.Tree.Tree, Trees.RisesTo, Trees.Grows}
 use Rattle.error_certifier.specs.Targets.{AreTargets}
 use Rattle.error_certifier.specs.Halving.{Halves, leaf as halved_leaf, split as halved_split, IsHalvingFor}

@@ -25,7 +25,7 @@ use Rattle.cell_bounds.specs.{declared.claims.Claim.TheVariants.Pair, Walks.AreA
 use Rattle.cert_check.specs.BoxLaws.{CutsHaveHalves, LeavesAreAround, IsLineOf, IsNodeOf}
 use Rattle.cert_check.specs.{Trees.part_of, Trees.whole, Trees.left_of, Trees.right_of, Walks.cuts_of, Walks.AreRaised}
 use Rattle.cert_check.specs.Acceptance.{HasBound, claim_at}
-use Rattle.cert_check.proofs.{LeafLemmas.IfSome-at, TreeLemmas.whole_is}
+use Rattle.cert_check.proofs.Algebra.{IfSome-at, whole_is}
 use Rattle.error_certifier.specs.Halving.{IsWithinTarget, IsFirstAbove, IsAbove, IsWidest, IsHalvedAt, middle_of}
 use Rattle.error_certifier.specs.Trees.{IsBestPair, AreBestPairs, AreTightBounds, IsFoundLeaf, IsTreeFor, IsSplit}
 use Rattle.error_certifier.specs.Laws.{IsComparable, IsLeastError, IsOutOfReach, SaysOutOfReachFor, CellsAreOutOfReach}

@@ -19,7 +19,7 @@ use Rattle.cell_bounds.specs.declared.claims.Claim.TheVariants as claim
 use Rattle.cert_check.specs.Trees.{Part, part_of, IsTree, leaf, left_of, right_of, whole}
 use Rattle.cert_check.specs.{Acceptance.HasBound, BoxLaws.CutsHaveHalves, Laws.BoundedTreesAreAccepted, Walks.cuts_of}
 use Rattle.error_bound.specs.declared.boxes.Leaf as the
-use Rattle.cert_check.proofs.TreeLemmas.{one_of, whole_is}
+use Rattle.cert_check.proofs.Algebra.{one_of, whole_is}
 use Rattle.error_certifier.specs.Halving.{IsSettled, IsToCut, Halves, leaf as halved_leaf, split as halved_split, Stops}
 use Rattle.error_certifier.specs.Halving.{cell, limit, in_left, in_right, outputs as other_outputs, halving}
 use Rattle.error_certifier.specs.Halving.{IsHalvingFor}

@@ -19,7 +19,7 @@ use Rattle.cell_bounds.specs.Claims.{IsBoxCount, BoxCountsAreOne}
 use Rattle.cert_check.specs.{Trees.whole, Trees.left_of, Trees.right_of, Trees.IsTree, Laws.ErrorsAreDetermined}
 use Rattle.cert_check.specs.{BoxLaws.CutsHaveHalves, Acceptance.IsAccepted}
 use Rattle.cell_bounds.specs.CellBounds.{number_of}
-use Rattle.cert_check.proofs.{LeafLemmas.IfSome-at, TreeLemmas.whole_is}
+use Rattle.cert_check.proofs.Algebra.{IfSome-at, whole_is}
 use Rattle.error_certifier.specs.Halving.{IsFirstAbove, IsAbove, AreWithinTarget, IsTightWithin, AreCellsWithin}
 use Rattle.error_certifier.specs.Halving.{halving, outputs}
 use Rattle.error_certifier.specs.Halving.{IsSettled, IsStuck, IsToCut, Halves, leaf, split, Stops, cell, limit}

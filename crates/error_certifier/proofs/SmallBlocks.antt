@@ -14,7 +14,7 @@ use Rattle.box_tree.specs.declared.{cert.Node.Node, cert.Cert.Cert}
 use Rattle.cell_bounds.specs.CellBounds.{cell_count, IsFirstCellAbove, IsCellCount, of_bound, of_none}
 use Rattle.cell_bounds.specs.{CellBounds.DefaultsHaveCellBounds, Cells.cell_of}
 use Rattle.cert_check.specs.{Trees.left_of, Trees.right_of, Trees.whole, BoxLaws.CutsHaveHalves}
-use Rattle.cert_check.proofs.TreeLemmas.{whole_is}
+use Rattle.cert_check.proofs.Algebra.{whole_is}
 use Rattle.error_certifier.specs.Halving.{IsHalvedAt, IsToCut, middle_of, Halves, Stops, StopsFor, cell, limit, in_left}
 use Rattle.error_certifier.specs.Halving.{in_right, leaf as halved_leaf, split as halved_split, halving, outputs}
 use Rattle.error_certifier.specs.Halving.{IsHalvingFor, one_for_all}

@@ -22,7 +22,7 @@ use Rattle.cell_bounds.specs.{declared.claims.Claim.Claim, Claims.HasClaimBound,
 use Rattle.cert_check.specs.{Trees.Part, Trees.IsTree, Trees.leaf, Trees.split, Trees.whole, Trees.left_of}
 use Rattle.cert_check.specs.{Trees.right_of, BoxLaws.CutsHaveHalves}
 use Rattle.cert_check.specs.Acceptance.{IsAccepted, IsGreatestBound, claim_at}
-use Rattle.cert_check.proofs.TreeLemmas.{whole_is}
+use Rattle.cert_check.proofs.Algebra.{whole_is}
 use Rattle.error_certifier.specs.Halving.{Halves, leaf as halved_leaf, split as halved_split, IsHalvingFor, IsSettled}
 use Rattle.error_certifier.specs.Laws.{AreWithin}
 use Rattle.error_certifier.proofs.BoxLemmas.{left_box, right_box, split_node, middle_inside}

@@ -14,7 +14,7 @@ use Rattle.mailbox_runs.specs.Runs.{AnswerSeen, RunSeen, arrival, steps_of}
 use Rattle.run_reports.specs.MailboxRun.{MailboxReport, MailboxRun, answered_samples, mailbox_reading}
 use Rattle.run_reports.specs.MailboxRun.{posts_in}
 use Rattle.run_reports.specs.Inputs.{TracesAreExact}
-use Rattle.run_reports.proofs.InputLemmas.{rows_exact}
+use Rattle.run_reports.proofs.Algebra.{rows_exact}
 use Rattle.command_parts.specs.{Certs.CertsAreExact, Firmwares.FirmwaresAreExact, Images.ImagesAreExact}
 use Rattle.command_parts.specs.Readings.{AreExact, Gives, IsExact, seen_of}
 use Rattle.std.proofs.{Common.◌≢◌, Common.Bool, Common.false}

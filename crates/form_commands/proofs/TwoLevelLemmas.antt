@@ -10,7 +10,7 @@ use Rattle.form_commands.proofs.FormLemmas.{settled_report}
 use Rattle.form_commands.specs.Lrun.{LrunIsSettled, two_level_run}
 use Rattle.alone_runs.specs.Rows.{firmware_rows}
 use Rattle.command_parts.proofs.Algebra.{exact_fast}
-use Rattle.run_reports.proofs.InputLemmas.{rows_exact}
+use Rattle.run_reports.proofs.Algebra.{rows_exact}
 use Rattle.command_parts.specs.{Certs.CertsAreExact, Certs.cert_in, Images.ImagesAreExact, Twos.TwosAreExact}
 use Rattle.command_parts.specs.Readings.{AreExact, Gives, IsExact, seen_of}
 use Rattle.command_parts.specs.declared.twos.CompiledTwoLevel.{CompiledTwoLevel}

@@ -20,6 +20,7 @@ use Rattle.command_parts.specs.declared.output.Output.{Output}
 use Rattle.fz_status.specs.declared.status.Status.{Status}
 use Rattle.run_reports.specs.RowLines.{answered, answers_told, frame_told, numbers, sample_told}
 use Rattle.run_reports.specs.Settled.{IsSettledRun, PutsLines}
+pub use Rattle.run_reports.proofs.InputLemmas.{rows_exact}
 
 numbers-snoc : (ns : List ℕ) (n : ℕ) → numbers (ns ++ n ∷ []) ≡ numbers ns ++ (codes " " ++ decimal n)
 numbers-snoc [] n = ap (λ (l : List ℕ). codes " " ++ l) (append-nil (decimal n))

@@ -1,6 +1,6 @@
 use Rattle.std.proofs.Common.{length}
 use Rattle.box_tree.specs.declared.cert.Cert.{Cert}
-use Rattle.cell_bounds.proofs.WalkLemmas.{more_ok}
+use Rattle.cell_bounds.proofs.Algebra.{more_ok}
 use Rattle.error_certifier.proofs.TargetLists.{one_target, within_one}
 use Rattle.error_certifier.proofs.certifier.certify_for.Goals as goal
 
