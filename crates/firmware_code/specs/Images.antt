@@ -18,9 +18,12 @@ pub record IsImageOf (items : List Item) (image : Image) : Type 0 where
   pub ascending : IsAscending image.bytes
   pub start : image.start ≡ start_of image.bytes
 
--- Items that never go back to a lower place have one.
+-- Items that never go back to a lower place have this one.
+abbrev pub image_of : List Item → Image
+image_of items = record { bytes = given_by items; start = start_of (given_by items) }
+
 abbrev pub ItemsHaveImages : Type 0
-ItemsHaveImages = (items : List Item) → IsRising items → (image : Image) × IsImageOf items image
+ItemsHaveImages = (items : List Item) → IsRising items → IsImageOf items (image_of items)
 
 -- They have only one.
 abbrev pub ImagesAreOne : Type 0

@@ -7,8 +7,8 @@ pub returns : goal.returns
 returns c width b valid limits =
     let l = mailbox_map (length b.inputs) in
     let rise = mailbox_rises c.blocks_are_placed.ensures.rises b width valid limits in
-    let (image, is) = c.items_have_images.ensures (mailbox_items l b width) rise in (
-      firmware_with l width (mailbox_bound width b) b image,
+    let is = c.items_have_images.ensures (mailbox_items l b width) rise in (
+      firmware_with l width (mailbox_bound width b) b _,
       record { image = is; memory_map = refl; inputs = refl; outputs = refl; instructions = refl; steps = refl },
       refl,
     )

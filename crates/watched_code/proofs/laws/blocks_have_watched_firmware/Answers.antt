@@ -7,8 +7,8 @@ use Rattle.watched_code.proofs.laws.blocks_have_watched_firmware.Goals as goal
 pub returns : goal.returns
 returns c b valid limits =
     let rise = watched_rise c.blocks_are_placed.ensures.rises b valid limits in
-    let (image, is) = c.items_have_images.ensures (watched_items b) rise in (
-      firmware_with (watched_map b) Byte (watched_bound b) b image,
+    let is = c.items_have_images.ensures (watched_items b) rise in (
+      firmware_with (watched_map b) Byte (watched_bound b) b _,
       record {
         image = is;
         memory_map = refl;
