@@ -279,7 +279,7 @@ lcompile_made texts holds beside twos slow fast (slow_block, fast_block, slow_is
     let (two, gives) = twos slow fast slow_block fast_block slow_is fast_is in
     let stands = beside slow_block fast_block two slow_is.spelled.valid slow_is.limits fast_is.spelled.valid
     fast_is.limits gives.both in
-    let records = image_records texts holds _ two.image gives.both.image stands.0.bytes in (
+    let records = image_records texts holds _ two.firmware.image gives.both.image stands.0.bytes in (
       _,
       record {
         slow_block = slow_block;
@@ -295,7 +295,8 @@ pub lcompile_settled : TwosAreExact → GivenBlocksHaveTwos → ImagesHaveTexts 
 lcompile_settled twos given_twos texts written holds beside slow fast =
     settled (last (twos_in slow fast)) (LcompileGives slow fast) (LcompileAccepts slow fast) (twos slow fast)
     (λ output a. (record { slow = a.slow_block; fast = a.fast_block; two = a.two }, a.gives))
-    (λ output other a b same. writes_once written a.two.image b.two.image 4 _ _ output other (λ i. (same i).two.image)
+    (λ output other a b same. writes_once written a.two.firmware.image b.two.firmware.image 4 _ _ output other
+    (λ i. (same i).two.firmware.image)
     (λ i. lcompile_lines (instruction_bound Byte (same i).slow) (fast_most (instruction_bound Byte (same i).fast))
-    (length (same i).two.image.bytes)) a.writes b.writes)
+    (length (same i).two.firmware.image.bytes)) a.writes b.writes)
     (lcompile_made texts holds beside given_twos slow fast)

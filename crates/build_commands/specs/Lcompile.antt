@@ -25,9 +25,9 @@ pub record LcompileGives (slow fast : List ℕ) (output : SeenOutput) : Type 0 w
   pub fast_block : Block
   pub two : Two
   pub gives : GivesTwo slow fast slow_block fast_block two
-  pub writes : WritesImage two.image 4
+  pub writes : WritesImage two.firmware.image 4
       (lcompile_lines (instruction_bound Byte slow_block) (fast_most (instruction_bound Byte fast_block))
-      (length two.image.bytes)) output
+      (length two.firmware.image.bytes)) output
 
 abbrev pub LcompileMakes : List ℕ → List ℕ → Result SeenOutput Status → Type 0
 LcompileMakes slow fast = made_of (last (twos_in slow fast)) (LcompileGives slow fast)

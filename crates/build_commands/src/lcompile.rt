@@ -29,17 +29,17 @@ pub fn work(alloc: Global, slow: &Content, fast: &Content) -> Result<Output, Sta
     alone_has_byte_bounds();
     let both = two_of(alloc, slow, fast)?;
     let lines = lines(alloc, &both.two)?;
-    written_image(alloc, &both.two.image, OUT, lines)
+    written_image(alloc, &both.two.firmware.image, OUT, lines)
 }
 
 /// The lines of the bounds on instructions of the slow code and of the fast, and of the number of the image's bytes.
 fn lines(alloc: Global, two: &Two) -> Result<Vec<Line>, AllocError>
-    ensures { IfOk result (λ lines. lines.items ≡
-        lcompile_lines two.now.slow.instr_bound (fast_most two.now.fast.instr_bound) (length two.now.image.bytes)) }
+    ensures { IfOk result (λ lines. lines.items ≡ lcompile_lines two.now.firmware.instr_bound
+        (fast_most two.now.fast.instr_bound) (length two.now.firmware.image.bytes)) }
 {
     let mut lines = Vec::new(alloc);
-    lines.push(labelled(alloc, "instructions ", u128::from(two.slow.instr_bound))?)?;
+    lines.push(labelled(alloc, "instructions ", u128::from(two.firmware.instr_bound))?)?;
     lines.push(labelled(alloc, "fast ", u128::from(two.fast_bound()))?)?;
-    lines.push(labelled(alloc, "bytes ", two.image.bytes.len() as u128)?)?;
+    lines.push(labelled(alloc, "bytes ", two.firmware.image.bytes.len() as u128)?)?;
     Ok(lines)
 }

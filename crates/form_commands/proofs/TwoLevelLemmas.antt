@@ -20,7 +20,7 @@ use Rattle.interrupt_plan.specs.OneReading.{LevelFaultsAreOne, SpelledLevelsAreO
 use Rattle.run_reports.specs.Inputs.{TracesAreExact, trace_in}
 use Rattle.run_reports.specs.TwoLevelRun.{TwoLevelReport, TwoLevelRun, fast_numbers, levels_in}
 use Rattle.run_reports.specs.TwoLevelRun.{two_level_reading}
-use Rattle.two_level_code.specs.Images.{AloneHasByteBounds}
+use Rattle.two_level_code.specs.Images.{AloneHasByteBounds, slow_alone}
 use Rattle.two_level_runs.specs.Order.{LevelsMakeAPlan}
 use Rattle.two_level_runs.specs.Answering.{AnswersAtTwoLevels, AnswersUnderLevels, RowsAreSeen, answer_of_fast}
 use Rattle.two_level_runs.specs.Answering.{fast_runs, plan_of}
@@ -63,23 +63,24 @@ module _ (reported : AnswersAreReported) (keep : AnswersKeepTheBound) (fit : Spe
 
   -- the slow rows
 
-  slow_gives : GivesFirmware (Alone Byte) files.slow c.slow c.two.slow
+  slow_gives : GivesFirmware (Alone Byte) files.slow c.slow (slow_alone c.slow c.two)
   slow_gives =
       let s = a.0.slow_is in
-      let alone = a.0.both.slow_alone in
+      let alone = a.0.both.alone in
       record { spelled = s.spelled; limits = s.limits; compiled = (alone.firmware, alone.width) }
 
   abbrev plain : List (RowSeen (List ℕ))
   plain = map (λ r. r.row) report.rows
 
-  plain_is : plain ≡ (firmware_rows c.two.slow bytes (plan_of levels) flags).rows
+  plain_is : plain ≡ (firmware_rows (slow_alone c.slow c.two) bytes (plan_of levels) flags).rows
   plain_is = seen c.two bytes fast_bytes levels flags ∙ answers.rows_are
 
-  under : AnswersItsBlock c.two.slow flags bytes (plan_of levels) plain
+  under : AnswersItsBlock (slow_alone c.slow c.two) flags bytes (plan_of levels) plain
   under =
       let good = plan_made (length fast_samples) levels a.1.1.1.1.1.1.good in
-      subst (λ (rs : List (RowSeen (List ℕ))). AnswersItsBlock c.two.slow flags bytes (plan_of levels) rs)
-      (sym plain_is) (plans c.two.slow flags bytes (plan_of levels) byte good)
+      subst (λ (rs : List (RowSeen (List ℕ))).
+      AnswersItsBlock (slow_alone c.slow c.two) flags bytes (plan_of levels) rs) (sym plain_is)
+      (plans (slow_alone c.slow c.two) flags bytes (plan_of levels) byte good)
 
   -- the fast runs
 
@@ -107,8 +108,8 @@ module _ (reported : AnswersAreReported) (keep : AnswersKeepTheBound) (fit : Spe
     accepts = a;
     ran = refl;
     answers = answers;
-    reported = reported Byte flags files.slow c.slow c.two.slow a.1.1.0.cert errors files.slow_trace samples
-        (plan_of levels) plain slow_gives a.1.1.0.accepted a.1.1.1.1.0 under;
+    reported = reported Byte flags files.slow c.slow (slow_alone c.slow c.two) a.1.1.0.cert errors files.slow_trace
+        samples (plan_of levels) plain slow_gives a.1.1.0.accepted a.1.1.1.1.0 under;
     fast_bound = ap fast_most a.0.both.fast_is.instructions;
     fast_instructions = of_seen (λ q. q.instructions ≤ report.fast_bound) answer_of_fast (fast_runs report.rows)
         (keep Byte c.fast report.fast_bound (λ o. 0) (map (bytes_of fast_bytes) (fast_numbers report.rows))
@@ -126,7 +127,7 @@ pub levels_exact : TwosAreExact → ImagesAreExact → CertsAreExact → TracesA
 levels_exact twos images certs traces one stand faults kind files = (
   twos files.slow files.fast,
   λ c compiled. (
-    images files.image c.two.image,
+    images files.image c.two.firmware.image,
     λ held image. (
       certs (format_of kind Byte) c.slow files.slow_cert compiled.slow_is.spelled.valid,
       λ errors accepted. (
@@ -160,8 +161,8 @@ module _ (kind : CertKind) (flags : ℕ) (files : TwoLevelFiles) where
       → (b : Given) × Gives (two_level_reading kind files) b × (told ≡ report_of flags b)
   given bounds told l =
       let both = l.accepts.0.both in
-      let bound : told.bound ≡ l.two.slow.instr_bound =
-      l.reported.bound ∙ sym (bounds l.slow l.two.slow both.slow_alone).instructions in
+      let bound : told.bound ≡ l.two.firmware.instr_bound =
+      l.reported.bound ∙ sym (bounds l.slow (slow_alone l.slow l.two) both.alone).instructions in
       let fast_bound : told.fast_bound ≡ fast_most l.two.fast.instr_bound =
       l.fast_bound ∙ ap fast_most (sym both.fast_is.instructions) in (
         (
@@ -175,7 +176,7 @@ module _ (kind : CertKind) (flags : ℕ) (files : TwoLevelFiles) where
   same : (b d : Given) → seen_of (two_level_reading kind files) b ≡ seen_of (two_level_reading kind files) d
       → report_of flags b ≡ report_of flags d
   same b d seen = λ i. (let two = (seen i).0.two in
-      two_level_report (seen i).1.1.0 (seen i).1.1.1.0 two.slow.instr_bound (fast_most two.fast.instr_bound)
+      two_level_report (seen i).1.1.0 (seen i).1.1.1.0 two.firmware.instr_bound (fast_most two.fast.instr_bound)
       (two_level_seen two (seen i).1.1.1.1.0.1 (seen i).1.1.1.1.1.0.1 (seen i).1.1.1.1.1.1 flags))
 
 pub lrun_settled : ((kind : CertKind) (files : TwoLevelFiles) → AreExact (two_level_reading kind files))

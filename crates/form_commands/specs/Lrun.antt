@@ -80,7 +80,7 @@ two_level_report errors fast_errors bound fast_bound rows =
 abbrev pub two_level_run : ℕ → CompiledTwoLevel → List ℕ → List ℕ → List Sample → List Sample → List Level
     → TwoLevelReport
 two_level_run flags c errors fast_errors samples fast_samples levels =
-    two_level_report errors fast_errors c.two.slow.instr_bound (fast_most c.two.fast.instr_bound)
+    two_level_report errors fast_errors c.two.firmware.instr_bound (fast_most c.two.fast.instr_bound)
     (two_level_seen c.two (map input_bytes samples) (map input_bytes fast_samples) levels flags)
 
 abbrev pub LrunMakes : FormRun → TwoLevelFiles → Result SeenOutput Status → Type 0

@@ -82,7 +82,7 @@ impl Accepted {
         ensures fault { IfErr result (IsRefused (two_level_inputs kind files.now compiled.now)) }
     {
         spelled_traces_are_short();
-        require_image(alloc, &files.image, &compiled.two.image)?;
+        require_image(alloc, &files.image, &compiled.two.firmware.image)?;
         let format = CertFormat {
             kind,
             width: Width::Byte,
@@ -108,7 +108,7 @@ impl Accepted {
         compiled: &CompiledTwoLevel,
         flags: u8,
     ) -> Result<Output, Status>
-        requires outputs { (compiled.now.two.slow.outputs ≤ 4) × (compiled.now.two.fast.outputs ≤ 4) }
+        requires outputs { (compiled.now.two.firmware.outputs ≤ 4) × (compiled.now.two.fast.outputs ≤ 4) }
         requires levels { AreGoodLevels (length self.now.fast_samples.items) self.now.levels }
         ensures { PutsLines (lrun_lines (two_level_run flags compiled.now self.now.errors.items
             self.now.fast_errors.items self.now.samples.items self.now.fast_samples.items self.now.levels)) result }

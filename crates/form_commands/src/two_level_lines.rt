@@ -27,7 +27,7 @@ pub(crate) fn lines(
     rows: &[TwoRow],
 ) -> Result<Vec<Line>, AllocError>
     ensures { IfOk result (λ lines. lines.items ≡ lrun_lines (two_level_report errors.now fast_errors.now
-        two.now.slow.instr_bound (fast_most two.now.fast.instr_bound) (map row_seen rows.now))) }
+        two.now.firmware.instr_bound (fast_most two.now.fast.instr_bound) (map row_seen rows.now))) }
 {
     let mut lines = begun(alloc, errors, fast_errors, two)?;
     push_rows(alloc, &mut lines, rows)?;
@@ -42,12 +42,12 @@ fn begun(
     two: &Two,
 ) -> Result<Vec<Line>, AllocError>
     ensures { IfOk result (λ lines. lines.items ≡ two_level_begun_lines errors.now fast_errors.now
-        two.now.slow.instr_bound (fast_most two.now.fast.instr_bound)) }
+        two.now.firmware.instr_bound (fast_most two.now.fast.instr_bound)) }
 {
     let mut lines = Vec::new(alloc);
     push_errors(alloc, &mut lines, "error ", errors)?;
     push_errors(alloc, &mut lines, "fast error ", fast_errors)?;
-    let bound = u128::from(two.slow.instr_bound);
+    let bound = u128::from(two.firmware.instr_bound);
     let fast_bound = u128::from(two.fast_bound());
     push_labelled(alloc, &mut lines, "instructions ", bound)?;
     push_labelled(alloc, &mut lines, "fast instructions ", fast_bound)?;

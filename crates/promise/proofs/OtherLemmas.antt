@@ -1,6 +1,7 @@
 -- The other runs keep the promise.
 use Rattle.std.proofs.Common.{◌∙◌, refl, sym, arith}
 use Rattle.byte_scaling.specs.declared.width.Width.TheVariants.{Byte}
+use Rattle.two_level_code.specs.Images.{slow_alone}
 use Rattle.two_level_runs.specs.Answering.{plan_of}
 use Rattle.std.proofs.Common.{List, [], ℕ, length, map, subst}
 use Rattle.std.proofs.lemmas.List.{length-map}
@@ -48,14 +49,14 @@ handled keep kind flags files report h byte = record {
 
 slow : AnswersServe → SlowRunsServe
 slow keep kind flags files report l byte = record {
-  serves = keep Byte flags l.slow l.two.slow (map input_bytes l.samples) (plan_of l.levels)
+  serves = keep Byte flags l.slow (slow_alone l.slow l.two) (map input_bytes l.samples) (plan_of l.levels)
       (map (λ row. row.row) report.rows) byte
       l.accepts.0.slow_is.spelled.valid l.accepts.0.slow_is.limits
-      l.accepts.0.both.slow_alone.firmware l.accepts.0.both.slow_alone.width
+      l.accepts.0.both.alone.firmware l.accepts.0.both.alone.width
       l.reported.follows;
   last = _;
   ran = record {
-    most = l.two.slow.step_bound;
+    most = l.two.firmware.step_bound;
     arrived = l.answers.arrived;
     rows_are = rows_ran l.reported.follows ∙ sym l.answers.rows_are;
     last_is = refl;

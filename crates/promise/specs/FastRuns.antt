@@ -59,6 +59,6 @@ AllLevelsServe b two flags fast [] ns samples s = Unit {0}
 AllLevelsServe b two flags fast (ts ∷ tss) [] samples s = ⊥
 AllLevelsServe b two flags fast (ts ∷ tss) (n ∷ ns) [] s = ⊥
 AllLevelsServe b two flags fast (ts ∷ tss) (n ∷ ns) (x ∷ rest) s =
-    (let given_in = given two.slow.memory_map x s in
+    (let given_in = given two.firmware.memory_map x s in
     LevelsServe b two flags fast given_in ts
     × AllLevelsServe b two flags fast tss ns rest (uninterrupted flags n given_in))

@@ -8,6 +8,7 @@ use Rattle.trace_io.specs.Traces.{input_bytes}
 use Rattle.alone_runs.specs.Rows.{first_state}
 use Rattle.handled_runs.specs.Forms.{first_handled, with_code}
 use Rattle.mailbox_runs.specs.{Answering.run_of_turns, Runs.run_under_posts, Runs.steps_of, Turns.AreTurns, Turns.Turn}
+use Rattle.two_level_code.specs.Images.{slow_alone}
 use Rattle.two_level_runs.specs.{Answering.plan_of, Rows.first_two, Rows.two_level_form, Rows.levels_of, Rows.two_rows}
 use Rattle.run_commands.specs.declared.debug.DebugFiles.{DebugFiles}
 use Rattle.run_commands.specs.{Debug.DebugGives, Generate.GenerateGives}
@@ -51,15 +52,15 @@ HandledRunsServe = (kind : CertKind) (flags : ℕ) (files : HandledFiles) (repor
 -- and each fast run is read off its own without inner requests
 pub record SlowServes (kind : CertKind) (flags : ℕ) (files : TwoLevelFiles) (report : TwoLevelReport)
     (l : TwoLevelRun kind flags files report) : Type 0 where
-  pub serves : Serves Byte (length l.slow.outputs) flags l.two.slow.image (map input_bytes l.samples)
-      (plan_of l.levels) (map (λ row. row.row) report.rows)
+  pub serves : Serves Byte (length l.slow.outputs) flags (slow_alone l.slow l.two).image
+      (map input_bytes l.samples) (plan_of l.levels) (map (λ row. row.row) report.rows)
   pub last : State
   pub ran : IsRunOf (two_level_form flags l.two (map input_bytes l.fast_samples)) (λ k. levels_of k l.levels)
       (map input_bytes l.samples) (first_two l.two flags) (map (λ row. row.row) report.rows) last
   pub fast :
       (let all = two_rows l.two (map input_bytes l.samples) (map input_bytes l.fast_samples) l.levels flags in
       AllLevelsServe l.fast l.two flags (map input_bytes l.fast_samples) all.told (map (λ row. row.steps) all.rows)
-      (map input_bytes l.samples) (first_state l.two.slow flags))
+      (map input_bytes l.samples) (first_state (slow_alone l.slow l.two) flags))
 
 abbrev pub SlowRunsServe : Type 0
 SlowRunsServe = (kind : CertKind) (flags : ℕ) (files : TwoLevelFiles) (report : TwoLevelReport)

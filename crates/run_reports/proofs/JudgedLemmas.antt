@@ -176,7 +176,7 @@ pub level_judged : TwosAreJudged → ImagesAreJudged → CertsAreJudged → Each
 level_judged twos images certs traces levels kind files slow_few fast_few = (
   twos files.slow files.fast slow_few fast_few,
   λ c gives. (
-    images files.image c.two.image,
+    images files.image c.two.firmware.image,
     λ held is. (
       certs (format_of kind Byte) c.slow files.slow_cert gives.slow_is.spelled.valid,
       λ errors accepted. (

@@ -9,7 +9,7 @@ use Rattle.box_tree.specs.declared.cert.CertKind.{CertKind}
 use Rattle.trace_io.specs.declared.sample.Sample.{Sample}
 use Rattle.interrupt_plan.specs.{Levels.LevelsHaveFault, Levels.SpellsLevels, declared.levels.Level.Level}
 use Rattle.trace_io.specs.Traces.{input_bytes}
-use Rattle.two_level_code.specs.{Images.fast_most, declared.two.Two.Two}
+use Rattle.two_level_code.specs.{Images.fast_most, Images.slow_alone, declared.two.Two.Two}
 use Rattle.two_level_runs.specs.Answering.{AnswersAtTwoLevels, answer_of_fast, fast_runs, plan_of}
 use Rattle.two_level_runs.specs.Rows.{TwoLevelSeen, two_level_seen}
 use Rattle.run_reports.specs.{Posted.ArePostedWithinErrors, Reports.IsReportOf, Reports.Report}
@@ -45,7 +45,7 @@ levels_in fast text = rows_in (SpellsLevels fast text) (LevelsHaveFault fast tex
 abbrev pub two_level_inputs : CertKind → TwoLevelFiles → CompiledTwoLevel
     → Reading (Unit {0} × (List ℕ × (List ℕ × (List Sample × (List Sample × List Level)))))
 two_level_inputs kind files c =
-    image_in files.image c.two.image then λ held.
+    image_in files.image c.two.firmware.image then λ held.
     cert_in (format_of kind Byte) c.slow files.slow_cert then λ errors.
     for_fast (cert_in (format_of kind Byte) c.fast files.fast_cert) then λ fast_errors.
     trace_in c.slow files.slow_trace then λ seen.
@@ -88,7 +88,7 @@ pub record TwoLevelRun (kind : CertKind) (flags : ℕ) (files : TwoLevelFiles) (
   pub accepts : AcceptsTwoLevels kind files slow fast two report.errors report.fast_errors samples fast_samples levels
   pub ran : report.rows ≡ two_level_seen two (map input_bytes samples) (map input_bytes fast_samples) levels flags
   pub answers : AnswersAtTwoLevels slow fast two flags (map input_bytes samples) (map input_bytes fast_samples) levels
-  pub reported : IsReportOf Byte flags slow two.slow samples (plan_of levels) (slow_report report)
+  pub reported : IsReportOf Byte flags slow (slow_alone slow two) samples (plan_of levels) (slow_report report)
   pub fast_bound : report.fast_bound ≡ fast_most (instruction_bound Byte fast)
   pub fast_instructions : All (λ f. f.instrs ≤ report.fast_bound) (fast_runs report.rows)
   pub fast_within : ArePostedWithinErrors 1 fast report.fast_errors fast_samples (fast_numbers report.rows)

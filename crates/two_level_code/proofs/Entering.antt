@@ -3,13 +3,12 @@ use Rattle.std.proofs.Common.{inl, inr, ℕ, ◌≤◌, sym, ap, ◌∙◌, subs
 use Rattle.cpu12_isa.specs.declared.instr.Instr.TheVariants.{Andcc, Rti}
 use Rattle.cpu12_isa.specs.{Code.decode_at, Code.StandsAt, Fits.StaysFit}
 use Rattle.cpu12_parts.specs.{State.State, Touching.IsIn, Whole.after_plain}
-use Rattle.cpu12_emul.specs.Image.{image_memory}
 use Rattle.byte_scaling.specs.declared.width.Width.TheVariants.{Byte}
 use Rattle.eval_code.specs.Evaluation.{Writes, eval_frame, IsAtEval, EvalAnswers}
 use Rattle.eval_code.specs.Frames.{FramesLeave}
 use Rattle.eval_code.proofs.Algebra.{six_each}
 use Rattle.two_level_code.specs.Running.{HasFastRom, IsFastStack, fast_code, FastAnswersEntered}
-use Rattle.two_level_code.specs.MemoryMaps.{fast_map}
+use Rattle.two_level_code.specs.{Images.joint_memory, MemoryMaps.fast_map}
 use Rattle.two_level_code.proofs.{Places.fast_apart, Places.AreAccepted}
 use Rattle.two_level_code.proofs.FastRom.{CodeLaws, standing, first_decoded}
 
@@ -57,7 +56,7 @@ fast_answers_entered laws slow fast two vs ls vf lf is flags bytes before s fits
     let t : State = r.0 in
     let e = r.1 in
     let left = laws.frames_leave (eval_frame fast_map) flags e.ds opened t e.run in
-    let rom : HasFastRom (image_memory two.image.bytes) t.mem =
+    let rom : HasFastRom (joint_memory two) t.mem =
     λ k from to. left.bytes k (written_low k from) ∙ inside.rom k from to in
     let behind = standing lower slow fast two t.mem accepted is rom in
     let room = behind.room in

@@ -2,10 +2,10 @@
 use Rattle.std.proofs.Common.{◌≡◌, ℕ, Ok, List, [], arith}
 use Rattle.fuzzy_meaning.specs.declared.block.Block.{Block}
 use Rattle.cpu12_isa.specs.{declared.instr.Instr.TheVariants.Andcc, Code.decode_at, Code.DecodesEncoded}
-use Rattle.cpu12_emul.specs.Image.{image_memory}
 use Rattle.byte_scaling.specs.declared.width.Width.TheVariants.{Byte}
 use Rattle.eval_code.specs.Placed.{BlockRises, BlockStands, StandsBetween}
-use Rattle.two_level_code.specs.{declared.two.Two.Two, Images.slow_items, Images.IsTwoOf, Running.HasFastRom}
+use Rattle.two_level_code.specs.{declared.two.Two.Two, Running.HasFastRom}
+use Rattle.two_level_code.specs.Images.{joint_memory, slow_items, IsTwoOf}
 use Rattle.two_level_code.specs.MemoryMaps.{fast_front, fast_back, fast_map}
 use Rattle.two_level_code.proofs.Places.{fast_in_order, AreAccepted, two_rise}
 
@@ -16,9 +16,9 @@ pub record CodeLaws : Type 0 where
   pub decodes : DecodesEncoded
 
 pub standing : CodeLaws → (slow fast : Block) (two : Two) (mem : List ℕ) → AreAccepted slow fast → IsTwoOf slow fast two
-    → HasFastRom (image_memory two.image.bytes) mem → StandsBetween fast_map fast Byte fast_front fast_back mem
+    → HasFastRom (joint_memory two) mem → StandsBetween fast_map fast Byte fast_front fast_back mem
 standing laws slow fast two mem h is same =
-    laws.stands two.image.bytes mem [] (slow_items slow) fast_map fast Byte fast_front fast_back fast_in_order
+    laws.stands two.firmware.image.bytes mem [] (slow_items slow) fast_map fast Byte fast_front fast_back fast_in_order
     h.fast_valid h.fast_limits
     is.image.bytes (two_rise laws.rises slow fast h) same
 

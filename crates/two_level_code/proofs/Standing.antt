@@ -28,7 +28,7 @@ use Rattle.alone_code.specs.Answers.{FirmwareAnswersBeside, FirmwareArrivesAlike
 use Rattle.two_level_code.specs.{declared.two.Two.Two, Standing.TwoStandBeside}
 use Rattle.two_level_code.specs.MemoryMaps.{fast_front, fast_back, fast_map, slow_map, is_fast_ram, is_fast_rom}
 use Rattle.two_level_code.specs.MemoryMaps.{is_open_to_fast}
-use Rattle.two_level_code.specs.Images.{fast_items, slow_items, two_items, IsTwoOf}
+use Rattle.two_level_code.specs.Images.{fast_items, joint_memory, slow_alone, slow_items, two_items, IsTwoOf}
 use Rattle.two_level_code.proofs.FastRom.{CodeLaws, standing, first_decoded}
 use Rattle.two_level_code.proofs.Places.{fast_in_order, fast_apart, AreAccepted}
 use Rattle.alone_code.proofs.Algebra.{main_in_order, main_apart}
@@ -156,18 +156,19 @@ no_vector at h =
 
 -- memory from the image
 byte_in : HoldsImage → (slow fast : Block) (two : Two) (at : ℕ) → IsTwoOf slow fast two → at < 65536
-    → get_or (image_memory two.image.bytes) at 0 ≡ byte_or_zero (byte_at (given_by (two_items slow fast)) at)
-byte_in holds slow fast two at h lt = (holds two.image.bytes).1 at lt ∙ ap byte_or_zero (h.image.bytes.bytes at)
+    → get_or (joint_memory two) at 0 ≡ byte_or_zero (byte_at (given_by (two_items slow fast)) at)
+byte_in holds slow fast two at h lt =
+    (holds two.firmware.image.bytes).1 at lt ∙ ap byte_or_zero (h.image.bytes.bytes at)
 
 byte_alone : HoldsImage → (slow fast : Block) (two : Two) (at : ℕ) → IsTwoOf slow fast two → at < 65536
-    → get_or (image_memory two.slow.image.bytes) at 0 ≡ byte_or_zero
+    → get_or (image_memory (slow_alone slow two).image.bytes) at 0 ≡ byte_or_zero
     (byte_at (given_by (slow_block slow ++ vector_items main_map)) at)
 byte_alone holds slow fast two at h lt =
-    let alone = h.slow_alone in
+    let alone = h.alone in
     let image = alone.firmware.image in
-    let items : firmware_items main_map slow two.slow.width ≡ slow_block slow ++ vector_items main_map =
+    let items : firmware_items main_map slow two.firmware.width ≡ slow_block slow ++ vector_items main_map =
     ap (λ (w : Width). firmware_items main_map slow w) alone.width in
-    (holds two.slow.image.bytes).1 at lt
+    (holds (slow_alone slow two).image.bytes).1 at lt
     ∙ ap byte_or_zero (image.bytes.bytes at ∙ ap (λ (xs : List Item). byte_at (given_by xs) at) items)
 
 -- it has bytes
@@ -205,14 +206,14 @@ two_give laws slow fast h =
     (All-append Fits (given_by (fast_items fast)) rest f slow_all)
 
 two_bytes : StandingLaws → (slow fast : Block) (two : Two) → AreAccepted slow fast → IsTwoOf slow fast two
-    → AreBytes (image_memory two.image.bytes)
+    → AreBytes (joint_memory two)
 two_bytes laws slow fast two h is =
-    (laws.image_is_bytes two.image.bytes (two_items slow fast) is.image.bytes (two_give laws slow fast h)).1
+    (laws.image_is_bytes two.firmware.image.bytes (two_items slow fast) is.image.bytes (two_give laws slow fast h)).1
 
 -- an interrupt enters the fast code
 vector_byte : StandingLaws → (slow fast : Block) (two : Two) (at : ℕ) → AreAccepted slow fast → IsTwoOf slow fast two
     → vector ≤ at → at < 65536
-    → get_or (image_memory two.image.bytes) at 0 ≡ byte_or_zero (byte_at (given_by (vector_items slow_map)) at)
+    → get_or (joint_memory two) at 0 ≡ byte_or_zero (byte_at (given_by (vector_items slow_map)) at)
 vector_byte laws slow fast two at h is from to =
     let vectors = byte_at (given_by (vector_items slow_map)) at in
     byte_in laws.holds_image slow fast two at is to
@@ -222,14 +223,14 @@ vector_byte laws slow fast two at h is from to =
 -- memory below its code is 0
 zero_low : StandingLaws → (slow fast : Block) (two : Two) (at : ℕ) → AreAccepted slow fast → IsTwoOf slow fast two
     → at < 0x4000
-    → get_or (image_memory two.image.bytes) at 0 ≡ 0
+    → get_or (joint_memory two) at 0 ≡ 0
 zero_low laws slow fast two at h is lt =
     byte_in laws.holds_image slow fast two at is (omega arith)
     ∙ ap byte_or_zero (byte_of_two laws slow fast at h (inl lt)
     ∙ ap₂ or_else (none_of_slow laws slow fast at h (inl (omega arith))) (no_vector at (omega arith)))
 
 no_outputs : StandingLaws → (slow fast : Block) (two : Two) → AreAccepted slow fast → IsTwoOf slow fast two
-    → HasAnswers fast_map fast Byte (λ o. 0) (image_memory two.image.bytes)
+    → HasAnswers fast_map fast Byte (λ o. 0) (joint_memory two)
 no_outputs laws slow fast two h is o lo hi =
     let few = (let v = h.fast_valid in v.few_outputs) in
     (zero_low laws slow fast two (0x1410 + 1 * (o - 1)) h is (omega arith), tt)
@@ -254,7 +255,7 @@ outside at h =
 
 alike_in : StandingLaws → (slow fast : Block) (two : Two) (at : ℕ) → AreAccepted slow fast → IsTwoOf slow fast two
     → is_open_to_fast at ≡ false → at < 65536
-    → get_or (image_memory two.image.bytes) at 0 ≡ get_or (image_memory two.slow.image.bytes) at 0
+    → get_or (joint_memory two) at 0 ≡ get_or (image_memory (slow_alone slow two).image.bytes) at 0
 alike_in laws slow fast two at h is shown lt =
     let out = outside at shown in
     let block = byte_at (given_by (slow_block slow)) at in
@@ -264,29 +265,29 @@ alike_in laws slow fast two at h is shown lt =
     ∙ sym (byte_alone laws.holds_image slow fast two at is lt)
 
 alike : StandingLaws → (slow fast : Block) (two : Two) → AreAccepted slow fast → IsTwoOf slow fast two
-    → Agree is_open_to_fast (image_memory two.image.bytes) (image_memory two.slow.image.bytes)
+    → Agree is_open_to_fast (joint_memory two) (image_memory (slow_alone slow two).image.bytes)
 alike laws slow fast two h is =
-    let m = laws.holds_image two.image.bytes in
-    let n = laws.holds_image two.slow.image.bytes in
+    let m = laws.holds_image two.firmware.image.bytes in
+    let n = laws.holds_image (slow_alone slow two).image.bytes in
     let past : (image : List (ℕ × ℕ)) (at : ℕ) → 65536 ≤ at → get_or (image_memory image) at 0 ≡ 0 = λ image at le.
     (let size = (laws.holds_image image).0 in get_or_past (image_memory image) at 0 (omega arith)) in
     record {
       size = m.0 ∙ sym n.0;
       bytes = λ at shown. elim (cases_lt at 65536) [
         | inl lt ↦ alike_in laws slow fast two at h is shown lt
-        | inr le ↦ past two.image.bytes at le ∙ sym (past two.slow.image.bytes at le)
+        | inr le ↦ past two.firmware.image.bytes at le ∙ sym (past (slow_alone slow two).image.bytes at le)
       ];
     }
 
 pub two_stand_beside : StandingLaws → TwoStandBeside
 two_stand_beside laws slow fast two vs ls vf lf is =
     let h : AreAccepted slow fast = record { slow_valid = vs; slow_limits = ls; fast_valid = vf; fast_limits = lf } in
-    let alone = is.slow_alone in
+    let alone = is.alone in
     let firmware = alone.firmware in
-    let left : LeavesMapped is_open_to_fast two.slow.memory_map =
+    let left : LeavesMapped is_open_to_fast (slow_alone slow two).memory_map =
     subst (λ (l : MemoryMap). LeavesMapped is_open_to_fast l) (sym firmware.memory_map) main_left in
     let agree = alike laws slow fast two h is in
-    let mem = image_memory two.image.bytes in
+    let mem = joint_memory two in
     let first = vector_byte laws slow fast two vector h is (omega arith) (omega arith) in
     let second = vector_byte laws slow fast two (vector + 1) h is (omega arith) (omega arith) in (
       record {
@@ -298,7 +299,8 @@ two_stand_beside laws slow fast two vs ls vf lf is =
         alike = agree;
       },
       record {
-        answers = laws.answers is_open_to_fast slow two.slow left vs ls firmware;
-        arrives = λ flags fits. laws.arrives is_open_to_fast slow two.slow mem flags fits left vs ls firmware agree;
+        answers = laws.answers is_open_to_fast slow (slow_alone slow two) left vs ls firmware;
+        arrives = λ flags fits.
+            laws.arrives is_open_to_fast slow (slow_alone slow two) mem flags fits left vs ls firmware agree;
       },
     )

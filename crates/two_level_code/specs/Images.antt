@@ -6,10 +6,12 @@ use Rattle.rule_layout.specs.Layouts.{IsWithinLimits}
 use Rattle.cpu12_isa.specs.declared.instr.Instr.TheVariants.{Rts}
 use Rattle.cpu12_asm.specs.declared.items.Item.{Item}
 use Rattle.firmware_code.specs.declared.firmware.Firmware.{Firmware}
-use Rattle.firmware_code.specs.{Code.frame_code, Images.vector_items, Images.IsImageOf}
-use Rattle.alone_code.specs.Firmwares.{IsFirmwareOf}
+use Rattle.firmware_code.specs.{Code.frame_code, Images.image_of, Images.vector_items, Images.IsImageOf}
+use Rattle.alone_code.specs.Firmwares.{IsFirmwareOf, firmware_items}
 use Rattle.byte_scaling.specs.declared.width.Width.TheVariants.{Byte}
-use Rattle.eval_code.specs.{MemoryMaps.main_map, Bounds.instruction_bound, Bounds.step_bound, Items.block_items}
+use Rattle.cpu12_emul.specs.Image.{image_memory}
+use Rattle.eval_code.specs.{declared.memory_map.MemoryMap.MemoryMap, MemoryMaps.main_map, Items.block_items}
+use Rattle.eval_code.specs.Bounds.{instruction_bound, step_bound}
 use Rattle.two_level_code.specs.declared.two.{FastCode.FastCode, Two.Two}
 use Rattle.two_level_code.specs.MemoryMaps.{fast_front, fast_back, fast_map, slow_map}
 
@@ -24,6 +26,19 @@ slow_items b = block_items main_map b Byte (frame_code main_map) (Rts ∷ []) ++
 -- the first, and then the others
 abbrev pub two_items : Block → Block → List Item
 two_items slow fast = fast_items fast ++ slow_items slow
+
+-- memory from the image of both
+abbrev pub joint_memory : Two → List ℕ
+joint_memory two = image_memory two.firmware.image.bytes
+
+-- the slow firmware as it stands alone: in an image of its own block's items, from whose interrupts it returns at once
+abbrev pub alone_map : MemoryMap → MemoryMap
+alone_map l = record l { interrupt = main_map.interrupt }
+
+abbrev pub slow_alone : Block → Two → Firmware
+slow_alone b two =
+    let f = two.firmware in
+    record f { image = image_of (firmware_items main_map b Byte); memory_map = alone_map f.memory_map }
 
 -- a block's firmware that answers bytes and stands alone
 pub record IsAlone (b : Block) (f : Firmware) : Type 0 where
@@ -45,10 +60,11 @@ pub record IsFastOf (b : Block) (f : FastCode) : Type 0 where
   pub instructions : f.instr_bound ≡ instruction_bound Byte b
   pub steps : f.step_bound ≡ step_bound Byte b
 
--- The image has just the bytes of both, and the slow firmware is that of its block alone.
+-- The image has just the bytes of both; all else of the firmware, but for its interrupt, is the slow block's alone.
 pub record IsTwoOf (slow fast : Block) (two : Two) : Type 0 where
-  pub image : IsImageOf (two_items slow fast) two.image
-  pub slow_alone : IsAlone slow two.slow
+  pub image : IsImageOf (two_items slow fast) two.firmware.image
+  pub memory_map : two.firmware.memory_map ≡ slow_map
+  pub alone : IsAlone slow (slow_alone slow two)
   pub fast_is : IsFastOf fast two.fast
 
 -- Valid blocks within the limits have one.

@@ -8,11 +8,11 @@ use Rattle.cpu12_isa.specs.Flags.{has, interrupts_masked}
 use Rattle.cpu12_isa.specs.{Agreement.AgreeBetween, Code.decode_at, Code.six_from, Regions.stack_start}
 use Rattle.cpu12_isa.specs.{Regions.stack_end}
 use Rattle.cpu12_parts.specs.{State.State, Whole.after_plain, Touching.IsIn, Touching.Each, Touching.IsBetween}
-use Rattle.cpu12_emul.specs.Image.{image_memory}
 use Rattle.byte_scaling.specs.declared.width.Width.TheVariants.{Byte}
 use Rattle.eval_code.specs.{Firing.AreInputBytes, Evaluation.HasBytes, Evaluation.HasAnswers, Evaluation.IsEvaluated}
 use Rattle.two_level_code.specs.declared.two.Two.{Two}
-use Rattle.two_level_code.specs.{MemoryMaps.fast_map, MemoryMaps.fast_rom_end, Images.IsTwoOf}
+use Rattle.two_level_code.specs.{MemoryMaps.fast_map, MemoryMaps.fast_rom_end, Images.joint_memory}
+use Rattle.two_level_code.specs.Images.{IsTwoOf}
 
 -- the bytes of the fast block's ROM are an image's, and 0 where it has none
 abbrev pub HasFastRom : List ℕ → List ℕ → Type 0
@@ -58,8 +58,8 @@ pub record IsFastAnswered (b : Block) (image : List ℕ) (flags : ℕ) (bytes : 
 abbrev pub AnswersEntered : Block → Two → Type 0
 AnswersEntered b two =
     (flags : ℕ) (bytes : List ℕ) (before : ℕ → ℕ) (s : State) → flags < 2 ^ 8 → AreInputBytes b bytes
-    → IsEntered b (image_memory two.image.bytes) bytes before s
-    → (t : State) × IsFastAnswered b (image_memory two.image.bytes) flags bytes before s t
+    → IsEntered b (joint_memory two) bytes before s
+    → (t : State) × IsFastAnswered b (joint_memory two) flags bytes before s t
 
 -- That of two blocks does.
 abbrev pub FastAnswersEntered : Type 0

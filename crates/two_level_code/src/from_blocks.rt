@@ -31,7 +31,7 @@ pub fn compile_two(alloc: Global, slow: &Block, fast: &Block) -> Result<Two, Two
     requires slow { IsValid slow.now }
     requires fast { IsValid fast.now }
     ensures two { IfOk result (IsTwoOf slow.now fast.now) }
-    ensures beside { IfOk result (StandsBeside fast.now) }
+    ensures beside { IfOk result (StandsBeside slow.now fast.now) }
     ensures slow_answers { IfOk result (SlowAnswersBeside slow.now) }
     ensures fast_answers { IfOk result (AnswersEntered fast.now) }
 

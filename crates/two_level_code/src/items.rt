@@ -38,6 +38,16 @@ pub fn fast_map() -> MemoryMap
     }
 }
 
+/// The memory map of the slow firmware, whose interrupts enter the fast block's code.
+pub(crate) fn slow_map() -> MemoryMap
+    ensures { result ≡ slow_map }
+{
+    MemoryMap {
+        interrupt: fast_map().interrupt,
+        ..MemoryMap::MAIN
+    }
+}
+
 /// The items of the fast block and then those of the slow firmware.
 pub(crate) fn two_items(
     alloc: Global,
@@ -68,12 +78,6 @@ pub(crate) fn two_items(
         behind: &back,
     };
     push_block(alloc, &mut items, &main, Width::Byte, slow, &around_slow)?;
-    push_vectors(
-        &mut items,
-        &MemoryMap {
-            interrupt: memory_map.interrupt,
-            ..main
-        },
-    )?;
+    push_vectors(&mut items, &slow_map())?;
     Ok(items)
 }

@@ -3,9 +3,7 @@ ghost use Rattle.two_level_code.specs.{Alike.TwosAreOne, Images.AloneHasByteBoun
 ghost use Rattle.two_level_code.specs.Running.{FastAnswersEntered};
 ghost use Rattle.two_level_code.specs.Standing.{TwoStandBeside};
 
-use alone_code::laws::{
-    blocks_have_firmware, firmware_answers_beside, firmware_arrives_alike, firmwares_are_one,
-};
+use alone_code::laws::{firmware_answers_beside, firmware_arrives_alike};
 use cpu12_emul::laws::holds_image;
 use cpu12_isa::laws::{decodes_encoded, stays_fit};
 use eval_code::laws::{blocks_are_placed, eval_answers, frames_leave, placed_items_stand};
@@ -47,7 +45,6 @@ pub fn blocks_have_twos()
 {
     blocks_are_placed();
     items_have_images();
-    blocks_have_firmware();
 }
 
 /// Two blocks have only one firmware at two levels.
@@ -55,5 +52,4 @@ pub fn twos_are_one()
     ensures { TwosAreOne }
 {
     images_are_one();
-    firmwares_are_one();
 }

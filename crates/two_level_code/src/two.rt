@@ -3,13 +3,12 @@ ghost use Rattle.std.specs.Prelude.{◌≡◌, IfOk};
 ghost use Rattle.two_level_code.specs.Images.{IsTwoOf, fast_most};
 ghost use Rattle.two_level_code.specs.{Running.AnswersEntered, Standing.StandsBeside, Standing.SlowAnswersBeside};
 
-use crate::items::two_items;
+use crate::items::{slow_map, two_items};
 use crate::laws::{fast_answers_entered, two_stand_beside};
-use alone_code::compile_laid_out;
 use byte_scaling::Width;
-use cpu12_asm::Image;
 use eval_code::laws::blocks_are_placed;
 use eval_code::{instruction_bound, steps_by};
+use firmware_code::laws::items_have_images;
 use firmware_code::{Firmware, image_of};
 use rule_layout::LaidOut;
 use std::alloc::{AllocError, Global};
@@ -17,10 +16,8 @@ use std::alloc::{AllocError, Global};
 /// A slow block with a fast one that runs inside its interrupts.
 #[derive(Drop)]
 pub struct Two {
-    /// The bytes of both, and the start of the slow one.
-    pub image: Image,
-    /// The slow block's firmware, as it stands alone.
-    pub slow: Firmware,
+    /// The slow block's firmware, in the image of both.
+    pub firmware: Firmware,
     /// What is known of the fast block's code.
     pub fast: FastCode,
 }
@@ -70,25 +67,32 @@ pub fn compile_two_laid_out(
 
     // The slow firmware answers as it does alone beside interrupts to which all is open that is the fast
     // block's; wherever one enters the fast code, this leads to its return with its block's answers.
-    ensures beside { IfOk result (StandsBeside fast.now.block.now) }
+    ensures beside { IfOk result (StandsBeside slow.now.block.now fast.now.block.now) }
     ensures slow_answers { IfOk result (SlowAnswersBeside slow.now.block.now) }
     ensures fast_answers { IfOk result (AnswersEntered fast.now.block.now) }
 {
     two_stand_beside();
     fast_answers_entered();
     blocks_are_placed();
+    items_have_images();
     let items = two_items(alloc, slow, fast)?;
     let image = image_of(alloc, items.as_slice())?;
-    let slow_alone = compile_laid_out(alloc, Width::Byte, slow)?;
-    let instr_bound = instruction_bound(Width::Byte, fast);
-    let fast_code = FastCode {
-        outputs: fast.block.outputs.len() as u8,
-        instr_bound,
-        step_bound: steps_by(fast, instr_bound),
-    };
+    let slow_bound = instruction_bound(Width::Byte, slow);
+    let fast_bound = instruction_bound(Width::Byte, fast);
     Ok(Two {
-        image,
-        slow: slow_alone,
-        fast: fast_code,
+        firmware: Firmware {
+            image,
+            memory_map: slow_map(),
+            inputs: slow.block.inputs.len() as u8,
+            outputs: slow.block.outputs.len() as u8,
+            width: Width::Byte,
+            instr_bound: slow_bound,
+            step_bound: steps_by(slow, slow_bound),
+        },
+        fast: FastCode {
+            outputs: fast.block.outputs.len() as u8,
+            instr_bound: fast_bound,
+            step_bound: steps_by(fast, fast_bound),
+        },
     })
 }

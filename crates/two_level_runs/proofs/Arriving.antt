@@ -1,8 +1,9 @@
 -- The state in which the slow firmware waits for its first sample has the fast code beside it.
 use Rattle.two_level_runs.proofs.Words.{[], ◌<◌, ◌==◌, ◌^◌, ◌≡◌, ◌≤◌, AreBytes, arith, Block, Bool, false, FastStands}
-use Rattle.two_level_runs.proofs.Words.{first_two, FirstAlike, FitsState, if◌then◌else◌, image_memory}
+use Rattle.two_level_runs.proofs.Words.{first_two, FirstAlike, FitsState, if◌then◌else◌, joint_memory}
 use Rattle.two_level_runs.proofs.Words.{is_open_to_fast, length, List, Next, next_of, Ok, refl, StandsBeside, State}
 use Rattle.two_level_runs.proofs.Words.{StepFits, suc, true, Two, zero, ℕ}
+use Rattle.two_level_runs.proofs.Words.{slow_alone}
 use Rattle.std.proofs.{Common.Err}
 use Rattle.cpu12_emul.specs.{Step.reset_with}
 use Rattle.std.specs.Prelude.{Result}
@@ -42,13 +43,13 @@ reset_fits mem bytes = record {
   mem = bytes;
 }
 
-pub first_stands : StepFits → (fast : Block) (two : Two) (flags : ℕ) (samples : List (List ℕ)) → flags < 2 ^ 8
-    → length fast.outputs ≤ 8 → StandsBeside fast two
-    → FirstAlike is_open_to_fast two.slow flags (image_memory two.image.bytes) (first_two two flags)
+pub first_stands : StepFits → (slow fast : Block) (two : Two) (flags : ℕ) (samples : List (List ℕ)) → flags < 2 ^ 8
+    → length fast.outputs ≤ 8 → StandsBeside slow fast two
+    → FirstAlike is_open_to_fast (slow_alone slow two) flags (joint_memory two) (first_two two flags)
     → FastStands fast two samples [] (first_two two flags)
-first_stands law fast two flags samples hf few stand alike =
-    let image = image_memory two.image.bytes in
-    let fits = arrival_fits law flags two.slow.memory_map.wait two.slow.step_bound (reset_with image) hf
+first_stands law slow fast two flags samples hf few stand alike =
+    let image = joint_memory two in
+    let fits = arrival_fits law flags two.firmware.memory_map.wait two.firmware.step_bound (reset_with image) hf
     (reset_fits image stand.bytes) in
     record {
       bytes = fits.mem;

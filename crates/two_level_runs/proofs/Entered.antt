@@ -1,5 +1,5 @@
 -- A state from which the fast code is entered.
-use Rattle.two_level_runs.proofs.Words.{arith, Block, CanEnter, Free, image_memory, inl, List, OuterEnters, refl}
+use Rattle.two_level_runs.proofs.Words.{arith, Block, CanEnter, Free, joint_memory, inl, List, OuterEnters, refl}
 use Rattle.two_level_runs.proofs.Words.{StandsBeside, State, Two, TwoStandBeside, ℕ}
 use Rattle.cpu12_emul.specs.{Image.HoldsImage}
 use Rattle.two_level_runs.specs.{Entered.FastIsEntered}
@@ -12,12 +12,12 @@ beginning mem = record {
   mem = mem;
 }
 
-can_begin : HoldsImage → (fast : Block) (two : Two) → StandsBeside fast two
-    → CanEnter fast (image_memory two.image.bytes) (λ o. 0) (beginning (image_memory two.image.bytes))
+can_begin : HoldsImage → (slow fast : Block) (two : Two) → StandsBeside slow fast two
+    → CanEnter fast (joint_memory two) (λ o. 0) (beginning (joint_memory two))
 unfolding beginning
-can_begin holds fast two stand = record {
+can_begin holds slow fast two stand = record {
   off = inl refl;
-  size = (holds two.image.bytes).0;
+  size = (holds two.firmware.image.bytes).0;
   bytes = stand.bytes;
   fits = record {
     a = omega arith;
@@ -38,8 +38,8 @@ pub fast_is_entered : HoldsImage → TwoStandBeside → OuterEnters → FastIsEn
 unfolding beginning
 fast_is_entered holds stands enters slow fast two bytes vs ls vf lf is input =
     let stand = (stands slow fast two vs ls vf lf is).0 in
-    let image = image_memory two.image.bytes in
+    let image = joint_memory two in
     let there =
     enters fast image bytes (λ o. 0) (beginning image) vf.few_inputs (omega (arith, vf.few_outputs)) input
-    (can_begin holds fast two stand) in
+    (can_begin holds slow fast two stand) in
     (beginning image, (refl, there))

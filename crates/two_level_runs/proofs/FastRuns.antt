@@ -118,7 +118,7 @@ module _ (b : Block) (two : Two) (flags : ℕ) (samples : List (List ℕ)) (P : 
   all_told done (ts ∷ tss) [] slow s told = absurd told
   all_told done (ts ∷ tss) (n ∷ ns) [] s told = absurd told
   all_told done (ts ∷ tss) (n ∷ ns) (x ∷ rest) s told =
-      let u = given two.slow.memory_map x s in
+      let u = given two.firmware.memory_map x s in
       told_by_levels u done ts (runs_in tss) told.0
       (all_told (onto ts done) tss ns rest (uninterrupted flags n u) told.1)
 

@@ -1,10 +1,11 @@
 -- Runs at two levels answer.
 use Rattle.two_level_runs.proofs.Words.{[], ◌∙◌, ◌≡◌, ◌≤◌, All, all_onto, ap, AreOnStack, AreTold, Byte, FactsBeside}
-use Rattle.two_level_runs.proofs.Words.{fast_most, FastSeen, FastStands, first_two, FirstAlike, image_memory}
+use Rattle.two_level_runs.proofs.Words.{fast_most, FastSeen, FastStands, first_two, FirstAlike, joint_memory}
 use Rattle.two_level_runs.proofs.Words.{is_open_to_fast, IsGoodLevel, length, Level, two_level_form, levels_of, List, map}
 use Rattle.two_level_runs.proofs.Words.{OnStackOrNone, Option, plan_of, RequestsAreGood, Rows, rows_of_samples}
 use Rattle.two_level_runs.proofs.Words.{RowSeen, StandsBeside, State, step_bound, subst, sym, taken_by, TakenAtOnce}
 use Rattle.two_level_runs.proofs.Words.{TwoStandBeside, ℕ, AllComplete, answer_of_fast, AreInputBytes, arith, bytes_of}
+use Rattle.two_level_runs.proofs.Words.{slow_alone}
 use Rattle.run_law.specs.{Following.AllFollow, Following.RunsFollow}
 use Rattle.alone_runs.specs.{Rows.first_state, Rows.firmware_rows, Answering.FirstStatesAlike}
 use Rattle.alone_runs.specs.{Answering.FirstStatesAgree}
@@ -44,7 +45,7 @@ pub record AnswerLaws : Type 0 where
   pub firmware_is_uninterrupted : FirmwareIsUninterrupted
   pub runs_follow : (x : Levels)
       → RunsFollow OnStackOrNone is_open_to_fast (two_level_form x.flags x.two x.samples)
-      (FactsBeside is_open_to_fast x.flags x.two.slow)
+      (FactsBeside is_open_to_fast x.flags (slow_alone x.slow x.two))
       (IsGoodLevel (length x.samples)) (FastStands x.fast x.two x.samples)
 
 pub answers_under_levels : AnswerLaws → AnswersUnderLevels
@@ -52,16 +53,16 @@ answers_under_levels laws two flags slow_samples samples levels hf good slow fas
     record {
       arrived = followed.arrived;
       rows_are = rows_are;
-      slow_answers = subst (λ (rows : List (RowSeen (List ℕ))). AnswerBlock slow two.slow flags slow_samples rows)
+      slow_answers = subst (λ (rows : List (RowSeen (List ℕ))). AnswerBlock slow alone flags slow_samples rows)
           (sym rows_are) under.answers;
       taken = followed.taken
-          ∙ same_taken laws.taken_at_once flags two samples levels 1 runs.ns slow_samples first runs.complete
+          ∙ same_taken laws.taken_at_once flags slow two samples levels 1 runs.ns slow_samples first runs.complete
           ∙ ap (λ (rows : List (RowSeen (List ℕ))). taken_by 1 levels (map (λ (r : RowSeen (List ℕ)). r.steps) rows))
           (sym rows_of);
       ns = runs.ns;
       complete = complete;
       simulates = followed.simulates;
-      low = rows_low flags two samples runs.ns slow_samples all.states first runs.complete waits followed.simulates
+      low = rows_low flags slow two samples runs.ns slow_samples all.states first runs.complete waits followed.simulates
           followed.boundaries;
       code = λ k ws lt j w l. (let o = followed.owns k ws lt j w l in let stands = o.1 in stands.code);
       fast_numbers = numbered;
@@ -74,10 +75,10 @@ answers_under_levels laws two flags slow_samples samples levels hf good slow fas
           (few_steps fast two flags samples) [] all.told runs.ns slow_samples first told));
       told = subst (λ (ns : List ℕ). AreTold fast two flags samples [] all.told ns slow_samples first)
           (sym (ap (map (λ (r : RowSeen (List ℕ)). r.steps)) rows_of
-          ∙ steps_are flags two (plan_of levels) 1 runs.ns slow_samples first runs.complete)) told;
+          ∙ steps_are flags slow two (plan_of levels) 1 runs.ns slow_samples first runs.complete)) told;
       stack = subst (λ (rows : List (RowSeen (List ℕ))). All (λ (r : RowSeen (List ℕ)). AreOnStack r.frames) rows)
           (sym rows_of)
-          (on_stack flags two (plan_of levels) 1 runs.ns slow_samples first runs.complete);
+          (on_stack flags slow two (plan_of levels) 1 runs.ns slow_samples first runs.complete);
     }
   where
     x : Given
@@ -97,22 +98,25 @@ answers_under_levels laws two flags slow_samples samples levels hf good slow fas
       inputs = inputs;
     }
 
-    firmware : IsFirmwareOf slow two.slow
-    firmware = (let alone = is.slow_alone in alone.firmware)
+    alone : Firmware
+    alone = slow_alone slow two
 
-    stand : StandsBeside fast two
+    firmware : IsFirmwareOf slow alone
+    firmware = (let its = is.alone in its.firmware)
+
+    stand : StandsBeside slow fast two
     stand = (laws.two_stand_beside slow fast two vs ls vf lf is).0
 
-    runs : RunsBeside is_open_to_fast two.slow flags slow_samples
-    runs = laws.firmware_runs_beside is_open_to_fast slow two.slow flags slow_samples hf stand.leaves vs ls firmware
+    runs : RunsBeside is_open_to_fast alone flags slow_samples
+    runs = laws.firmware_runs_beside is_open_to_fast slow alone flags slow_samples hf stand.leaves vs ls firmware
         slow_inputs
 
     first : State
-    first = first_state two.slow flags
+    first = first_state alone flags
 
-    alike : FirstAlike is_open_to_fast two.slow flags (image_memory two.image.bytes) (first_two two flags)
+    alike : FirstAlike is_open_to_fast alone flags (joint_memory two) (first_two two flags)
     alike =
-        laws.first_states_alike is_open_to_fast slow two.slow flags (image_memory two.image.bytes) hf stand.leaves vs
+        laws.first_states_alike is_open_to_fast slow alone flags (joint_memory two) hf stand.leaves vs
         ls firmware
         stand.alike
 
@@ -120,11 +124,12 @@ answers_under_levels laws two flags slow_samples samples levels hf good slow fas
     begins =
         (let level_laws = laws.levels in
         let bytes = level_laws.bytes in
-        first_stands bytes.step_fits fast two flags samples hf (few_outputs x) stand alike)
+        first_stands bytes.step_fits slow fast two flags samples hf (few_outputs x) stand alike)
 
     setting : Levels
     setting = record {
       two = two;
+      slow = slow;
       fast = fast;
       flags = flags;
       samples = samples;
@@ -135,9 +140,9 @@ answers_under_levels laws two flags slow_samples samples levels hf good slow fas
     all : Rows (List ℕ) Level (Option FastSeen)
     all = two_rows two slow_samples samples levels flags
 
-    complete : AllComplete (SlowFacts flags two) (two_level_form flags two samples) runs.ns slow_samples first
+    complete : AllComplete (SlowFacts flags slow two) (two_level_form flags two samples) runs.ns slow_samples first
     complete =
-        all_complete (SlowFacts flags two) flags two.slow (two_level_parts two samples) runs.ns slow_samples first
+        all_complete (SlowFacts flags slow two) flags alone (two_level_parts two samples) runs.ns slow_samples first
         runs.complete
 
     followed : AllFollow OnStackOrNone is_open_to_fast (two_level_form flags two samples) (FastStands fast two samples) []
@@ -145,44 +150,44 @@ answers_under_levels laws two flags slow_samples samples levels hf good slow fas
     followed =
         laws.runs_follow setting (λ k. levels_of k levels)
         (levels_are_good laws.requests_are_good (length samples) levels good) [] 1
-        two.slow.step_bound runs.ns slow_samples (first_two two flags) first runs.within
+        two.firmware.step_bound runs.ns slow_samples (first_two two flags) first runs.within
         (λ k d lt. level_gives x stand.leaves _ (slow_inputs k d lt))
         complete
-        (laws.first_states_agree is_open_to_fast two.slow flags (image_memory two.image.bytes)
+        (laws.first_states_agree is_open_to_fast alone flags (joint_memory two)
         (first_two two flags) alike)
         begins
 
     own : FastStands fast two samples (all_onto all.told []) all.state
     own = followed.own
 
-    under : AnswersUnder slow two.slow flags slow_samples (plan_of levels)
-        (firmware_rows two.slow slow_samples (plan_of levels) flags).rows
+    under : AnswersUnder slow alone flags slow_samples (plan_of levels)
+        (firmware_rows alone slow_samples (plan_of levels) flags).rows
     under =
-        laws.answers_under_plans two.slow flags slow_samples (plan_of levels) hf
+        laws.answers_under_plans alone flags slow_samples (plan_of levels) hf
         (plan_good (length samples) levels good) slow vs ls
         firmware slow_inputs
 
-    rows_of : all.rows ≡ rows_of_samples flags two.slow (plan_of levels) 1 runs.ns slow_samples first
+    rows_of : all.rows ≡ rows_of_samples flags alone (plan_of levels) 1 runs.ns slow_samples first
     rows_of = followed.rows_are
-        ∙ same_rows laws.taken_at_once flags two samples levels 1 runs.ns slow_samples first runs.complete
+        ∙ same_rows laws.taken_at_once flags slow two samples levels 1 runs.ns slow_samples first runs.complete
 
     numbers : runs.ns ≡ under.ns
     numbers =
-        same_numbers (SlowFacts flags two) (FactsAlone flags two.slow) flags two.slow runs.ns under.ns slow_samples
+        same_numbers (SlowFacts flags slow two) (FactsAlone flags alone) flags alone runs.ns under.ns slow_samples
         first runs.complete
         under.complete
 
-    waits : AllWait flags two.slow runs.ns slow_samples first
-    waits = subst (λ (ns : List ℕ). AllWait flags two.slow ns slow_samples first) (sym numbers) under.waits
+    waits : AllWait flags alone runs.ns slow_samples first
+    waits = subst (λ (ns : List ℕ). AllWait flags alone ns slow_samples first) (sym numbers) under.waits
 
-    rows_are : all.rows ≡ (firmware_rows two.slow slow_samples (plan_of levels) flags).rows
+    rows_are : all.rows ≡ (firmware_rows alone slow_samples (plan_of levels) flags).rows
     rows_are =
-        rows_of ∙ ap (λ (ns : List ℕ). rows_of_samples flags two.slow (plan_of levels) 1 ns slow_samples first) numbers
+        rows_of ∙ ap (λ (ns : List ℕ). rows_of_samples flags alone (plan_of levels) 1 ns slow_samples first) numbers
         ∙ sym under.rows_are
 
     fast_are : fast_runs_of two slow_samples samples levels flags ≡ runs_in all.told
-    fast_are = runs_are (two_level_form flags two samples) two.slow.step_bound (λ k. levels_of k levels) 1 slow_samples
-        (first_two two flags)
+    fast_are = runs_are (two_level_form flags two samples) two.firmware.step_bound (λ k. levels_of k levels) 1
+        slow_samples (first_two two flags)
 
     told : AreTold fast two flags samples [] all.told runs.ns slow_samples first
     told = rows_told x laws.taken_at_once [] all.told runs.ns slow_samples first runs.complete

@@ -3,12 +3,13 @@ use Rattle.two_level_runs.proofs.Words.{[], ◌-◌, ◌<◌, ◌^◌, ◌∙◌
 use Rattle.two_level_runs.proofs.Words.{AreInputBytes, arith, Ascend, Begins, below_sums, Block, bytes_of, CanEnter}
 use Rattle.two_level_runs.proofs.Words.{counted, entered, FactsBeside, false, fast_most, fast_run, FastRunsFollow}
 use Rattle.two_level_runs.proofs.Words.{FastSeen, FastStands, FollowsInside, framed, HasFastCode, HasRoom}
-use Rattle.two_level_runs.proofs.Words.{image_memory, inl, inr, is_fast_ram, is_hidden, is_open_inside}
+use Rattle.two_level_runs.proofs.Words.{joint_memory, inl, inr, is_fast_ram, is_hidden, is_open_inside}
 use Rattle.two_level_runs.proofs.Words.{is_open_to_fast, IsGoodLevel, IsQuietRun, IsReadOff, IsServable, IsTold}
 use Rattle.two_level_runs.proofs.Words.{LeavesStack, length, Level, List, nat_tests, None, OnStackOrNone, Option}
 use Rattle.two_level_runs.proofs.Words.{OuterEnters, OuterIsQuiet, OuterIsServable, OuterServes, outputs_after, Quiet}
 use Rattle.two_level_runs.proofs.Words.{Ran, refl, Regs, RunsFast, sample_of, seen_of, served_by, slice_get, Some}
 use Rattle.two_level_runs.proofs.Words.{State, subst, suc, sym, Temps, told_by, true, Two, word_of, zero, ℕ}
+use Rattle.two_level_runs.proofs.Words.{slow_alone}
 use Rattle.firmware_code.specs.Interruptible.{IsStackOfOneCall}
 use Rattle.std.specs.{Prelude.slice_index_or}
 use Rattle.fuzzy_meaning.specs.{Blocks.IsValid}
@@ -58,7 +59,7 @@ few_inputs x = let v = x.fast_valid in v.few_inputs
 
 -- the facts of both states in which an interrupt is served
 pub record Serves (x : Given) (done : List (Level × Option FastSeen)) (v s : State) : Type 0 where
-  pub facts : FactsBeside is_open_to_fast x.flags x.two.slow s
+  pub facts : FactsBeside is_open_to_fast x.flags (slow_alone x.slow x.two) s
   pub begins : Begins is_open_to_fast v s
   pub stands : FastStands x.fast x.two x.samples done v
 
@@ -72,7 +73,7 @@ sp_within r t below (inl e) = (omega (arith, below.low, e), omega (arith, below.
 sp_within r t below (inr e) = (omega (arith, below.low, e), omega (arith, below.high, e))
 
 can_enter : (x : Given) (done : List (Level × Option FastSeen)) (v s : State) → Serves x done v s
-    → CanEnter x.fast (image_memory x.two.image.bytes) (outputs_after x.fast x.samples done) v
+    → CanEnter x.fast (joint_memory x.two) (outputs_after x.fast x.samples done) v
 can_enter x done v s h =
     let begins = h.begins in
     let own = h.stands in
@@ -146,7 +147,7 @@ outputs_are x = let code = code_is x in code.outputs
 
 servable : (x : Given) (done : List (Level × Option FastSeen)) (l : Level) (v s : State) → Serves x done v s
     → AreInputBytes x.fast (bytes_in x l)
-    → IsServable x.fast (image_memory x.two.image.bytes) x.flags (most_of x) (outputs_after x.fast x.samples done) v
+    → IsServable x.fast (joint_memory x.two) x.flags (most_of x) (outputs_after x.fast x.samples done) v
     (Some (bytes_in x l))
 servable x done l v s h input =
     let laws = x.laws in
@@ -169,7 +170,7 @@ code_kept image m n sp l a h = record {
 -- the run without inner requests, which it follows
 FastRan : Given → List (Level × Option FastSeen) → Level → State → Type 0
 FastRan x done l v =
-    (fast : RunsFast x.fast (image_memory x.two.image.bytes) x.flags (most_of x) (outputs_after x.fast x.samples done) v
+    (fast : RunsFast x.fast (joint_memory x.two) x.flags (most_of x) (outputs_after x.fast x.samples done) v
     (bytes_in x l))
     × FollowsInside x.flags (length x.fast.outputs) (most_of x) l.inner.items
     (suc (let run = fast.run in run.further)) (entered (bytes_in x l) v)
@@ -184,7 +185,7 @@ fast_ran x done l v s h input ascend =
     let stay = (let b = laws.bytes in b.bytes_stay) in
     let own = h.stands in (
       fast,
-      laws.follow x.fast (image_memory x.two.image.bytes) x.flags (most_of x) (bytes_in x l)
+      laws.follow x.fast (joint_memory x.two) x.flags (most_of x) (bytes_in x l)
           (outputs_after x.fast x.samples done) l.inner.items (entered (bytes_in x l) v) fast.behind x.flags_fit
           (few_outputs x) (bytes_stay stay (bytes_in x l) v input.fit can.fits can.bytes) ascend fast.run fast.within,
     )
@@ -196,7 +197,7 @@ served_stands : (x : Given) (done : List (Level × Option FastSeen)) (l : Level)
 unfolding FastRan
 served_stands x done l v s h good input ascend =
     let laws = x.laws in
-    let image = image_memory x.two.image.bytes in
+    let image = joint_memory x.two in
     let before = outputs_after x.fast x.samples done in
     let can = can_enter x done v s h in
     let own = h.stands in
@@ -238,7 +239,7 @@ told_read x done l v s h from to input ascend =
     let ran = fast_ran x done l v s h input ascend in
     let fast = ran.0 in
     read_off x.fast x.two x.flags x.samples l before s v fast.behind from to (room.low, room.high) h.begins
-    (laws.enters x.fast (image_memory x.two.image.bytes) (bytes_in x l) before v (few_inputs x) (few_outputs x) input
+    (laws.enters x.fast (joint_memory x.two) (bytes_in x l) before v (few_inputs x) (few_outputs x) input
     (can_enter x done v s h)) fast.run ran.1
 
 -- the sample of a level
@@ -306,14 +307,14 @@ serves x done l v s good h =
     outer sample = record { moment = l.moment; number = l.fast; sample = sample; inner = l.inner.items }
 
     quiet : (sample : Option (List ℕ))
-        → IsServable x.fast (image_memory x.two.image.bytes) x.flags (most_of x)
+        → IsServable x.fast (joint_memory x.two) x.flags (most_of x)
         (outputs_after x.fast x.samples done) v sample
         → Quiet OnStackOrNone is_open_to_fast (served_by x.flags (length x.fast.outputs) (most_of x)
         l.inner.items sample v) v s
     quiet sample good_sample =
         (let laws = x.laws in
         let slow = (let p = h.facts in let facts = p.facts in facts.sums) in
-        laws.serves x.fast (image_memory x.two.image.bytes) x.flags (most_of x) (outputs_after x.fast x.samples done)
+        laws.serves x.fast (joint_memory x.two) x.flags (most_of x) (outputs_after x.fast x.samples done)
         (outer sample) v s
         x.flags_fit (few_inputs x) (few_outputs x) (can_enter x done v s h) good_sample ascend
         (room_of x done v s h) h.begins slow)

@@ -1,7 +1,7 @@
 -- The fast code and its answers stand where no open byte changes.
 use Rattle.two_level_runs.proofs.Words.{◌*◌, ◌+◌, ◌-◌, ◌<◌, ◌∙◌, ◌≡◌, ◌≤◌, ap₂, AreBytes, AreOpenAlike, arith, Block}
 use Rattle.two_level_runs.proofs.Words.{Byte, false, fast_map, FastSeen, FastStands, HasAnswers, HasFastCode}
-use Rattle.two_level_runs.proofs.Words.{image_memory, is_fast_ram, is_fast_rom, is_free, is_open_to_fast, length}
+use Rattle.two_level_runs.proofs.Words.{joint_memory, is_fast_ram, is_fast_rom, is_free, is_open_to_fast, length}
 use Rattle.two_level_runs.proofs.Words.{Level, List, nat_tests, outputs_after, refl, State, true, Two, word_of, ℕ}
 use Rattle.std.proofs.{Common.Option}
 
@@ -39,7 +39,7 @@ pub stands : (b : Block) (two : Two) (fast : List (List ℕ)) (done : List (Leve
     → FastStands b two fast done w → FastStands b two fast done u
 stands b two fast done w u few alike bytes h = record {
   bytes = bytes;
-  code = code_stays (image_memory two.image.bytes) w.mem u.mem alike h.code;
+  code = code_stays (joint_memory two) w.mem u.mem alike h.code;
   outputs = outputs_stay b (outputs_after b fast done) w.mem u.mem few alike h.outputs;
   answers = h.answers;
   good = h.good;

@@ -1,7 +1,7 @@
 -- What is told of a fast run is read off its run without inner requests, and answers its sample.
 use Rattle.two_level_runs.proofs.Words.{◌*◌, ◌+◌, ◌-◌, ◌<◌, ◌∙◌, ◌≡◌, ◌≤◌, answer_of_fast, ap, AreBelow, arith, Begins}
 use Rattle.two_level_runs.proofs.Words.{Block, Byte, bytes_at, bytes_of, counted, entered, fast_map, fast_most}
-use Rattle.two_level_runs.proofs.Words.{FollowsInside, frames_of, from, HasAnswers, image_memory, is_open_to_fast}
+use Rattle.two_level_runs.proofs.Words.{FollowsInside, frames_of, from, HasAnswers, joint_memory, is_open_to_fast}
 use Rattle.two_level_runs.proofs.Words.{IsFastRun, IsReadOff, length, Level, List, max, plus, Ran, refl, resumed_of}
 use Rattle.two_level_runs.proofs.Words.{seen_of, slice_index, State, subst, suc, sym, taken_at, Two, [], ap₂, map}
 use Rattle.two_level_runs.proofs.Words.{true, zero, ℕ, ◌∷◌}
@@ -45,8 +45,8 @@ answers_told b most number before bytes r few le h = record {
 -- what is read off the run without inner requests, of a level whose interrupt begins in v
 pub read_off : (b : Block) (two : Two) (flags : ℕ) (fast : List (List ℕ)) (l : Level) (before : ℕ → ℕ)
     (slow v t : State) → 1 ≤ l.fast → l.fast ≤ length fast → HasFrameRoom slow → Begins is_open_to_fast v slow
-    → IsEntered b (image_memory two.image.bytes) (bytes_of fast l.fast) before (entered (bytes_of fast l.fast) v)
-    → (r : IsFastRun b (image_memory two.image.bytes) flags (bytes_of fast l.fast) before
+    → IsEntered b (joint_memory two) (bytes_of fast l.fast) before (entered (bytes_of fast l.fast) v)
+    → (r : IsFastRun b (joint_memory two) flags (bytes_of fast l.fast) before
     (entered (bytes_of fast l.fast) v) t)
     → FollowsInside flags (length b.outputs) (fast_most two.fast.step_bound) l.inner.items (suc r.further)
     (entered (bytes_of fast l.fast) v)

@@ -51,7 +51,7 @@ pub use Rattle.run_law.specs.{Moments.TakenAtOnce}
 pub use Rattle.std.proofs.{lemmas.Bool.Decides.nat_tests, lemmas.Bool.both_ways, lemmas.Bool.cases_lt}
 pub use Rattle.std.proofs.{lemmas.Bool.or_parts, lemmas.List.Elements.All-cons, lemmas.List.length-map}
 pub use Rattle.trace_io.specs.{Traces.input_bytes}
-pub use Rattle.two_level_code.specs.{Images.fast_most, Standing.StandsBeside}
-pub use Rattle.two_level_code.specs.{Standing.TwoStandBeside, declared.two.Two.Two}
+pub use Rattle.two_level_code.specs.{Images.fast_most, Images.joint_memory, Images.slow_alone}
+pub use Rattle.two_level_code.specs.{Standing.StandsBeside, Standing.TwoStandBeside, declared.two.Two.Two}
 pub use Rattle.two_level_runs.specs.{InnerNotes.inner_notes, Levels.FastStands}
 unfoldable pub use Rattle.run_law.specs.{Forms.rows_from}

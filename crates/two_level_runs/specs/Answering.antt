@@ -6,7 +6,7 @@ use Rattle.fuzzy_meaning.specs.{declared.block.Block.Block, Blocks.IsValid}
 use Rattle.rule_layout.specs.Layouts.{IsWithinLimits}
 use Rattle.cpu12_parts.specs.State.{State}
 use Rattle.cpu12_isa.specs.Regions.{stack_start}
-use Rattle.cpu12_emul.specs.{Image.image_memory, Simulation.OnStackOrNone}
+use Rattle.cpu12_emul.specs.{Simulation.OnStackOrNone}
 use Rattle.run_law.specs.{Forms.Ran, Soundness.Begins, Following.asked, Following.onto, Following.EachTold}
 use Rattle.run_law.specs.Following.{AllComplete, RowsSimulate}
 use Rattle.run_law.specs.Uninterrupted.{uninterrupted, counted, taken_before, resumed_of, expected_frame, frames_of}
@@ -16,7 +16,8 @@ use Rattle.eval_code.specs.{Widths.answer, Firing.AreInputBytes}
 use Rattle.firmware_code.specs.{declared.firmware.Firmware.Firmware, Uninterrupted.Answer, Uninterrupted.AreAnswersOf}
 use Rattle.firmware_code.specs.Uninterrupted.{AreUninterrupted}
 use Rattle.two_level_code.specs.declared.two.Two.{Two}
-use Rattle.two_level_code.specs.{Images.fast_most, Images.IsAlone, Images.IsTwoOf, MemoryMaps.is_open_to_fast}
+use Rattle.two_level_code.specs.Images.{fast_most, joint_memory, slow_alone, IsAlone, IsTwoOf}
+use Rattle.two_level_code.specs.MemoryMaps.{is_open_to_fast}
 use Rattle.two_level_code.specs.Running.{IsEntered}
 use Rattle.firmware_runs.specs.{Facts.FactsBeside, Ports.given}
 use Rattle.alone_runs.specs.{Rows.bytes_of, Rows.first_state, Rows.firmware_rows, Answering.AnswerBlock}
@@ -74,12 +75,12 @@ pub record IsReadOff (b : Block) (two : Two) (flags : ℕ) (fast : List (List �
   pub to : f.number ≤ length fast
   pub interrupted : State
   pub begins : Begins is_open_to_fast interrupted slow
-  pub enters : IsEntered b (image_memory two.image.bytes) (bytes_of fast l.fast) before
+  pub enters : IsEntered b (joint_memory two) (bytes_of fast l.fast) before
       (entered (bytes_of fast l.fast) interrupted)
   pub arrived : (run_of_level b two flags fast l interrupted).arrived ≡ true
   pub seen : f ≡ seen_of l.fast (length b.outputs) (run_of_level b two flags fast l interrupted)
   pub behind : State
-  pub run : IsFastRun b (image_memory two.image.bytes) flags (bytes_of fast l.fast) before
+  pub run : IsFastRun b (joint_memory two) flags (bytes_of fast l.fast) before
       (entered (bytes_of fast l.fast) interrupted) behind
   pub steps : f.steps ≡ suc run.further
   pub instrs : f.instrs ≡ counted flags f.steps (entered (bytes_of fast l.fast) interrupted)
@@ -111,7 +112,7 @@ AreTold b two flags fast done [] ns samples s = Unit {0}
 AreTold b two flags fast done (ts ∷ tss) [] samples s = ⊥
 AreTold b two flags fast done (ts ∷ tss) (n ∷ ns) [] s = ⊥
 AreTold b two flags fast done (ts ∷ tss) (n ∷ ns) (x ∷ rest) s =
-    (let given_in = given two.slow.memory_map x s in
+    (let given_in = given two.firmware.memory_map x s in
     EachTold (IsToldFrom b two flags fast given_in) done ts
     × AreTold b two flags fast (onto ts done) tss ns rest (uninterrupted flags n given_in))
 
@@ -138,17 +139,17 @@ pub record AnswersAtTwoLevels (slow fast : Block) (two : Two) (flags : ℕ) (slo
     (levels : List Level) : Type 0 where
   pub arrived : (two_rows two slow_samples fast_samples levels flags).arrived ≡ true
   pub rows_are : (two_rows two slow_samples fast_samples levels flags).rows
-      ≡ (firmware_rows two.slow slow_samples (plan_of levels) flags).rows
-  pub slow_answers : AnswerBlock slow two.slow flags slow_samples
+      ≡ (firmware_rows (slow_alone slow two) slow_samples (plan_of levels) flags).rows
+  pub slow_answers : AnswerBlock slow (slow_alone slow two) flags slow_samples
       (two_rows two slow_samples fast_samples levels flags).rows
   pub ns : List ℕ
-  pub complete : AllComplete (FactsBeside is_open_to_fast flags two.slow) (two_level_form flags two fast_samples) ns
-      slow_samples (first_state two.slow flags)
+  pub complete : AllComplete (FactsBeside is_open_to_fast flags (slow_alone slow two))
+      (two_level_form flags two fast_samples) ns slow_samples (first_state (slow_alone slow two) flags)
   pub simulates : RowsSimulate OnStackOrNone is_open_to_fast (two_level_form flags two fast_samples) ns slow_samples
-      (two_rows two slow_samples fast_samples levels flags).states (first_state two.slow flags)
+      (two_rows two slow_samples fast_samples levels flags).states (first_state (slow_alone slow two) flags)
   pub low : All (λ ws. All (λ w. stack_start ≤ w.regs.sp) ws)
       (two_rows two slow_samples fast_samples levels flags).states
-  pub code : All (λ ws. All (λ w. HasFastCode (image_memory two.image.bytes) w.mem) ws)
+  pub code : All (λ ws. All (λ w. HasFastCode (joint_memory two) w.mem) ws)
       (two_rows two slow_samples fast_samples levels flags).states
   pub taken : map (λ ts. asked ts) (two_rows two slow_samples fast_samples levels flags).told
       ≡ taken_by 1 levels (map (λ r. r.steps) (two_rows two slow_samples fast_samples levels flags).rows)
@@ -164,7 +165,7 @@ pub record AnswersAtTwoLevels (slow fast : Block) (two : Two) (flags : ℕ) (slo
       (fast_runs_of two slow_samples fast_samples levels flags)
   pub told : AreTold fast two flags fast_samples [] (two_rows two slow_samples fast_samples levels flags).told
       (map (λ r. r.steps) (two_rows two slow_samples fast_samples levels flags).rows) slow_samples
-      (first_state two.slow flags)
+      (first_state (slow_alone slow two) flags)
   pub stack : All (λ r. AreOnStack r.frames) (two_rows two slow_samples fast_samples levels flags).rows
 
 -- Each row is seen with what its levels told of their fast runs.

@@ -8,11 +8,12 @@ use Rattle.cpu12_isa.specs.Regions.{stack_start, stack_end, is_hidden, vector_wo
 use Rattle.cpu12_parts.specs.{declared.temps.Temps.TheVariants.Free, State.State, Laws.IsOff}
 use Rattle.byte_scaling.specs.declared.width.Width.TheVariants.{Byte}
 use Rattle.eval_code.specs.{Widths.answer, Firing.AreInputBytes, Evaluation.HasAnswers}
-use Rattle.cpu12_emul.specs.{Image.image_memory, Simulation.OnStackOrNone, Simulation.HasRoom}
+use Rattle.cpu12_emul.specs.{Simulation.OnStackOrNone, Simulation.HasRoom}
 use Rattle.run_law.specs.{Forms.Ran, Soundness.Ascend, Soundness.Begins, Soundness.Quiet}
 use Rattle.two_level_code.specs.declared.two.Two.{Two}
 use Rattle.two_level_code.specs.MemoryMaps.{fast_map, is_fast_ram, is_open_to_fast}
-use Rattle.two_level_code.specs.{Images.fast_most, Images.IsTwoOf, Running.HasFastRom, Running.IsEntered}
+use Rattle.two_level_code.specs.{Images.fast_most, Images.joint_memory, Images.IsTwoOf, Running.HasFastRom}
+use Rattle.two_level_code.specs.Running.{IsEntered}
 use Rattle.firmware_runs.specs.Facts.{AreNoneOrRunning}
 use Rattle.two_level_runs.specs.{Runs.entered, Runs.fast_run, Runs.Outer, Runs.served, Steps.IsFastRun}
 
@@ -77,8 +78,8 @@ abbrev pub OuterIsServable : Type 0
 OuterIsServable =
     (slow fast : Block) (two : Two) (flags : ℕ) (bytes : List ℕ) (before : ℕ → ℕ) (v : State) → IsValid slow
     → IsWithinLimits slow → IsValid fast → IsWithinLimits fast → IsTwoOf slow fast two → flags < 2 ^ 8
-    → AreInputBytes fast bytes → CanEnter fast (image_memory two.image.bytes) before v
-    → IsServable fast (image_memory two.image.bytes) flags (fast_most two.fast.step_bound) before v (Some bytes)
+    → AreInputBytes fast bytes → CanEnter fast (joint_memory two) before v
+    → IsServable fast (joint_memory two) flags (fast_most two.fast.step_bound) before v (Some bytes)
 
 -- An outer request is quiet beside the slow firmware, from where the fast code can be entered: where the slow sums are
 -- none they stay so; where they run they may end as none.

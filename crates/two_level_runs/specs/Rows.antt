@@ -24,7 +24,7 @@ place_of_level l = (l.sample, l.moment)
 -- The parts of the form: the slow firmware as it stands alone, whose interrupts serve outer requests.
 abbrev pub two_level_parts : Two → List (List ℕ) → FormParts (List ℕ) Level (Option FastSeen)
 two_level_parts two fast =
-    stand_alone two.slow place_of_level
+    stand_alone two.firmware place_of_level
     (λ flags l v. served flags two.fast.outputs (fast_most two.fast.step_bound) (outer_of fast l) v)
     (λ flags l v. told flags two.fast.outputs (fast_most two.fast.step_bound) (outer_of fast l) v)
 
@@ -36,12 +36,13 @@ levels_of k levels = of_sample place_of_level k levels
 
 -- the state in which the slow firmware waits for its first sample, with the fast block beside it
 abbrev pub first_two : Two → ℕ → State
-first_two two flags = arrived_at flags two.slow.memory_map.wait two.slow.step_bound two.image.bytes
+first_two two flags = arrived_at flags two.firmware.memory_map.wait two.firmware.step_bound two.firmware.image.bytes
 
 -- the run over a list of slow samples under levels over a list of fast ones
 abbrev pub two_rows : Two → List (List ℕ) → List (List ℕ) → List Level → ℕ → Rows (List ℕ) Level (Option FastSeen)
 two_rows two slow fast levels flags =
-    rows_from (two_level_form flags two fast) two.slow.step_bound (λ k. levels_of k levels) 1 slow (first_two two flags)
+    rows_from (two_level_form flags two fast) two.firmware.step_bound (λ k. levels_of k levels) 1 slow
+    (first_two two flags)
 
 -- a row, and what its outer requests told of their fast runs
 pub record TwoLevelSeen : Type 0 where

@@ -8,14 +8,14 @@ use Rattle.cpu12_isa.specs.{declared.instr.Ccr.Ccr, declared.instr.Instr.TheVari
 use Rattle.cpu12_isa.specs.{Agreement.AllShown, Code.decode_at, Fits.AreBytes, Flags.has, Flags.x_masked, Memory.from}
 use Rattle.cpu12_isa.specs.{Memory.bytes_at, Registers.pulled}
 use Rattle.cpu12_parts.specs.{declared.temps.Temps.TheVariants.Free, State.State, Laws.IsOff, Laws.addresses}
-use Rattle.cpu12_emul.specs.{Simulation.IsShownStep, Step.step_act, Take.may_interrupt, Image.image_memory}
+use Rattle.cpu12_emul.specs.{Simulation.IsShownStep, Step.step_act, Take.may_interrupt}
 use Rattle.byte_scaling.specs.declared.width.Width.TheVariants.{Byte}
 use Rattle.eval_code.specs.Widths.{answer}
 use Rattle.eval_code.specs.{Bounds.instruction_bound, Bounds.step_bound, Firing.AreInputBytes, Evaluation.HasAnswers}
 use Rattle.run_law.specs.{Uninterrupted.stepped, Uninterrupted.uninterrupted, Uninterrupted.counted, Soundness.Before}
 use Rattle.two_level_code.specs.MemoryMaps.{fast_map, is_fast_ram, is_fast_rom}
 use Rattle.two_level_code.specs.Running.{HasFastRom, IsFastStack, IsEntered, IsFastAnswered}
-use Rattle.two_level_code.specs.{Images.fast_most, Images.IsTwoOf, declared.two.Two.Two}
+use Rattle.two_level_code.specs.{Images.fast_most, Images.joint_memory, Images.IsTwoOf, declared.two.Two.Two}
 
 -- nothing is open to inner requests
 abbrev pub is_open_inside : ℕ → Bool
@@ -87,5 +87,5 @@ abbrev pub FastRunsExist : Type 0
 FastRunsExist =
     (slow fast : Block) (two : Two) (flags : ℕ) (bytes : List ℕ) (before : ℕ → ℕ) (s : State) → IsValid slow
     → IsWithinLimits slow → IsValid fast → IsWithinLimits fast → IsTwoOf slow fast two
-    → flags < 2 ^ 8 → AreInputBytes fast bytes → IsEntered fast (image_memory two.image.bytes) bytes before s
-    → (t : State) × IsFastRun fast (image_memory two.image.bytes) flags bytes before s t
+    → flags < 2 ^ 8 → AreInputBytes fast bytes → IsEntered fast (joint_memory two) bytes before s
+    → (t : State) × IsFastRun fast (joint_memory two) flags bytes before s t

@@ -7,7 +7,7 @@ ghost use Rattle.two_level_runs.specs.{Harness.two_level_harness};
 ghost use Rattle.cpu12_emul.specs.Simulation.{OnStackOrNone};
 ghost use Rattle.interrupt_plan.specs.declared.levels.Level as plan;
 ghost use Rattle.interrupt_plan.specs.Levels.{IsGoodLevel};
-ghost use Rattle.two_level_code.specs.MemoryMaps.{is_open_to_fast};
+ghost use Rattle.two_level_code.specs.{Images.slow_alone, MemoryMaps.is_open_to_fast};
 ghost use Rattle.firmware_runs.specs.Facts.{FactsBeside};
 ghost use Rattle.two_level_runs.specs.Levels.{Levels, FastStands};
 
@@ -34,7 +34,7 @@ pub(crate) struct TwoLevelForm<'a> {
     pub(crate) slow: &'a [Sample],
     /// The fast trace.
     pub(crate) fast: &'a [Sample],
-    ghost slow_outputs: { two.now.slow.outputs ≤ 4 },
+    ghost slow_outputs: { two.now.firmware.outputs ≤ 4 },
     ghost fast_outputs: { two.now.fast.outputs ≤ 4 },
 }
 
@@ -52,12 +52,12 @@ impl<'a> SampleForm<Level, Notes<Option<FastRow>>, TwoRow> for TwoLevelForm<'a> 
     ghost serves = { λ _ _. Unit {0} };
 
     fn ends<M: Mem>(&self, m: &Machine<M>, _moment: u32) -> bool {
-        is_idle(&self.two.slow.memory_map, m)
+        is_idle(&self.two.firmware.memory_map, m)
     }
 
     #[inline(always)]
     fn goes_on_here<M: Mem>(&self, m: &Machine<M>) -> bool {
-        is_busy_here(&self.two.slow.memory_map, m)
+        is_busy_here(&self.two.firmware.memory_map, m)
     }
 
     fn place(&self, level: &Level) -> (u32, u32) {
@@ -82,7 +82,11 @@ impl<'a> RunForm<Level, Notes<Option<FastRow>>, TwoRow> for TwoLevelForm<'a> {
     }
 
     fn give<M: Mem>(&self, m: &mut Machine<M>, k: usize) {
-        give(&self.two.slow.memory_map, m, self.slow[k].bytes.as_slice());
+        give(
+            &self.two.firmware.memory_map,
+            m,
+            self.slow[k].bytes.as_slice(),
+        );
     }
 
     fn leave<M: Mem>(&self, _m: &mut Machine<M>, _k: usize) {}
@@ -103,7 +107,7 @@ impl<'a> RunForm<Level, Notes<Option<FastRow>>, TwoRow> for TwoLevelForm<'a> {
             m.now.state result }
     {
         let bytes = self.slow[k].bytes.as_slice();
-        let (row, fast) = row_of(bytes, answers(&self.two.slow, m), counts);
+        let (row, fast) = row_of(bytes, answers(&self.two.firmware, m), counts);
         TwoRow { row, fast }
     }
 }
@@ -123,7 +127,7 @@ impl<'a> SoundForm for TwoLevelForm<'a> {
 
     ghost open_to = { λ _. is_open_to_fast };
 
-    ghost holds = { λ x. FactsBeside is_open_to_fast x.flags x.two.slow };
+    ghost holds = { λ x. FactsBeside is_open_to_fast x.flags (slow_alone x.slow x.two) };
 
     ghost good = { λ x. IsGoodLevel (length x.samples) };
 

@@ -38,7 +38,7 @@ pub fn run_two(
     levels: &Levels,
     flags: u8,
 ) -> Result<Vec<TwoRow>, Memory>
-    requires slow_outputs { two.now.slow.outputs ≤ 4 }
+    requires slow_outputs { two.now.firmware.outputs ≤ 4 }
     requires fast_outputs { two.now.fast.outputs ≤ 4 }
     requires levels { AreGoodLevels (length fast.now) levels.now }
     ensures rows { IfOk result (λ rows. map row_seen rows.items
@@ -50,9 +50,9 @@ pub fn run_two(
     levels_are_in_order();
     let form = TwoLevelForm { two, slow, fast };
     let start = Start {
-        image: &two.image,
-        wait: two.slow.memory_map.wait,
-        most: two.slow.step_bound,
+        image: &two.firmware.image,
+        wait: two.firmware.memory_map.wait,
+        most: two.firmware.step_bound,
     };
     let (rows, _memory): (Vec<TwoRow>, PageMem) = run_form(
         alloc,

@@ -1,8 +1,11 @@
 use Rattle.std.proofs.Common.{length, refl}
 use Rattle.byte_scaling.specs.declared.width.Width.TheVariants.{Byte}
 use Rattle.eval_code.specs.Bounds.{instruction_bound, step_bound}
-use Rattle.two_level_code.specs.{Images.two_items, declared.two.FastCode.FastCode}
-use Rattle.two_level_code.proofs.Places.{two_rise}
+use Rattle.eval_code.specs.MemoryMaps.{main_map}
+use Rattle.firmware_code.specs.{declared.firmware.Firmware.Firmware, Images.image_of}
+use Rattle.alone_code.specs.Firmwares.{firmware_items}
+use Rattle.two_level_code.specs.{Images.two_items, MemoryMaps.slow_map, declared.two.FastCode.FastCode}
+use Rattle.two_level_code.proofs.Places.{alone_rise, two_rise}
 use Rattle.two_level_code.proofs.laws.blocks_have_twos.Goals as goal
 
 pub returns : goal.returns
@@ -13,17 +16,37 @@ returns c slow fast slow_valid slow_limits fast_valid fast_limits =
       fast_valid = fast_valid;
       fast_limits = fast_limits;
     } in
-    let (image, is) = c.items_have_images.ensures (two_items slow fast) rise in
-    let its_slow = c.blocks_have_firmware.ensures Byte slow slow_valid slow_limits in
+    let images = c.items_have_images.ensures in
+    let firmware : Firmware = record {
+      image = image_of (two_items slow fast);
+      memory_map = slow_map;
+      inputs = length slow.inputs;
+      outputs = length slow.outputs;
+      width = Byte;
+      instr_bound = instruction_bound Byte slow;
+      step_bound = step_bound Byte slow;
+    } in
     let code : FastCode = record {
       outputs = length fast.outputs;
       instr_bound = instruction_bound Byte fast;
       step_bound = step_bound Byte fast;
     } in (
-      record { image = image; slow = its_slow.0; fast = code },
+      record { firmware = firmware; fast = code },
       record {
-        image = is;
-        slow_alone = record { firmware = its_slow.1; width = its_slow.2 };
+        image = images (two_items slow fast) rise;
+        memory_map = refl;
+        alone = record {
+          firmware = record {
+            image = images (firmware_items main_map slow Byte)
+                (alone_rise c.blocks_are_placed.ensures.rises slow slow_valid slow_limits);
+            memory_map = refl;
+            inputs = refl;
+            outputs = refl;
+            instructions = refl;
+            steps = refl;
+          };
+          width = refl;
+        };
         fast_is = record { outputs = refl; instructions = refl; steps = refl };
       },
     )

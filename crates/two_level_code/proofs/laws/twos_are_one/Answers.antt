@@ -1,17 +1,23 @@
-use Rattle.std.proofs.Common.{◌≡◌, sym, ◌∙◌}
-use Rattle.fuzzy_meaning.specs.declared.block.Block.{Block}
-use Rattle.firmware_code.specs.declared.firmware.Firmware.{Firmware}
-use Rattle.alone_code.specs.Firmwares.{FirmwaresAreOne}
-use Rattle.two_level_code.specs.Images.{IsAlone, two_items}
+use Rattle.std.proofs.Common.{◌≡◌, ap, sym, ◌∙◌}
+use Rattle.byte_scaling.specs.declared.width.Width.{Width}
+use Rattle.eval_code.specs.Bounds.{instruction_bound, step_bound}
+use Rattle.firmware_code.proofs.Algebra.{of_parts}
+use Rattle.two_level_code.specs.Images.{two_items}
 use Rattle.two_level_code.proofs.laws.twos_are_one.Goals as goal
-
-alone_is_one : FirmwaresAreOne → (b : Block) (f g : Firmware) → IsAlone b f → IsAlone b g → f ≡ g
-alone_is_one one b f g of_f of_g = one b f g (of_f.width ∙ sym of_g.width) of_f.firmware of_g.firmware
 
 pub returns : goal.returns
 returns c slow fast f g of_f of_g =
-    let image = c.images_are_one.ensures (two_items slow fast) f.image g.image of_f.image of_g.image in
-    let its_slow = alone_is_one c.firmwares_are_one.ensures slow f.slow g.slow of_f.slow_alone of_g.slow_alone in
+    let image =
+    c.images_are_one.ensures (two_items slow fast) f.firmware.image g.firmware.image of_f.image of_g.image in
+    let a = of_f.alone in
+    let b = of_g.alone in
+    let m = a.firmware in
+    let n = b.firmware in
+    let width = a.width ∙ sym b.width in
+    let firmware = of_parts f.firmware g.firmware image (of_f.memory_map ∙ sym of_g.memory_map)
+    (m.inputs ∙ sym n.inputs) (m.outputs ∙ sym n.outputs) width
+    (m.instructions ∙ ap (λ (w : Width). instruction_bound w slow) width ∙ sym n.instructions)
+    (m.steps ∙ ap (λ (w : Width). step_bound w slow) width ∙ sym n.steps) in
     let p = of_f.fast_is in
     let q = of_g.fast_is in
     let its_fast : f.fast ≡ g.fast = λ i. record {
@@ -19,4 +25,4 @@ returns c slow fast f g of_f of_g =
       instr_bound = (p.instructions ∙ sym q.instructions) i;
       step_bound = (p.steps ∙ sym q.steps) i;
     } in
-    λ i. record { image = image i; slow = its_slow i; fast = its_fast i }
+    λ i. record { firmware = firmware i; fast = its_fast i }

@@ -1,20 +1,41 @@
-use Rattle.std.proofs.Common.{List, ◌∙◌, ap, rules, subst}
+use Rattle.std.proofs.Common.{List, ◌∙◌, ap, refl, rules, subst}
+use Rattle.byte_scaling.specs.declared.width.Width.TheVariants.{Byte}
 use Rattle.cpu12_asm.specs.declared.items.Item.{Item}
 use Rattle.firmware_code.specs.Images.{IsImageOf}
-use Rattle.eval_code.specs.Bounds.{steps_by}
+use Rattle.alone_code.specs.Firmwares.{firmware_items}
+use Rattle.eval_code.specs.{Bounds.steps_by, MemoryMaps.main_map}
+use Rattle.two_level_code.specs.Images.{alone_map}
+use Rattle.two_level_code.proofs.Places.{alone_rise}
 use Rattle.two_level_code.proofs.two.compile_two_laid_out.Goals as goal
 
 pub returns-clause-two : goal.returns-clause-two
-returns-clause-two c = record {
-  image = subst (λ (xs : List Item). IsImageOf xs c.in_ok-image.image)
-      (c.as_slice.ensures.value ∙ c.in_ok-items.ensures) c.in_ok-image.ensures;
-  slow_alone = record { firmware = c.in_ok-slow_alone.ensures.firmware; width = c.in_ok-slow_alone.ensures.width };
-  fast_is = record {
-    outputs = search rules;
-    instructions = c.instruction_bound-instr_bound.ensures.value;
-    steps = c.steps_by.ensures ∙ ap (steps_by c.args.fast.now.block.now) c.instruction_bound-instr_bound.ensures.value;
-  };
-}
+returns-clause-two c =
+    let slow = c.args.slow.now in
+    let b = slow.block.now in
+    let bound = c.instruction_bound-slow_bound.ensures.value in
+    let fast_bound = c.instruction_bound-fast_bound.ensures.value in
+    record {
+      image = subst (λ (xs : List Item). IsImageOf xs c.in_ok-image.image)
+          (c.as_slice.ensures.value ∙ c.in_ok-items.ensures) c.in_ok-image.ensures;
+      memory_map = c.slow_map.ensures;
+      alone = record {
+        firmware = record {
+          image = c.items_have_images.ensures (firmware_items main_map b Byte)
+              (alone_rise c.blocks_are_placed.ensures.rises b slow.valid slow.limits);
+          memory_map = ap alone_map c.slow_map.ensures;
+          inputs = search rules;
+          outputs = search rules;
+          instructions = bound;
+          steps = c.steps_by.ensures ∙ ap (steps_by b) bound;
+        };
+        width = refl;
+      };
+      fast_is = record {
+        outputs = search rules;
+        instructions = fast_bound;
+        steps = c.steps_by-2.ensures ∙ ap (steps_by c.args.fast.now.block.now) fast_bound;
+      };
+    }
 
 pub returns-clause-beside : goal.returns-clause-beside
 returns-clause-beside c =

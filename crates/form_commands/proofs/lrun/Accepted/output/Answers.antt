@@ -10,4 +10,4 @@ returns c =
     let told = rw (c.deref-3.ensures.value, c.deref-4.ensures.value, c.deref-5.ensures.value) at
     c.in_ok-lines.ensures in
     ap only_lines (told ∙ ap (λ (rs : List TwoLevelSeen). lrun_lines (two_level_report a.errors.items a.fast_errors.items
-    two.slow.instr_bound (fast_most two.fast.instr_bound) rs)) rows)
+    two.firmware.instr_bound (fast_most two.fast.instr_bound) rs)) rows)
