@@ -104,11 +104,11 @@ decoded_by i opcode is mem pc s =
     ∙ ap (λ (b : ℕ). decode_of (0x18 ∷ b ∷ rest)) s.code ∙ is rest
 
 -- one part of an instruction in parts that stays at PC, and keeps its bytes where a part goes on
-Ruled-one : (i : Instr) (k : Kind) (opcode : ℕ) (On : List ℕ → Regs → Type 0) → PartIsStep i k
+Ruled-one : (i : Instr) (k : Kind) (opcode : ℕ) (LeavesItself : List ℕ → Regs → Type 0) → PartIsStep i k
     → ((rest : List ℕ) → decode_of (0x18 ∷ opcode ∷ rest) ≡ Ok i)
-    → ((flags : ℕ) (s : State) → On s.mem s.regs → Keeps s.regs.pc s.mem (part_of k flags s))
-    → GoesOnAt own_address k → LeavesSums k → IsSteady k Any → RulesWhere k opcode On
-Ruled-one i k opcode On is_step is keeps stays sums steady flags s on off stands =
+    → ((flags : ℕ) (s : State) → LeavesItself s.mem s.regs → Keeps s.regs.pc s.mem (part_of k flags s))
+    → GoesOnAt own_address k → LeavesSums k → IsSteady k Any → RulesWhere k opcode LeavesItself
+Ruled-one i k opcode LeavesItself is_step is keeps stays sums steady flags s on off stands =
     let t : State = after_part k flags s in
     let kept = keeps flags s on in
     let step : next_of flags s ≡ Ok (record { state = t; kind = Part }) =
@@ -131,12 +131,12 @@ pub revw_rules : GoesOnAt own_address revw → LeavesSums revw → IsSteady revw
 revw_rules = Ruled-one Revw revw 0x3B RevwGoesOn revw_is_step (λ rest. refl) revw_keeps
 
 -- one part that goes on, by what it leaves
-pub Ruled-part : (k : Kind) (opcode : ℕ) (On : List ℕ → Regs → Type 0) (flags : ℕ) (s : State) (r : Regs)
+pub Ruled-part : (k : Kind) (opcode : ℕ) (LeavesItself : List ℕ → Regs → Type 0) (flags : ℕ) (s : State) (r : Regs)
     (mem : List ℕ)
-    → RulesWhere k opcode On → On s.mem s.regs → r ≡ (part_of k flags s).regs
+    → RulesWhere k opcode LeavesItself → LeavesItself s.mem s.regs → r ≡ (part_of k flags s).regs
     → mem ≡ write_all (part_of k flags s).writes s.mem
     → IsOff s.temps → Stands opcode s.regs.pc s.mem → Ruled opcode flags s (state_of r s.temps mem) 1
-Ruled-part k opcode On flags s r mem rules on regs writes off stands =
+Ruled-part k opcode LeavesItself flags s r mem rules on regs writes off stands =
     let o : Outcome = part_of k flags s in
     let one = rules flags s on off stands in
     let is : after_part k flags s ≡ state_of r s.temps mem =

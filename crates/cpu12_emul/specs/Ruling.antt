@@ -32,7 +32,8 @@ pub record Ruled (opcode flags : ℕ) (s t : State) (n : ℕ) : Type 0 where
   pub temps : t.temps ≡ s.temps
   pub stands : Stands opcode s.regs.pc t.mem
 
--- where On holds, the next part of an instruction in parts that stands at PC is such a part
+-- where it leaves itself, the next part of an instruction in parts that stands at PC is such a part
 abbrev pub RulesWhere : Kind → ℕ → (List ℕ → Regs → Type 0) → Type 0
-RulesWhere k opcode On = (flags : ℕ) (s : State) → On s.mem s.regs → IsOff s.temps → Stands opcode s.regs.pc s.mem
+RulesWhere k opcode LeavesItself =
+    (flags : ℕ) (s : State) → LeavesItself s.mem s.regs → IsOff s.temps → Stands opcode s.regs.pc s.mem
     → Ruled opcode flags s (after_part k flags s) 1

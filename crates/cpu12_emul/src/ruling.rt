@@ -27,22 +27,22 @@ trait Ruling: Resumable {
     /// Its second byte.
     ghost opcode: { ℕ };
 
-    /// The next part is not its last, and cannot write to its own bytes.
-    ghost on: { List ℕ → Regs → Type 0 };
+    /// The next part is not its last, and leaves its own bytes.
+    ghost leaves_itself: { List ℕ → Regs → Type 0 };
 
     /// Whether that holds.
     fn goes_on<M: Mem>(&self, m: &M, r: Regs) -> bool
-        ensures { result ≡ true → on (M.bytes m.now) r };
+        ensures { result ≡ true → leaves_itself (M.bytes m.now) r };
 
     /// Such a part leaves PC, SP and the instruction that is there. This does nothing.
     fn rules(&self)
-        ensures { RulesWhere (Self.kind self.now) opcode on };
+        ensures { RulesWhere (Self.kind self.now) opcode leaves_itself };
 }
 
 impl Ruling for Rev {
     ghost opcode = { 0x3A };
 
-    ghost on = { RevGoesOn };
+    ghost leaves_itself = { RevGoesOn };
 
     #[inline(always)]
     fn goes_on<M: Mem>(&self, m: &M, r: Regs) -> bool {
@@ -59,7 +59,7 @@ impl Ruling for Rev {
 impl Ruling for Revw {
     ghost opcode = { 0x3B };
 
-    ghost on = { RevwGoesOn };
+    ghost leaves_itself = { RevwGoesOn };
 
     #[inline(always)]
     fn goes_on<M: Mem>(&self, m: &M, r: Regs) -> bool {

@@ -15,6 +15,6 @@ loop-done-preserved g c =
     let on = c.goes_on.ensures c.if-goes_on.true in
     let ruled : Ruled rules.opcode a.flags s u (l.done + 1) =
     Ruled-then rules.opcode a.flags s t u l.done 1 c.requires.off l.invariant.ruled
-    (Ruled-part (g.R.Resumable.kind a.k.now) rules.opcode rules.on a.flags t u.regs u.mem c.rules.ensures on
+    (Ruled-part (g.R.Resumable.kind a.k.now) rules.opcode rules.leaves_itself a.flags t u.regs u.mem c.rules.ensures on
     c.part.ensures.regs c.part.ensures.mem) in
     record { ruled = ruled; within = omega arith; tags = c.part.ensures.tags ∙ l.invariant.tags }
