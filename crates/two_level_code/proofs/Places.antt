@@ -8,7 +8,6 @@ use Rattle.byte_scaling.specs.declared.width.Width.TheVariants.{Byte}
 use Rattle.eval_code.specs.{MemoryMaps.main_map, Items.IsApart, Placed.IsInOrder, Placed.BlockRises}
 use Rattle.firmware_code.specs.{Code.frame_code, Images.vector_items}
 use Rattle.two_level_code.specs.MemoryMaps.{fast_front, fast_back, fast_map, slow_map}
-use Rattle.alone_code.specs.Firmwares.{firmware_items}
 use Rattle.two_level_code.specs.Images.{slow_items, two_items}
 use Rattle.alone_code.proofs.Algebra.{main_in_order}
 
@@ -40,10 +39,3 @@ two_rise rises slow fast h =
     rises 0 fast_map fast Byte fast_front fast_back (slow_items slow) fast_in_order h.fast_valid h.fast_limits
     (omega arith)
     (slow_rise rises slow fast h)
-
--- and those of the slow one stand so alone
-pub alone_rise : BlockRises → (slow : Block) → IsValid slow → IsWithinLimits slow
-    → IsRising (firmware_items main_map slow Byte)
-alone_rise rises slow valid limits =
-    rises 0 main_map slow Byte (frame_code main_map) (Rts ∷ []) (vector_items main_map) main_in_order valid limits
-    (omega arith) (omega arith, (omega arith, omega arith))

@@ -3,9 +3,9 @@ use Rattle.byte_scaling.specs.declared.width.Width.TheVariants.{Byte}
 use Rattle.cpu12_asm.specs.declared.items.Item.{Item}
 use Rattle.firmware_code.specs.Images.{IsImageOf}
 use Rattle.alone_code.specs.Firmwares.{firmware_items}
+use Rattle.alone_code.proofs.Algebra.{main_rises}
 use Rattle.eval_code.specs.{Bounds.steps_by, MemoryMaps.main_map}
 use Rattle.two_level_code.specs.Images.{alone_map}
-use Rattle.two_level_code.proofs.Places.{alone_rise}
 use Rattle.two_level_code.proofs.two.compile_two_laid_out.Goals as goal
 
 pub returns-clause-two : goal.returns-clause-two
@@ -21,7 +21,7 @@ returns-clause-two c =
       alone = record {
         firmware = record {
           image = c.items_have_images.ensures (firmware_items main_map b Byte)
-              (alone_rise c.blocks_are_placed.ensures.rises b slow.valid slow.limits);
+              (main_rises c.blocks_are_placed.ensures.rises b Byte slow.valid slow.limits);
           memory_map = ap alone_map c.slow_map.ensures;
           inputs = search rules;
           outputs = search rules;
