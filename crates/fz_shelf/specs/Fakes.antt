@@ -1,8 +1,22 @@
--- What a shelf and a sink in memory are told to do.
+-- What a shelf and a sink in memory tell, and what they are told to do.
 -- Beside the promise.
-use Rattle.std.specs.Prelude.{◌≡◌, ℕ, List}
-use Rattle.fz_shelf.specs.{Calls.IsListed, Log.asked_of, Told.Counts, Told.Log}
-use Rattle.fz_shelf.specs.declared.{mem_shelf.MemShelf.MemShelf, mem_sink.MemSink.MemSink}
+use Rattle.std.specs.Prelude.{◌≡◌, ℕ, List, [], Some}
+use Rattle.fz_shelf.specs.{Calls.IsListed, Log.asked_of, MemFiles.file_in, Told.ShelfTold, Told.SinkTold}
+use Rattle.fz_shelf.specs.declared.{mem_shelf.MemFile.MemFile, mem_shelf.MemShelf.MemShelf, mem_sink.MemSink.MemSink}
+
+abbrev pub shelf_told : MemShelf → ShelfTold
+shelf_told s = record {
+  files = file_in s.files.items;
+  counts = record { reads = s.failed_reads; longs = s.too_long; writes = s.failed_writes };
+  asked = asked_of s.asked.items;
+}
+
+-- the same of a shelf of these files before any call
+abbrev pub told_first : List MemFile → ShelfTold
+told_first files = record { files = file_in files; counts = record { reads = 0; longs = 0; writes = 0 }; asked = [] }
+
+abbrev pub sink_told : MemSink → SinkTold
+sink_told s = record { taken = Some (record { bytes = s.bytes.items; room = s.room }); faults = s.faults }
 
 -- the numbers of the reads that fail
 abbrev pub failing_reads_of : MemShelf → List ℕ
@@ -36,13 +50,6 @@ IsReadListed s = IsListed s.failing_reads s.reads
 
 abbrev pub IsWriteListed : MemShelf → Type 0
 IsWriteListed s = IsListed s.failing_writes s.writes
-
--- what a shelf in memory has counted and logged
-abbrev pub counts_of : MemShelf → Counts
-counts_of s = record { reads = s.failed_reads; longs = s.too_long; writes = s.failed_writes }
-
-abbrev pub log_of : MemShelf → Log
-log_of s = asked_of s.asked.items
 
 -- the shelf goes on failing where it was told to
 abbrev pub AreKept : MemShelf → MemShelf → Type 0

@@ -1,5 +1,5 @@
--- What a shelf and a sink tell: the bytes that a sink took and the room that is left, or nothing; counts of faults;
--- and the list of reads and writes.
+-- What a shelf and a sink tell: the files, counts of faults, the list of reads and writes, and the bytes that a sink
+-- took and the room that is left, or nothing.
 -- Reached by the promise.
 use Rattle.std.specs.Prelude.{◌≡◌, ◌≢◌, ◌<◌, ◌≤◌, ◌-◌, ◌++◌, ℕ, List, [], length, take, Option, Some, None, Result, Ok}
 use Rattle.std.specs.Prelude.{Err}
@@ -60,6 +60,17 @@ pub record Counts : Type 0 where
 abbrev pub Log : Type 0
 Log = List (List ℕ × Answer)
 
+-- what a shelf tells
+pub record ShelfTold : Type 0 where
+  pub files : Names
+  pub counts : Counts
+  pub asked : Log
+
+-- what a sink tells: what it took, and how many puts failed
+pub record SinkTold : Type 0 where
+  pub taken : Option Taken
+  pub faults : ℕ
+
 -- what the shelf and out tell
 pub record World : Type 0 where
   pub files : Names
@@ -68,6 +79,5 @@ pub record World : Type 0 where
   pub told : Option Taken
   pub faults : ℕ
 
-abbrev pub world : Names → Counts → Log → Option Taken → ℕ → World
-world files counts asked told faults =
-    record { files = files; counts = counts; asked = asked; told = told; faults = faults }
+abbrev pub world : ShelfTold → SinkTold → World
+world s o = record { files = s.files; counts = s.counts; asked = s.asked; told = o.taken; faults = o.faults }

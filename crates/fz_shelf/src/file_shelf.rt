@@ -24,8 +24,8 @@ pub struct FileShelf<R: Files + Drop> {
 impl<R: Files + Drop> FileShelf<R> {
     /// A shelf over the runtime's files, with no call and no fault yet.
     pub fn new(alloc: Global, rt: R) -> FileShelf<R>
-        ensures asked { ⟦<FileShelf<R> as Shelf>⟧.asked result ≡ [] }
-        ensures counts { ⟦<FileShelf<R> as Shelf>⟧.counts result ≡ record { reads = 0; longs = 0; writes = 0 } }
+        ensures asked { (⟦<FileShelf<R> as Shelf>⟧.told result).asked ≡ [] }
+        ensures counts { (⟦<FileShelf<R> as Shelf>⟧.told result).counts ≡ record { reads = 0; longs = 0; writes = 0 } }
     {
         FileShelf {
             rt,
@@ -99,11 +99,11 @@ fn read_once<R: Files>(
 }
 
 impl<R: Files + Drop> Shelf for FileShelf<R> {
-    ghost files = { λ s name. untold };
-
-    ghost counts = { λ s. record { reads = s.failed_reads; longs = s.too_long; writes = s.failed_writes } };
-
-    ghost asked = { λ s. asked_of s.asked.items };
+    ghost told = { λ s. record {
+      files = λ name. untold;
+      counts = record { reads = s.failed_reads; longs = s.too_long; writes = s.failed_writes };
+      asked = asked_of s.asked.items;
+    } };
 
     ghost reliable = { λ s. ⊥ };
 

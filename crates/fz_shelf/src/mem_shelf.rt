@@ -77,7 +77,8 @@ fn store(alloc: Global, files: List<MemFile>) -> Result<Vec<Stored>, Memory>
 }
 
 impl MemShelf {
-    ghost use Rattle.fz_shelf.specs.Fakes.{failing_reads_of, failing_writes_of, reads_of, writes_of};
+    ghost use Rattle.fz_shelf.specs.Fakes.{failing_reads_of, failing_writes_of, reads_of, shelf_told, told_first};
+    ghost use Rattle.fz_shelf.specs.Fakes.{writes_of};
 
     /// A shelf with these files. The reads and writes with these numbers fail.
     pub fn new(
@@ -86,10 +87,7 @@ impl MemShelf {
         failing_reads: List<u32>,
         failing_writes: List<u32>,
     ) -> Result<MemShelf, Memory>
-        ensures files { IfOk result (λ s. ⟦<MemShelf as Shelf>⟧.files s ≡ file_in files) }
-        ensures asked { IfOk result (λ s. ⟦<MemShelf as Shelf>⟧.asked s ≡ []) }
-        ensures counts { IfOk result (λ s. ⟦<MemShelf as Shelf>⟧.counts s
-            ≡ record { reads = 0; longs = 0; writes = 0 }) }
+        ensures told { IfOk result (λ s. shelf_told s ≡ told_first files) }
         ensures numbers { IfOk result (λ s. (reads_of s ≡ 0) × (writes_of s ≡ 0)) }
         ensures failing_reads { IfOk result (λ s. failing_reads_of s ≡ failing_reads) }
         ensures failing_writes { IfOk result (λ s. failing_writes_of s ≡ failing_writes) }
@@ -116,41 +114,34 @@ impl MemShelf {
 
     /// The reads and writes so far, in order.
     pub fn asked(&self) -> &[Asked]
-        ensures { asked_of result.now ≡ ⟦<MemShelf as Shelf>⟧.asked self.now }
+        ensures { asked_of result.now ≡ (shelf_told self.now).asked }
     {
         &self.asked
     }
 }
 
 impl Shelf for MemShelf {
-    ghost use Rattle.fz_shelf.specs.Fakes.{AreKept, counts_of, IsReadListed, IsWriteListed, log_of};
-    ghost use Rattle.fz_shelf.specs.Fakes.{reads_of, writes_of};
+    ghost use Rattle.fz_shelf.specs.Fakes.{AreKept, IsReadListed, IsWriteListed, reads_of, shelf_told, writes_of};
 
-    ghost files = { λ s. file_in s.files.items };
-
-    ghost counts = { counts_of };
-
-    ghost asked = { log_of };
+    ghost told = { shelf_told };
 
     ghost reliable = { λ s. All (λ n. n ≤ s.reads) s.failing_reads × All (λ n. n ≤ s.writes) s.failing_writes };
 
     /// Gives `Failed` only if the read is listed or there is no such file.
     fn read(&mut self, name: &str, into: &mut Vec<u8>) -> Result<(), ReadError>
         requires { into.old.items ≡ [] }
-        ensures files { ⟦<MemShelf as Shelf>⟧.files self.new ≡ ⟦<MemShelf as Shelf>⟧.files self.old }
-        ensures tells { ReadTells (⟦<MemShelf as Shelf>⟧.files self.old name.now) result into.new.items }
-        ensures counts { ReadCounts (counts_of self.old) (counts_of self.new) result }
-        ensures asked { log_of self.new ≡ asked_after (log_of self.old) name.now result }
+        ensures files { (shelf_told self.new).files ≡ (shelf_told self.old).files }
+        ensures tells { ReadTells ((shelf_told self.old).files name.now) result into.new.items }
+        ensures counts { ReadCounts (shelf_told self.old).counts (shelf_told self.new).counts result }
+        ensures asked { (shelf_told self.new).asked ≡ asked_after (shelf_told self.old).asked name.now result }
         ensures reliable { ⟦<MemShelf as Shelf>⟧.reliable self.old → ⟦<MemShelf as Shelf>⟧.reliable self.new }
         ensures steady { ⟦<MemShelf as Shelf>⟧.reliable self.old
-            → IsThere (⟦<MemShelf as Shelf>⟧.files self.old name.now)
-            → IsErrOf result ReadError.Failed → ⊥ }
+            → IsThere ((shelf_told self.old).files name.now) → IsErrOf result ReadError.Failed → ⊥ }
 
-        ensures counted { counts_of self.new ≡ counts_after_read (counts_of self.old) result }
+        ensures counted { (shelf_told self.new).counts ≡ counts_after_read (shelf_told self.old).counts result }
         ensures listed { IsReadListed self.old → IsErrOf result ReadError.Failed ⊎ IsErrOf result ReadError.Memory }
         ensures unlisted { (IsReadListed self.old → ⊥)
-            → IsThere (⟦<MemShelf as Shelf>⟧.files self.old name.now)
-            → IsErrOf result ReadError.Failed → ⊥ }
+            → IsThere ((shelf_told self.old).files name.now) → IsErrOf result ReadError.Failed → ⊥ }
         ensures numbered { (IsErrOf result ReadError.Memory → ⊥) → reads_of self.new ≡ one_more (reads_of self.old) }
         ensures orders { AreKept self.old self.new × (writes_of self.new ≡ writes_of self.old) }
     {
@@ -184,24 +175,21 @@ impl Shelf for MemShelf {
     /// Fails if the write is listed, if there is no such file, or if the bytes are more than its
     /// room.
     fn write(&mut self, name: &str, bytes: &[u8]) -> Result<(), WriteError>
-        ensures written { OnOk result (Written (⟦<MemShelf as Shelf>⟧.files self.old name.now) bytes.now
-            (⟦<MemShelf as Shelf>⟧.files self.new name.now)) }
+        ensures written { OnOk result (Written ((shelf_told self.old).files name.now) bytes.now
+            ((shelf_told self.new).files name.now)) }
         ensures others { (other : List ℕ) → other ≢ name.now
-            → ⟦<MemShelf as Shelf>⟧.files self.new other ≡ ⟦<MemShelf as Shelf>⟧.files self.old other }
-        ensures kept { IsErrOf result WriteError.Memory
-            → ⟦<MemShelf as Shelf>⟧.files self.new ≡ ⟦<MemShelf as Shelf>⟧.files self.old }
-        ensures counts { WriteCounts (counts_of self.old) (counts_of self.new) result }
-        ensures asked { log_of self.new ≡ asked_to_write (log_of self.old) name.now result }
+            → (shelf_told self.new).files other ≡ (shelf_told self.old).files other }
+        ensures kept { IsErrOf result WriteError.Memory → (shelf_told self.new).files ≡ (shelf_told self.old).files }
+        ensures counts { WriteCounts (shelf_told self.old).counts (shelf_told self.new).counts result }
+        ensures asked { (shelf_told self.new).asked ≡ asked_to_write (shelf_told self.old).asked name.now result }
         ensures reliable { ⟦<MemShelf as Shelf>⟧.reliable self.old → ⟦<MemShelf as Shelf>⟧.reliable self.new }
         ensures steady { ⟦<MemShelf as Shelf>⟧.reliable self.old
-            → Fits (⟦<MemShelf as Shelf>⟧.files self.old name.now) (length bytes.now)
-            → IsErrOf result WriteError.Failed → ⊥ }
+            → Fits ((shelf_told self.old).files name.now) (length bytes.now) → IsErrOf result WriteError.Failed → ⊥ }
 
-        ensures counted { counts_of self.new ≡ counts_after_write (counts_of self.old) result }
+        ensures counted { (shelf_told self.new).counts ≡ counts_after_write (shelf_told self.old).counts result }
         ensures listed { IsWriteListed self.old → IsErrOf result WriteError.Failed ⊎ IsErrOf result WriteError.Memory }
         ensures unlisted { (IsWriteListed self.old → ⊥)
-            → Fits (⟦<MemShelf as Shelf>⟧.files self.old name.now) (length bytes.now)
-            → IsErrOf result WriteError.Failed → ⊥ }
+            → Fits ((shelf_told self.old).files name.now) (length bytes.now) → IsErrOf result WriteError.Failed → ⊥ }
         ensures numbered { (IsErrOf result WriteError.Memory → ⊥) → writes_of self.new ≡ one_more (writes_of self.old) }
         ensures orders { AreKept self.old self.new × (reads_of self.new ≡ reads_of self.old) }
     {

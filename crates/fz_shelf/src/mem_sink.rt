@@ -25,7 +25,7 @@ pub struct MemSink {
 }
 
 impl MemSink {
-    ghost use Rattle.fz_shelf.specs.Fakes.{failing_puts_of, most_of, puts_of};
+    ghost use Rattle.fz_shelf.specs.Fakes.{failing_puts_of, most_of, puts_of, sink_told};
 
     /// A sink that has taken nothing yet. One put takes at most `most` bytes, or 1 if `most`
     /// is 0.
@@ -35,8 +35,8 @@ impl MemSink {
         failing_puts: List<u32>,
         most: u64,
     ) -> Result<MemSink, Memory>
-        ensures told { IfOk result (λ s. ⟦<MemSink as Sink>⟧.told s ≡ Some (record { bytes = []; room = room })) }
-        ensures faults { IfOk result (λ s. ⟦<MemSink as Sink>⟧.faults s ≡ 0) }
+        ensures told { IfOk result (λ s. sink_told s
+            ≡ record { taken = Some (record { bytes = []; room = room }); faults = 0 }) }
         ensures numbers { IfOk result (λ s. puts_of s ≡ 0) }
         ensures failing { IfOk result (λ s. failing_puts_of s ≡ failing_puts) }
         ensures most { IfOk result (λ s. most_of s ≡ most) }
@@ -58,38 +58,34 @@ impl MemSink {
 
     /// The bytes taken so far.
     pub fn bytes(&self) -> &[u8]
-        ensures { Some result.now ≡ option_map (λ t. t.bytes) (⟦<MemSink as Sink>⟧.told self.now) }
+        ensures { Some result.now ≡ option_map (λ t. t.bytes) (sink_told self.now).taken }
     {
         &self.bytes
     }
 }
 
 impl Sink for MemSink {
-    ghost use Rattle.fz_shelf.specs.Fakes.{failing_puts_of, most_of, puts_of};
+    ghost use Rattle.fz_shelf.specs.Fakes.{failing_puts_of, most_of, puts_of, sink_told};
 
-    ghost told = { λ s. Some (record { bytes = s.bytes.items; room = s.room }) };
-
-    ghost faults = { λ s. s.faults };
+    ghost told = { sink_told };
 
     ghost reliable = { λ s. All (λ n. n ≤ s.puts) s.failing };
 
     /// Fails if the put is listed, or if the piece is longer than the room left.
     fn put(&mut self, bytes: &[u8]) -> Result<usize, Failed>
         ensures part { IfOk result (λ n. IsPart n (length bytes.now)) }
-        ensures fits { IfOk result (IsWithinRoom (⟦<MemSink as Sink>⟧.told self.old)) }
-        ensures told { ⟦<MemSink as Sink>⟧.told self.new
-            ≡ after_put (⟦<MemSink as Sink>⟧.told self.old) bytes.now result }
-        ensures cause { HasCause (⟦<MemSink as Sink>⟧.faults self.old) (⟦<MemSink as Sink>⟧.faults self.new) result }
+        ensures fits { IfOk result (IsWithinRoom (sink_told self.old).taken) }
+        ensures told { (sink_told self.new).taken ≡ after_put (sink_told self.old).taken bytes.now result }
+        ensures cause { HasCause (sink_told self.old).faults (sink_told self.new).faults result }
         ensures reliable { ⟦<MemSink as Sink>⟧.reliable self.old → ⟦<MemSink as Sink>⟧.reliable self.new }
         ensures steady { ⟦<MemSink as Sink>⟧.reliable self.old
-            → HasRoom (⟦<MemSink as Sink>⟧.told self.old) (length bytes.now) → IsOk result }
+            → HasRoom (sink_told self.old).taken (length bytes.now) → IsOk result }
 
-        ensures counted { ⟦<MemSink as Sink>⟧.faults self.new
-            ≡ faults_after (⟦<MemSink as Sink>⟧.faults self.old) result }
+        ensures counted { (sink_told self.new).faults ≡ faults_after (sink_told self.old).faults result }
         ensures listed { IsListed (failing_puts_of self.old) (puts_of self.old) → IsErr result }
-        ensures over { IfOk result (λ n. IsWithinRoom (⟦<MemSink as Sink>⟧.told self.old) (length bytes.now)) }
+        ensures over { IfOk result (λ n. IsWithinRoom (sink_told self.old).taken (length bytes.now)) }
         ensures unlisted { (IsListed (failing_puts_of self.old) (puts_of self.old) → ⊥)
-            → HasRoom (⟦<MemSink as Sink>⟧.told self.old) (length bytes.now) → IsOk result }
+            → HasRoom (sink_told self.old).taken (length bytes.now) → IsOk result }
         ensures most { IfOk result (λ n. n ≡ min (length bytes.now) (max (most_of self.old) 1)) }
         ensures numbered { puts_of self.new ≡ one_more (puts_of self.old) }
         ensures orders { (failing_puts_of self.new ≡ failing_puts_of self.old) × (most_of self.new ≡ most_of self.old) }

@@ -26,11 +26,12 @@ pub enum Part<'a> {
 
 /// Puts the parts one after the other.
 pub fn put_parts<S: Sink>(sink: &mut S, parts: &[Part]) -> Result<(), Failed>
-    ensures whole { OnOk result (S.told sink.new ≡ gained (S.told sink.old) (parts_text parts.now)) }
-    ensures part { GainedPart (S.told sink.old) (S.told sink.new) (parts_text parts.now) }
-    ensures cause { HasCause (S.faults sink.old) (S.faults sink.new) result }
+    ensures whole { OnOk result ((S.told sink.new).taken ≡ gained (S.told sink.old).taken (parts_text parts.now)) }
+    ensures part { GainedPart (S.told sink.old).taken (S.told sink.new).taken (parts_text parts.now) }
+    ensures cause { HasCause (S.told sink.old).faults (S.told sink.new).faults result }
     ensures reliable { S.reliable sink.old → S.reliable sink.new }
-    ensures steady { S.reliable sink.old → HasRoom (S.told sink.old) (length (parts_text parts.now)) → IsOk result }
+    ensures steady { S.reliable sink.old → HasRoom (S.told sink.old).taken (length (parts_text parts.now))
+        → IsOk result }
 {
     for part in parts {
         put_part(sink, part)?;
@@ -39,11 +40,11 @@ pub fn put_parts<S: Sink>(sink: &mut S, parts: &[Part]) -> Result<(), Failed>
 }
 
 fn put_part<S: Sink>(sink: &mut S, part: &Part) -> Result<(), Failed>
-    ensures whole { OnOk result (S.told sink.new ≡ gained (S.told sink.old) (part_text part.now)) }
-    ensures part { GainedPart (S.told sink.old) (S.told sink.new) (part_text part.now) }
-    ensures cause { HasCause (S.faults sink.old) (S.faults sink.new) result }
+    ensures whole { OnOk result ((S.told sink.new).taken ≡ gained (S.told sink.old).taken (part_text part.now)) }
+    ensures part { GainedPart (S.told sink.old).taken (S.told sink.new).taken (part_text part.now) }
+    ensures cause { HasCause (S.told sink.old).faults (S.told sink.new).faults result }
     ensures reliable { S.reliable sink.old → S.reliable sink.new }
-    ensures steady { S.reliable sink.old → HasRoom (S.told sink.old) (length (part_text part.now)) → IsOk result }
+    ensures steady { S.reliable sink.old → HasRoom (S.told sink.old).taken (length (part_text part.now)) → IsOk result }
 {
     match part {
         Part::Text(text) => put_all(sink, text),
@@ -58,12 +59,13 @@ fn put_part<S: Sink>(sink: &mut S, part: &Part) -> Result<(), Failed>
 }
 
 fn put_numbers<S: Sink>(sink: &mut S, numbers: &[u8]) -> Result<(), Failed>
-    ensures whole { OnOk result (S.told sink.new ≡ gained (S.told sink.old) (flat_map behind_blank numbers.now)) }
-    ensures part { GainedPart (S.told sink.old) (S.told sink.new) (flat_map behind_blank numbers.now) }
-    ensures cause { HasCause (S.faults sink.old) (S.faults sink.new) result }
+    ensures whole { OnOk result ((S.told sink.new).taken
+        ≡ gained (S.told sink.old).taken (flat_map behind_blank numbers.now)) }
+    ensures part { GainedPart (S.told sink.old).taken (S.told sink.new).taken (flat_map behind_blank numbers.now) }
+    ensures cause { HasCause (S.told sink.old).faults (S.told sink.new).faults result }
     ensures reliable { S.reliable sink.old → S.reliable sink.new }
     ensures steady { S.reliable sink.old
-        → HasRoom (S.told sink.old) (length (flat_map behind_blank numbers.now)) → IsOk result }
+        → HasRoom (S.told sink.old).taken (length (flat_map behind_blank numbers.now)) → IsOk result }
 {
     for number in numbers {
         put_behind_blank(sink, *number)?;
@@ -72,11 +74,12 @@ fn put_numbers<S: Sink>(sink: &mut S, numbers: &[u8]) -> Result<(), Failed>
 }
 
 fn put_behind_blank<S: Sink>(sink: &mut S, number: u8) -> Result<(), Failed>
-    ensures whole { OnOk result (S.told sink.new ≡ gained (S.told sink.old) (behind_blank number)) }
-    ensures part { GainedPart (S.told sink.old) (S.told sink.new) (behind_blank number) }
-    ensures cause { HasCause (S.faults sink.old) (S.faults sink.new) result }
+    ensures whole { OnOk result ((S.told sink.new).taken ≡ gained (S.told sink.old).taken (behind_blank number)) }
+    ensures part { GainedPart (S.told sink.old).taken (S.told sink.new).taken (behind_blank number) }
+    ensures cause { HasCause (S.told sink.old).faults (S.told sink.new).faults result }
     ensures reliable { S.reliable sink.old → S.reliable sink.new }
-    ensures steady { S.reliable sink.old → HasRoom (S.told sink.old) (length (behind_blank number)) → IsOk result }
+    ensures steady { S.reliable sink.old → HasRoom (S.told sink.old).taken (length (behind_blank number))
+        → IsOk result }
 {
     put_all(sink, b" ")?;
     let mut buffer = Buffer::new();

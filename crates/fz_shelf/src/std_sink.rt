@@ -16,7 +16,7 @@ pub struct StdSink<W: Write + Drop> {
 impl<W: Write + Drop> StdSink<W> {
     /// The sink over a writer, with no fault yet.
     pub fn new(writer: W) -> StdSink<W>
-        ensures { ⟦<StdSink<W> as Sink>⟧.faults result ≡ 0 }
+        ensures { (⟦<StdSink<W> as Sink>⟧.told result).faults ≡ 0 }
     {
         StdSink { writer, faults: 0 }
     }
@@ -35,9 +35,7 @@ fn write_once<W: Write>(writer: &mut W, bytes: &[u8]) -> Result<usize, Failed>
 }
 
 impl<W: Write + Drop> Sink for StdSink<W> {
-    ghost told = { λ s. None };
-
-    ghost faults = { λ s. s.faults };
+    ghost told = { λ s. record { taken = None; faults = s.faults } };
 
     ghost reliable = { λ s. ⊥ };
 
@@ -46,14 +44,14 @@ impl<W: Write + Drop> Sink for StdSink<W> {
     /// One write. Where the writer's contents are known, they grow by as many bytes as are returned, and no others.
     fn put(&mut self, bytes: &[u8]) -> Result<usize, Failed>
         ensures part { IfOk result (λ n. IsPart n (length bytes.now)) }
-        ensures fits { IfOk result (IsWithinRoom (⟦<StdSink<W> as Sink>⟧.told self.old)) }
-        ensures told { ⟦<StdSink<W> as Sink>⟧.told self.new
-            ≡ after_put (⟦<StdSink<W> as Sink>⟧.told self.old) bytes.now result }
-        ensures cause { HasCause (⟦<StdSink<W> as Sink>⟧.faults self.old)
-            (⟦<StdSink<W> as Sink>⟧.faults self.new) result }
+        ensures fits { IfOk result (IsWithinRoom (⟦<StdSink<W> as Sink>⟧.told self.old).taken) }
+        ensures told { (⟦<StdSink<W> as Sink>⟧.told self.new).taken
+            ≡ after_put (⟦<StdSink<W> as Sink>⟧.told self.old).taken bytes.now result }
+        ensures cause { HasCause (⟦<StdSink<W> as Sink>⟧.told self.old).faults
+            (⟦<StdSink<W> as Sink>⟧.told self.new).faults result }
         ensures reliable { ⟦<StdSink<W> as Sink>⟧.reliable self.old → ⟦<StdSink<W> as Sink>⟧.reliable self.new }
         ensures steady { ⟦<StdSink<W> as Sink>⟧.reliable self.old
-            → HasRoom (⟦<StdSink<W> as Sink>⟧.told self.old) (length bytes.now) → IsOk result }
+            → HasRoom (⟦<StdSink<W> as Sink>⟧.told self.old).taken (length bytes.now) → IsOk result }
 
         ensures given { WriteAppends (W.contents (writer_of self.old)) (W.contents (writer_of self.new))
             result bytes.now }

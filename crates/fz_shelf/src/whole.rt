@@ -9,12 +9,12 @@ use crate::{Failed, Line, Sink};
 
 /// Puts all the bytes. On `Err` the sink has taken a prefix of them.
 pub fn put_all<S: Sink>(sink: &mut S, bytes: &[u8]) -> Result<(), Failed>
-    ensures whole { OnOk result (S.told sink.new ≡ gained (S.told sink.old) bytes.now) }
-    ensures part { GainedPart (S.told sink.old) (S.told sink.new) bytes.now }
-    ensures short { OnErr result (GainedShort (S.told sink.old) (S.told sink.new) bytes.now) }
-    ensures cause { HasCause (S.faults sink.old) (S.faults sink.new) result }
+    ensures whole { OnOk result ((S.told sink.new).taken ≡ gained (S.told sink.old).taken bytes.now) }
+    ensures part { GainedPart (S.told sink.old).taken (S.told sink.new).taken bytes.now }
+    ensures short { OnErr result (GainedShort (S.told sink.old).taken (S.told sink.new).taken bytes.now) }
+    ensures cause { HasCause (S.told sink.old).faults (S.told sink.new).faults result }
     ensures reliable { S.reliable sink.old → S.reliable sink.new }
-    ensures steady { S.reliable sink.old → HasRoom (S.told sink.old) (length bytes.now) → IsOk result }
+    ensures steady { S.reliable sink.old → HasRoom (S.told sink.old).taken (length bytes.now) → IsOk result }
 {
     let mut rest = bytes;
     while !rest.is_empty() {
@@ -26,11 +26,11 @@ pub fn put_all<S: Sink>(sink: &mut S, bytes: &[u8]) -> Result<(), Failed>
 
 /// Puts the lines one by one.
 pub fn put_lines<S: Sink>(sink: &mut S, lines: &[Line]) -> Result<(), Failed>
-    ensures whole { OnOk result (S.told sink.new ≡ gained (S.told sink.old) (concat lines.now)) }
-    ensures part { OnErr result (GainedLines (S.told sink.old) (S.told sink.new) lines.now) }
-    ensures cause { HasCause (S.faults sink.old) (S.faults sink.new) result }
+    ensures whole { OnOk result ((S.told sink.new).taken ≡ gained (S.told sink.old).taken (concat lines.now)) }
+    ensures part { OnErr result (GainedLines (S.told sink.old).taken (S.told sink.new).taken lines.now) }
+    ensures cause { HasCause (S.told sink.old).faults (S.told sink.new).faults result }
     ensures reliable { S.reliable sink.old → S.reliable sink.new }
-    ensures steady { S.reliable sink.old → HasRoom (S.told sink.old) (length (concat lines.now)) → IsOk result }
+    ensures steady { S.reliable sink.old → HasRoom (S.told sink.old).taken (length (concat lines.now)) → IsOk result }
 {
     for line in lines {
         put_all(sink, line.as_bytes())?;

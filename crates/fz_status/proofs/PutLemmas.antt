@@ -2,7 +2,7 @@
 use Rattle.std.proofs.Common.{◌≡◌, ◌≤◌, ◌++◌, ℕ, List, length, refl, sym, ◌∙◌, ap, ap₂, subst, arith, length-append}
 use Rattle.std.proofs.Common.{append_assoc}
 use Rattle.std.specs.Prelude.{Option, Some, None, Result, Ok, Err, IsErr, OnErr, OnOk}
-use Rattle.fz_shelf.specs.{Faults.Rose, Told.Taken, Told.gained, Told.HasRoom}
+use Rattle.fz_shelf.specs.{Faults.Rose, Told.SinkTold, Told.Taken, Told.gained, Told.HasRoom}
 use Rattle.fz_status.specs.Errors.{Puts}
 
 gained_behind : (t : Option Taken) (front text : List ℕ) → gained (gained t front) text ≡ gained t (front ++ text)
@@ -30,36 +30,35 @@ on_err : {E : Type 0} {P Q : Type 0} (r : Result Unit E) → (P → Q) → OnErr
 on_err {E} {P} {Q} (Ok x) to h = h
 on_err {E} {P} {Q} (Err e) to h = to h
 
-module _ {V E : Type 0} (told : V → Option Taken) (faults : V → ℕ) (reliable : V → Type 0) (front text : List ℕ)
-    (v v' v'' : V) where
+module _ {V E : Type 0} (told : V → SinkTold) (reliable : V → Type 0) (front text : List ℕ) (v v' v'' : V) where
   -- the first text is put, and then the second, or not
-  pub puts_behind : Puts {E = E} told faults reliable v v' front (Ok tt) → (r : Result Unit E)
-      → Puts told faults reliable v' v'' text r → Puts told faults reliable v v'' (front ++ text) r
+  pub puts_behind : Puts {E = E} told reliable v v' front (Ok tt) → (r : Result Unit E)
+      → Puts told reliable v' v'' text r → Puts told reliable v v'' (front ++ text) r
   puts_behind first r second = record {
     whole = on_ok r (λ is. is ∙ ap (λ (t : Option Taken). gained t text) first.whole
-        ∙ gained_behind (told v) front text)
+        ∙ gained_behind (told v).taken front text)
         second.whole;
     part = record {
       part = front ++ second.part.part;
       rest = second.part.rest;
       split = append_assoc front second.part.part second.part.rest ∙ ap (λ (l : List ℕ). front ++ l) second.part.split;
       told = second.part.told ∙ ap (λ (t : Option Taken). gained t second.part.part) first.whole
-          ∙ gained_behind (told v) front second.part.part;
+          ∙ gained_behind (told v).taken front second.part.part;
     };
     cause = record {
       later = omega (arith, first.cause.later, second.cause.later);
       stays = on_ok r (λ is. is ∙ first.cause.stays) second.cause.stays;
-      failed = on_err r (λ rose. subst (λ (n : ℕ). Rose n (faults v'')) first.cause.stays rose) second.cause.failed;
+      failed = on_err r (λ rose. subst (λ n. Rose n (told v'').faults) first.cause.stays rose) second.cause.failed;
     };
     keeps = λ s. second.keeps (first.keeps s);
     steady = λ s room. second.steady (first.keeps s)
         (subst (λ (t : Option Taken). HasRoom t (length text)) (sym first.whole)
-        (room_behind (told v) front text room));
+        (room_behind (told v).taken front text room));
   }
 
   -- the put of the first failed
-  pub puts_no_more : (e : E) → Puts {E = E} told faults reliable v v' front (Err e) → (r : Result Unit E) → IsErr r
-      → Puts told faults reliable v v' (front ++ text) r
+  pub puts_no_more : (e : E) → Puts {E = E} told reliable v v' front (Err e) → (r : Result Unit E) → IsErr r
+      → Puts told reliable v v' (front ++ text) r
   puts_no_more e first (Ok x) failed = cc
   puts_no_more e first (Err e') failed = record {
     whole = tt;
@@ -71,5 +70,5 @@ module _ {V E : Type 0} (told : V → Option Taken) (faults : V → ℕ) (reliab
     };
     cause = record { later = first.cause.later; stays = tt; failed = first.cause.failed };
     keeps = first.keeps;
-    steady = λ s room. first.steady s (room_before (told v) front text room);
+    steady = λ s room. first.steady s (room_before (told v).taken front text room);
   }

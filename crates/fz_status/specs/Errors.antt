@@ -1,7 +1,7 @@
 -- The one line on err.
 -- Beside the promise.
-use Rattle.std.specs.Prelude.{◌≡◌, ◌≤◌, ◌++◌, ℕ, List, [], length, codes, Option, Result, IsOk, OnOk}
-use Rattle.fz_shelf.specs.{Faults.HasCause, Faults.Rose, Told.Taken, Told.gained, Told.GainedPart, Told.HasRoom}
+use Rattle.std.specs.Prelude.{◌≡◌, ◌≤◌, ◌++◌, ℕ, List, [], length, codes, Result, IsOk, OnOk}
+use Rattle.fz_shelf.specs.{Faults.HasCause, Faults.Rose, Told.SinkTold, Told.gained, Told.GainedPart, Told.HasRoom}
 use Rattle.fz_status.specs.FaultLines.{asm_line, cert_line, fast_line, fcl_line, handler_line, image_line}
 use Rattle.fz_status.specs.FaultLines.{not_reached_line, plan_line, trace_line, trap_line, upset_line, want_of_memory}
 use Rattle.fz_status.specs.FaultLines.{with_name, with_number}
@@ -31,17 +31,17 @@ error_line_of words (status.Handler f) = handler_line f
 error_line_of words (status.Script line) = with_number (codes "script: line ") line []
 error_line_of words (status.Fast f) = fast_line f
 
--- a text is put into a sink: what it tells, its faults and its soundness, of the old one and of the new
-pub record Puts {V E : Type 0} (told : V → Option Taken) (faults : V → ℕ) (reliable : V → Type 0) (old new : V)
-    (text : List ℕ) (result : Result Unit E) : Type 0 where
-  pub whole : OnOk result (told new ≡ gained (told old) text)
-  pub part : GainedPart (told old) (told new) text
-  pub cause : HasCause (faults old) (faults new) result
+-- a text is put into a sink: what it tells and its soundness, of the old one and of the new
+pub record Puts {V E : Type 0} (told : V → SinkTold) (reliable : V → Type 0) (old new : V) (text : List ℕ)
+    (result : Result Unit E) : Type 0 where
+  pub whole : OnOk result ((told new).taken ≡ gained (told old).taken text)
+  pub part : GainedPart (told old).taken (told new).taken text
+  pub cause : HasCause (told old).faults (told new).faults result
   pub keeps : reliable old → reliable new
-  pub steady : reliable old → HasRoom (told old) (length text) → IsOk result
+  pub steady : reliable old → HasRoom (told old).taken (length text) → IsOk result
 
 -- the sink gained a prefix of the line, and all of it where its count did not rise
-pub record Complains (text : List ℕ) (told told' : Option Taken) (faults faults' : ℕ) : Type 0 where
-  pub part : GainedPart told told' text
-  pub later : faults ≤ faults'
-  pub whole : (Rose faults faults' → ⊥) → told' ≡ gained told text
+pub record Complains (text : List ℕ) (old new : SinkTold) : Type 0 where
+  pub part : GainedPart old.taken new.taken text
+  pub later : old.faults ≤ new.faults
+  pub whole : (Rose old.faults new.faults → ⊥) → new.taken ≡ gained old.taken text

@@ -13,7 +13,7 @@ use crate::words::word;
 use fz_shelf::{Failed, Sink};
 
 fn put_line<F: Sink>(err: &mut F, words: &[String], status: &Status) -> Result<(), Failed>
-    ensures { Puts F.told F.faults F.reliable err.old err.new (error_line_of (texts_of words.now) status.now) result }
+    ensures { Puts F.told F.reliable err.old err.new (error_line_of (texts_of words.now) status.now) result }
 {
     match status {
         Status::Ok => put(err, &[]),
@@ -44,15 +44,13 @@ fn put_line<F: Sink>(err: &mut F, words: &[String], status: &Status) -> Result<(
 /// Puts the line of a status; `Ok` has none. Allocates no memory. If a put fails, err has taken a
 /// prefix of the line.
 pub fn report<F: Sink>(err: &mut F, words: &[String], status: &Status)
-    ensures quiet { status.now ≡ Status.Ok
-        → (F.told err.new ≡ F.told err.old) × (F.faults err.new ≡ F.faults err.old) }
+    ensures quiet { status.now ≡ Status.Ok → F.told err.new ≡ F.told err.old }
     ensures line { (status.now ≡ Status.Ok → ⊥)
-        → Complains (error_line_of (texts_of words.now) status.now) (F.told err.old) (F.told err.new)
-        (F.faults err.old) (F.faults err.new) }
+        → Complains (error_line_of (texts_of words.now) status.now) (F.told err.old) (F.told err.new) }
     ensures reliable { F.reliable err.old → F.reliable err.new }
     ensures steady { F.reliable err.old
-        → HasRoom (F.told err.old) (length (error_line_of (texts_of words.now) status.now))
-        → F.told err.new ≡ gained (F.told err.old) (error_line_of (texts_of words.now) status.now) }
+        → HasRoom (F.told err.old).taken (length (error_line_of (texts_of words.now) status.now))
+        → (F.told err.new).taken ≡ gained (F.told err.old).taken (error_line_of (texts_of words.now) status.now) }
 {
     if let Status::Ok = status {
         return;
@@ -62,12 +60,11 @@ pub fn report<F: Sink>(err: &mut F, words: &[String], status: &Status)
 
 /// Puts the line of a status.
 fn complain<F: Sink>(err: &mut F, words: &[String], status: &Status)
-    ensures line { Complains (error_line_of (texts_of words.now) status.now) (F.told err.old) (F.told err.new)
-        (F.faults err.old) (F.faults err.new) }
+    ensures line { Complains (error_line_of (texts_of words.now) status.now) (F.told err.old) (F.told err.new) }
     ensures reliable { F.reliable err.old → F.reliable err.new }
     ensures steady { F.reliable err.old
-        → HasRoom (F.told err.old) (length (error_line_of (texts_of words.now) status.now))
-        → F.told err.new ≡ gained (F.told err.old) (error_line_of (texts_of words.now) status.now) }
+        → HasRoom (F.told err.old).taken (length (error_line_of (texts_of words.now) status.now))
+        → (F.told err.new).taken ≡ gained (F.told err.old).taken (error_line_of (texts_of words.now) status.now) }
 {
     let _ = put_line(err, words, status);
 }

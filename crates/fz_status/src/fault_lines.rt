@@ -24,7 +24,7 @@ use trace_io::TraceFault;
 
 /// Puts the parts one after the other.
 pub(crate) fn put<F: Sink>(err: &mut F, parts: &[Part]) -> Result<(), Failed>
-    ensures { Puts F.told F.faults F.reliable err.old err.new (parts_text parts.now) result }
+    ensures { Puts F.told F.reliable err.old err.new (parts_text parts.now) result }
 {
     put_parts(err, parts)
 }
@@ -44,7 +44,7 @@ macro_rules! part {
 
 /// A text and the line feed.
 pub(crate) fn put_text<F: Sink>(err: &mut F, text: &[u8]) -> Result<(), Failed>
-    ensures { Puts F.told F.faults F.reliable err.old err.new (text.now ++ newline) result }
+    ensures { Puts F.told F.reliable err.old err.new (text.now ++ newline) result }
 {
     write_line!(err; text)
 }
@@ -56,7 +56,7 @@ pub(crate) fn put_number<'a, F: Sink>(
     n: u32,
     rest: &'a [u8],
 ) -> Result<(), Failed>
-    ensures { Puts F.told F.faults F.reliable err.old err.new (with_number label.now n rest.now) result }
+    ensures { Puts F.told F.reliable err.old err.new (with_number label.now n rest.now) result }
 {
     write_line!(err; label Number n, rest)
 }
@@ -67,7 +67,7 @@ pub(crate) fn put_name<'a, F: Sink>(
     label: &'a [u8],
     name: &'a str,
 ) -> Result<(), Failed>
-    ensures { Puts F.told F.faults F.reliable err.old err.new (with_name label.now name.now) result }
+    ensures { Puts F.told F.reliable err.old err.new (with_name label.now name.now) result }
 {
     let name = name.as_bytes();
     write_line!(err; label, name)
@@ -75,13 +75,13 @@ pub(crate) fn put_name<'a, F: Sink>(
 
 /// The line of a trap: the byte at an address that begins no instruction.
 pub(crate) fn put_trap<F: Sink>(err: &mut F, pc: u16, byte: u8) -> Result<(), Failed>
-    ensures { Puts F.told F.faults F.reliable err.old err.new (trap_line pc byte) result }
+    ensures { Puts F.told F.reliable err.old err.new (trap_line pc byte) result }
 {
     write_line!(err; b"trap: " Address pc, b" " Byte byte)
 }
 
 fn put_syntax<F: Sink>(err: &mut F, fault: &SyntaxFault) -> Result<(), Failed>
-    ensures { Puts F.told F.faults F.reliable err.old err.new (syntax_line fault.now) result }
+    ensures { Puts F.told F.reliable err.old err.new (syntax_line fault.now) result }
 {
     match fault {
         SyntaxFault::BadByte(at) => put_number(err, b"fcl: at ", *at, b": bad byte"),
@@ -97,13 +97,13 @@ fn put_syntax<F: Sink>(err: &mut F, fault: &SyntaxFault) -> Result<(), Failed>
 }
 
 fn put_kind<F: Sink>(err: &mut F, at: u32, kind: u32) -> Result<(), Failed>
-    ensures { Puts F.told F.faults F.reliable err.old err.new (load_kind at kind) result }
+    ensures { Puts F.told F.reliable err.old err.new (load_kind at kind) result }
 {
     write_line!(err; b"fcl: at " Number at, b": load " Number kind)
 }
 
 fn put_load<F: Sink>(err: &mut F, fault: &LoadFault) -> Result<(), Failed>
-    ensures { Puts F.told F.faults F.reliable err.old err.new (load_line fault.now) result }
+    ensures { Puts F.told F.reliable err.old err.new (load_line fault.now) result }
 {
     match fault {
         LoadFault::Twice(at) => put_kind(err, *at, 1),
@@ -123,7 +123,7 @@ fn put_load<F: Sink>(err: &mut F, fault: &LoadFault) -> Result<(), Failed>
 }
 
 pub(crate) fn put_fcl<F: Sink>(err: &mut F, fault: &FclFault) -> Result<(), Failed>
-    ensures { Puts F.told F.faults F.reliable err.old err.new (fcl_line fault.now) result }
+    ensures { Puts F.told F.reliable err.old err.new (fcl_line fault.now) result }
 {
     match fault {
         FclFault::Syntax(fault) => put_syntax(err, fault),
@@ -139,7 +139,7 @@ pub(crate) fn put_fcl<F: Sink>(err: &mut F, fault: &FclFault) -> Result<(), Fail
 }
 
 fn put_records<F: Sink>(err: &mut F, fault: &SrecFault) -> Result<(), Failed>
-    ensures { Puts F.told F.faults F.reliable err.old err.new (records_line fault.now) result }
+    ensures { Puts F.told F.reliable err.old err.new (records_line fault.now) result }
 {
     match fault {
         SrecFault::BadLine(line) => put_number(err, b"image: line ", *line, b": bad line"),
@@ -168,7 +168,7 @@ fn byte_part(byte: Option<u8>) -> Part<'static>
 }
 
 pub(crate) fn put_image<F: Sink>(err: &mut F, fault: &ImageFault) -> Result<(), Failed>
-    ensures { Puts F.told F.faults F.reliable err.old err.new (image_line fault.now) result }
+    ensures { Puts F.told F.reliable err.old err.new (image_line fault.now) result }
 {
     match fault {
         ImageFault::Records(fault) => put_records(err, fault),
@@ -184,7 +184,7 @@ pub(crate) fn put_image<F: Sink>(err: &mut F, fault: &ImageFault) -> Result<(), 
 
 /// A leaf on that line does not hold.
 fn put_leaf<F: Sink>(err: &mut F, line: u32, fault: &LeafFault) -> Result<(), Failed>
-    ensures { Puts F.told F.faults F.reliable err.old err.new (leaf_line line fault.now) result }
+    ensures { Puts F.told F.reliable err.old err.new (leaf_line line fault.now) result }
 {
     match fault {
         LeafFault::Weak(rule, k, low) => {
@@ -204,7 +204,7 @@ fn put_leaf<F: Sink>(err: &mut F, line: u32, fault: &LeafFault) -> Result<(), Fa
 }
 
 fn put_check<F: Sink>(err: &mut F, fault: &CheckFault) -> Result<(), Failed>
-    ensures { Puts F.told F.faults F.reliable err.old err.new (check_line fault.now) result }
+    ensures { Puts F.told F.reliable err.old err.new (check_line fault.now) result }
 {
     match fault {
         CheckFault::Outputs(got, wanted) => {
@@ -228,7 +228,7 @@ fn put_check<F: Sink>(err: &mut F, fault: &CheckFault) -> Result<(), Failed>
 }
 
 pub(crate) fn put_cert<F: Sink>(err: &mut F, fault: &CertRefusal) -> Result<(), Failed>
-    ensures { Puts F.told F.faults F.reliable err.old err.new (cert_line fault.now) result }
+    ensures { Puts F.told F.reliable err.old err.new (cert_line fault.now) result }
 {
     match fault {
         CertRefusal::Text(CertFault::BadLine(line)) => {
@@ -247,7 +247,7 @@ pub(crate) fn put_cert<F: Sink>(err: &mut F, fault: &CertRefusal) -> Result<(), 
 }
 
 pub(crate) fn put_trace<F: Sink>(err: &mut F, fault: &TraceFault) -> Result<(), Failed>
-    ensures { Puts F.told F.faults F.reliable err.old err.new (trace_line fault.now) result }
+    ensures { Puts F.told F.reliable err.old err.new (trace_line fault.now) result }
 {
     match fault {
         TraceFault::TooMany => put_text(err, b"trace: too many rows"),
@@ -260,7 +260,7 @@ pub(crate) fn put_trace<F: Sink>(err: &mut F, fault: &TraceFault) -> Result<(), 
 }
 
 pub(crate) fn put_plan<F: Sink>(err: &mut F, fault: &PlanFault) -> Result<(), Failed>
-    ensures { Puts F.told F.faults F.reliable err.old err.new (plan_line fault.now) result }
+    ensures { Puts F.told F.reliable err.old err.new (plan_line fault.now) result }
 {
     match fault {
         PlanFault::TooMany => put_text(err, b"plan: too many rows"),
@@ -274,7 +274,7 @@ pub(crate) fn put_plan<F: Sink>(err: &mut F, fault: &PlanFault) -> Result<(), Fa
 }
 
 pub(crate) fn put_upset<F: Sink>(err: &mut F, fault: &UpsetFault) -> Result<(), Failed>
-    ensures { Puts F.told F.faults F.reliable err.old err.new (upset_line fault.now) result }
+    ensures { Puts F.told F.reliable err.old err.new (upset_line fault.now) result }
 {
     match fault {
         UpsetFault::TooMany => put_text(err, b"upset: too many rows"),
@@ -288,7 +288,7 @@ pub(crate) fn put_upset<F: Sink>(err: &mut F, fault: &UpsetFault) -> Result<(), 
 }
 
 pub(crate) fn put_not_reached<F: Sink>(err: &mut F, fault: &NotReached) -> Result<(), Failed>
-    ensures { Puts F.told F.faults F.reliable err.old err.new (not_reached_line fault.now) result }
+    ensures { Puts F.told F.reliable err.old err.new (not_reached_line fault.now) result }
 {
     match fault {
         NotReached::Cell(bytes, output, bound) => {
@@ -304,7 +304,7 @@ pub(crate) fn put_not_reached<F: Sink>(err: &mut F, fault: &NotReached) -> Resul
 }
 
 pub(crate) fn put_asm<F: Sink>(err: &mut F, fault: &AsmFault) -> Result<(), Failed>
-    ensures { Puts F.told F.faults F.reliable err.old err.new (asm_line fault.now) result }
+    ensures { Puts F.told F.reliable err.old err.new (asm_line fault.now) result }
 {
     match fault {
         AsmFault::BadLine(line) => put_number(err, b"asm: line ", *line, b": bad line"),
@@ -319,13 +319,13 @@ pub(crate) fn put_asm<F: Sink>(err: &mut F, fault: &AsmFault) -> Result<(), Fail
 
 /// Why the instruction at an address is refused.
 fn put_at<'a, F: Sink>(err: &mut F, at: u16, why: &'a [u8]) -> Result<(), Failed>
-    ensures { Puts F.told F.faults F.reliable err.old err.new (at_address at why.now) result }
+    ensures { Puts F.told F.reliable err.old err.new (at_address at why.now) result }
 {
     write_line!(err; b"handler: " Address at, b": ", why)
 }
 
 pub(crate) fn put_handler<F: Sink>(err: &mut F, fault: &HandlerFault) -> Result<(), Failed>
-    ensures { Puts F.told F.faults F.reliable err.old err.new (handler_line fault.now) result }
+    ensures { Puts F.told F.reliable err.old err.new (handler_line fault.now) result }
 {
     match fault {
         HandlerFault::Empty => put_text(err, b"handler: empty"),
@@ -348,7 +348,7 @@ pub(crate) fn put_handler<F: Sink>(err: &mut F, fault: &HandlerFault) -> Result<
 
 /// The line of a fault in a file of the fast block: the usual line with `fast ` in front.
 pub(crate) fn put_fast<F: Sink>(err: &mut F, fault: &FastFault) -> Result<(), Failed>
-    ensures { Puts F.told F.faults F.reliable err.old err.new (fast_line fault.now) result }
+    ensures { Puts F.told F.reliable err.old err.new (fast_line fault.now) result }
 {
     put(err, &[Part::Text(b"fast ")])?;
     put_usual(err, fault)
@@ -356,7 +356,7 @@ pub(crate) fn put_fast<F: Sink>(err: &mut F, fault: &FastFault) -> Result<(), Fa
 
 /// The usual line of the same fault, as for the file of any block.
 fn put_usual<F: Sink>(err: &mut F, fault: &FastFault) -> Result<(), Failed>
-    ensures { Puts F.told F.faults F.reliable err.old err.new (usual_line fault.now) result }
+    ensures { Puts F.told F.reliable err.old err.new (usual_line fault.now) result }
 {
     match fault {
         FastFault::Fcl(fault) => put_fcl(err, fault),

@@ -4,7 +4,8 @@ use Rattle.std.proofs.Common.{◌∙◌, ap, subst, arith, append_assoc, add-one
 use Rattle.std.proofs.Math.Seq.{take-suc}
 use Rattle.std.proofs.lemmas.List.{map-append}
 use Rattle.std.specs.List.{All}
-use Rattle.fz_shelf.specs.{Files.Names, Files.Holds, Files.IsThere, Files.IsLong, Told.Log, Told.Counts, Faults.Rose}
+use Rattle.fz_shelf.specs.{Files.Names, Files.Holds, Files.IsThere, Files.IsLong, Told.Log, Told.Counts}
+use Rattle.fz_shelf.specs.{Told.ShelfTold, Faults.Rose}
 use Rattle.fz_shelf.specs.declared.log.Answer.TheVariants.{Whole, Missed, Long}
 use Rattle.fz_shelf.specs.declared.log.Answer.{Answer}
 use Rattle.std.specs.declared.alloc.Global.{Global}
@@ -37,85 +38,69 @@ there_at files words [] i d lt h = absurd (omega arith)
 there_at files words (p ∷ ps) zero d lt h = h.0
 there_at files words (p ∷ ps) (suc i) d lt h = there_at files words ps i d (omega arith) h.1
 
-module _ (words : List Text) (places : List ℕ) (files : Names) (c0 c1 c2 : Counts) (a0 a1 a2 : Log) (i d : ℕ)
-    (lt : i < length places) where
-  entries_more : a1 ≡ a0 ++ whole_entries words (take i places) → (entry : Log) → a2 ≡ a1 ++ entry
-      → a2 ≡ a0 ++ (whole_entries words (take i places) ++ entry)
-  entries_more so_far entry more =
-      more ∙ ap (λ (l : Log). l ++ entry) so_far ∙ append_assoc a0 (whole_entries words (take i places)) entry
+module _ {words : List Text} (places : List ℕ) {s0 s1 : ShelfTold} (s2 : ShelfTold) (i d : ℕ) (lt : i < length places)
+    {cs : List (List ℕ)} (so_far : ReadsWhole words (take i places) s0 s1 cs) where
+  entries_more : (entry : Log) → s2.asked ≡ s1.asked ++ entry
+      → s2.asked ≡ s0.asked ++ (whole_entries words (take i places) ++ entry)
+  entries_more entry more = more ∙ ap (λ (l : Log). l ++ entry) so_far.entries
+      ∙ append_assoc s0.asked (whole_entries words (take i places)) entry
 
-  more : (files' : Names) (cs : List (List ℕ)) (bytes : List ℕ)
-      → ReadsWhole words (take i places) files c0 c1 a0 a1 cs → files' ≡ files
-      → ReadsOne words (get_or places i d) files' c1 c2 a1 a2 bytes
-      → ReadsWhole words (take (i + 1) places) files c0 c2 a0 a2 (cs ++ bytes ∷ [])
-  more files' cs bytes so_far same one =
-      let held : Holds (files (word_at words (get_or places i d))) bytes =
-      subst (λ (f : Names). Holds (f (word_at words (get_or places i d))) bytes) same one.held in
-      rw (take_more places i d lt) record {
-        held = rw map-append
-            (held_more files (names_at words (take i places)) cs (word_at words (get_or places i d)) bytes so_far.held
-            held one.small);
-        counts = one.counts ∙ so_far.counts;
-        entries =
-            rw map-append (entries_more so_far.entries ((word_at words (get_or places i d), Whole) ∷ []) one.entry);
-      }
-
-  pub read_more : (files' : Names) (items items' : List (Vec ℕ Global)) (v : Vec ℕ Global)
-      → ReadsWhole words (take i places) files c0 c1 a0 a1 (bytes_of items) → files' ≡ files
-      → ReadsOne words (get_or places i d) files' c1 c2 a1 a2 v.items → items' ≡ items ++ v ∷ []
-      → ReadsWhole words (take (i + 1) places) files c0 c2 a0 a2 (bytes_of items')
-  read_more files' items items' v so_far same one added =
-      subst (λ (l : List (Vec ℕ Global)). ReadsWhole words (take (i + 1) places) files c0 c2 a0 a2 (bytes_of l))
-      (sym added) (rw map-append (more files' (bytes_of items) v.items so_far same one))
-
-  reads : (cs : List (List ℕ)) (kind : Answer) (p : ℕ) → p ≡ get_or places i d
-      → ReadsWhole words (take i places) files c0 c1 a0 a1 cs
-      → a2 ≡ a1 ++ (word_at words (get_or places i d), kind) ∷ []
-      → Reads words places p kind files a0 a2
-  reads cs kind p is so_far more = rw is record {
+  reads : (kind : Answer) (p : ℕ) → p ≡ get_or places i d
+      → s2.asked ≡ s1.asked ++ (word_at words (get_or places i d), kind) ∷ []
+      → Reads words places p kind s0.files s0.asked s2.asked
+  reads kind p is more = rw is record {
     before = take i places;
     after = drop (suc i) places;
     split = drop_here places i d lt;
     contents = cs;
     held = so_far.held;
-    asked = entries_more so_far.entries ((word_at words (get_or places i d), kind) ∷ []) more;
+    asked = entries_more ((word_at words (get_or places i d), kind) ∷ []) more;
   }
 
-  pub stops_later : (files' : Names) (cs : List (List ℕ)) (s : Stop)
-      → ReadsWhole words (take i places) files c0 c1 a0 a1 cs → files' ≡ files
-      → StopsAt words (get_or places i d) files' c1 c2 a1 a2 s → StopsBy words places files c0 c2 a0 a2 s
-  stops_later files' cs (stop.Failed p) so_far same at = (
-    reads cs Missed p at.0 so_far at.1,
-    at.2 ∙ ap (λ (k : Counts). record k { reads = c2.reads }) so_far.counts,
-    subst (λ (k : Counts). Rose k.reads c2.reads) so_far.counts at.3,
-  )
-  stops_later files' cs stop.Memory so_far same at = (
-    at.0 ∙ so_far.counts,
-    record {
-      before = take i places;
-      after = drop i places;
-      split = take-append-drop i places;
-      contents = cs;
-      held = so_far.held;
-      asked = at.1 ∙ so_far.entries;
-    },
-  )
-  stops_later files' cs (stop.TooLong p) so_far same at = (
-    reads cs Long p at.0 so_far at.1,
-    at.2 ∙ ap (λ (k : Counts). record k { longs = c2.longs }) so_far.counts,
-    subst (λ (k : Counts). Rose k.longs c2.longs) so_far.counts at.3,
-    subst (λ (q : ℕ). IsLong (files (word_at words q))) (sym at.0)
-        (subst (λ (f : Names). IsLong (f (word_at words (get_or places i d)))) same at.4),
-  )
+  module _ (same : s1.files ≡ s0.files) where
+    more : (bytes : List ℕ) → ReadsOne words (get_or places i d) s1 s2 bytes
+        → ReadsWhole words (take (i + 1) places) s0 s2 (cs ++ bytes ∷ [])
+    more bytes one =
+        let held : Holds (s0.files (word_at words (get_or places i d))) bytes =
+        subst (λ (f : Names). Holds (f (word_at words (get_or places i d))) bytes) same one.held in
+        rw (take_more places i d lt) record {
+          held = rw map-append
+              (held_more s0.files (names_at words (take i places)) cs (word_at words (get_or places i d)) bytes
+              so_far.held held one.small);
+          counts = one.counts ∙ so_far.counts;
+          entries = rw map-append (entries_more ((word_at words (get_or places i d), Whole) ∷ []) one.entry);
+        }
 
--- memory was wanted for what was read last
-pub stops_behind : (words : List Text) (places : List ℕ) (files files' : Names) (c0 c1 c2 : Counts) (a0 a1 a2 : Log)
-    (i d : ℕ) → i < length places → (cs : List (List ℕ)) (bytes : List ℕ)
-    → ReadsWhole words (take i places) files c0 c1 a0 a1 cs → files' ≡ files
-    → ReadsOne words (get_or places i d) files' c1 c2 a1 a2 bytes
-    → StopsBy words places files c0 c2 a0 a2 stop.Memory
-stops_behind words places files files' c0 c1 c2 a0 a1 a2 i d lt cs bytes so_far same one =
-    let whole = more words places files c0 c1 c2 a0 a1 a2 i d lt files' cs bytes so_far same one in (
+    pub stops_later : (s : Stop) → StopsAt words (get_or places i d) s1 s2 s
+        → StopsBy words places s0.files s0.counts s2.counts s0.asked s2.asked s
+    stops_later (stop.Failed p) at = (
+      reads Missed p at.0 at.1,
+      at.2 ∙ ap (λ (k : Counts). record k { reads = s2.counts.reads }) so_far.counts,
+      subst (λ (k : Counts). Rose k.reads s2.counts.reads) so_far.counts at.3,
+    )
+    stops_later stop.Memory at = (
+      at.0 ∙ so_far.counts,
+      record {
+        before = take i places;
+        after = drop i places;
+        split = take-append-drop i places;
+        contents = cs;
+        held = so_far.held;
+        asked = at.1 ∙ so_far.entries;
+      },
+    )
+    stops_later (stop.TooLong p) at = (
+      reads Long p at.0 at.1,
+      at.2 ∙ ap (λ (k : Counts). record k { longs = s2.counts.longs }) so_far.counts,
+      subst (λ (k : Counts). Rose k.longs s2.counts.longs) so_far.counts at.3,
+      subst (λ (q : ℕ). IsLong (s0.files (word_at words q))) (sym at.0)
+          (subst (λ (f : Names). IsLong (f (word_at words (get_or places i d)))) same at.4),
+    )
+
+    -- memory was wanted for what was read last
+    pub stops_behind : (bytes : List ℕ) → ReadsOne words (get_or places i d) s1 s2 bytes
+        → StopsBy words places s0.files s0.counts s2.counts s0.asked s2.asked stop.Memory
+    stops_behind bytes one = let whole = more bytes one in (
       whole.counts,
       record {
         before = take (i + 1) places;
@@ -126,6 +111,14 @@ stops_behind words places files files' c0 c1 c2 a0 a1 a2 i d lt cs bytes so_far 
         asked = whole.entries;
       },
     )
+
+pub read_more : {words : List Text} (places : List ℕ) {s0 s1 s2 : ShelfTold} (i d : ℕ) → i < length places
+    → (items items' : List (Vec ℕ Global)) (v : Vec ℕ Global) → ReadsWhole words (take i places) s0 s1 (bytes_of items)
+    → s1.files ≡ s0.files → ReadsOne words (get_or places i d) s1 s2 v.items
+    → items' ≡ items ++ v ∷ [] → ReadsWhole words (take (i + 1) places) s0 s2 (bytes_of items')
+read_more {words} places {s0} {s1} {s2} i d lt items items' v so_far same one added =
+    subst (λ (l : List (Vec ℕ Global)). ReadsWhole words (take (i + 1) places) s0 s2 (bytes_of l))
+    (sym added) (rw map-append (more places s2 i d lt so_far same v.items one))
 
 pub there_later : (files files' : Names) (words : List Text) (places : List ℕ) (i : ℕ) (d : ℕ) → i < length places
     → files' ≡ files → AreThere files (names_at words places)

@@ -4,7 +4,6 @@ use Rattle.std.proofs.Common.{ap₂, subst, arith}
 use Rattle.std.specs.Prelude.{Option, Some, None, Result, Ok, Err}
 use Rattle.std.proofs.lemmas.List.{append-nil}
 use Rattle.std.specs.List.{concat}
-use Rattle.fz_shelf.specs.{Told.Taken, Told.HasRoom, Told.Log, Told.Counts}
 use Rattle.fz_shelf.specs.Files.{File, IsThere, IsLong, Holds, Names, known as known_file}
 use Rattle.std.specs.declared.alloc.Global.{Global}
 use Rattle.std.specs.declared.vec.Vec.{Vec}
@@ -17,7 +16,7 @@ use Rattle.fz_top.specs.Reads.{ReadsWhole, AreHeld, AreThere, names_at}
 use Rattle.fz_top.specs.Runs.{HasNoFault, HasOneResult, Faulted, IsMade, IsReadFault, IsTooLong, OutOfMemory}
 use Rattle.fz_top.specs.Runs.{read_whole, IsWriteFault, Settles, status_of, IsReady, AreKnown, FileFits, Worked, Delivered}
 use Rattle.fz_top.specs.Runs.{WriteFailed, PutFailed, ChangesOnly, Runs}
-use Rattle.fz_shelf.specs.Told.{World, world}
+use Rattle.fz_shelf.specs.Told.{Counts, HasRoom, Log, ShelfTold, SinkTold, World, world}
 use Rattle.fz_top.specs.declared.reading.Stop.TheVariants as stop
 use Rattle.fz_status.specs.declared.status.Status.{Status}
 use Rattle.fz_status.specs.declared.status.Status.TheVariants as status
@@ -25,12 +24,12 @@ use Rattle.fz_top.proofs.StatusLemmas.{Kind, done, failed_read, failed_write, ki
 use Rattle.fz_top.proofs.StatusLemmas.{no_memory, of_contents}
 
 -- what was read and made, before anything is written
-pub record Made (words : List Text) (f0 f1 : Names) (k0 k1 : Counts) (a0 a1 : Log) (output : SeenOutput) : Type 0 where
+pub record Made (words : List Text) (s0 s1 : ShelfTold) (output : SeenOutput) : Type 0 where
   pub command : Command
   pub is : command_in words ≡ Some command
   pub contents : List (List ℕ)
-  pub files : f1 ≡ f0
-  pub whole : ReadsWhole words (inputs_of command) f0 k0 k1 a0 a1 contents
+  pub files : s1.files ≡ s0.files
+  pub whole : ReadsWhole words (inputs_of command) s0 s1 contents
   pub outcome : Makes command contents (Ok output)
 
 -- memory was wanted behind that
@@ -80,36 +79,29 @@ module _ (words : List Text) (files : Names) (command : Command) (contents : Lis
       let all = known_held files (names_at words (inputs_of command)) contents cs known (rw same at held) in
       rw all at (rw same at makes)
 
-module _ {words : List Text} {f0 f1 : Names} {k0 k1 : Counts} {a0 a1 : Log} where
+module _ {words : List Text} {s0 s1 : ShelfTold} where
   pub make : {command : Command} {places : List ℕ} {contents slice : List (Vec ℕ Global)} {output : SeenOutput}
-      → command_in words ≡ Some command → f1 ≡ f0 → places ≡ inputs_of command
-      → ReadsWhole words places f0 k0 k1 a0 a1 (bytes_of contents) → slice ≡ contents
-      → Makes command (bytes_of slice) (Ok output) → Made words f0 f1 k0 k1 a0 a1 output
+      → command_in words ≡ Some command → s1.files ≡ s0.files → places ≡ inputs_of command
+      → ReadsWhole words places s0 s1 (bytes_of contents) → slice ≡ contents
+      → Makes command (bytes_of slice) (Ok output) → Made words s0 s1 output
   make {command} {places} {contents} {slice} {output} is files at whole same outcome = record {
     command = command;
     is = is;
     contents = bytes_of contents;
     files = files;
-    whole = subst (λ (ps : List ℕ). ReadsWhole words ps f0 k0 k1 a0 a1 (bytes_of contents)) at whole;
+    whole = subst (λ (ps : List ℕ). ReadsWhole words ps s0 s1 (bytes_of contents)) at whole;
     outcome = subst (λ (cs : List (Vec ℕ Global)). Makes command (bytes_of cs) (Ok output)) same outcome;
   }
 
-module _ (words : List Text) (f0 f1 : Names) (k0 k1 : Counts) (a0 a1 : Log) (t0 : Option Taken) (e0 : ℕ) where
-  -- what shelf and out tell at first, and when files were read
-  abbrev old : World
-  old = world f0 k0 a0 t0 e0
-
-  abbrev read : World
-  read = world f1 k1 a1 t0 e0
-
+module _ {words : List Text} {s0 s1 : ShelfTold} (o : SinkTold) where
   -- the files were read whole, and nothing else was done
-  left_by : (command : Command) (contents : List (List ℕ)) → f1 ≡ f0
-      → ReadsWhole words (inputs_of command) f0 k0 k1 a0 a1 contents → read ≡ read_whole words command old
+  left_by : (command : Command) (contents : List (List ℕ)) → s1.files ≡ s0.files
+      → ReadsWhole words (inputs_of command) s0 s1 contents → world s1 o ≡ read_whole words command (world s0 o)
   left_by command contents files whole =
-      ap (λ (f : Names). world f k1 a1 t0 e0) files
-      ∙ ap₂ (λ (k : Counts) (a : Log). world f0 k a t0 e0) whole.counts whole.entries
+      ap (λ (f : Names). world (record s1 { files = f }) o) files
+      ∙ ap₂ (λ (k : Counts) (a : Log). world (record s0 { counts = k; asked = a }) o) whole.counts whole.entries
 
-  abbrev worked : {output : SeenOutput} → Made words f0 f1 k0 k1 a0 a1 output → Worked words old (Ok output)
+  abbrev worked : {output : SeenOutput} → Made words s0 s1 output → Worked words (world s0 o) (Ok output)
   worked made = record {
     command = made.command;
     is = made.is;
@@ -118,18 +110,19 @@ module _ (words : List Text) (f0 f1 : Names) (k0 k1 : Counts) (a0 a1 : Log) (t0 
     outcome = made.outcome;
   }
 
-  behind : {output : SeenOutput} (made : Made words f0 f1 k0 k1 a0 a1 output)
-      → read ≡ read_whole words made.command old
+  behind : {output : SeenOutput} (made : Made words s0 s1 output)
+      → world s1 o ≡ read_whole words made.command (world s0 o)
   behind made = left_by made.command made.contents made.files made.whole
 
-  pub ran : {output : SeenOutput} → Made words f0 f1 k0 k1 a0 a1 output → (new : World)
-      → Delivered words output read new → Runs words old new status.Ok
+  pub ran : {output : SeenOutput} → Made words s0 s1 output → (new : World) → Delivered words output (world s1 o) new
+      → Runs words (world s0 o) new status.Ok
   ran {output} made new d =
       (output, worked made, subst (λ (w : World). Delivered words output w new) (behind made) d)
 
-  pub broke : {output : SeenOutput} → Made words f0 f1 k0 k1 a0 a1 output → (new : World)
-      → ChangesOnly words output.file f1 new.files
-      → WriteFailed words output read new ⊎ PutFailed words output read new → Runs words old new status.WriteFault
+  pub broke : {output : SeenOutput} → Made words s0 s1 output → (new : World)
+      → ChangesOnly words output.file s1.files new.files
+      → WriteFailed words output (world s1 o) new ⊎ PutFailed words output (world s1 o) new
+      → Runs words (world s0 o) new status.WriteFault
   broke {output} made new only why = (
     output,
     worked made,
@@ -137,25 +130,25 @@ module _ (words : List Text) (f0 f1 : Names) (k0 k1 : Counts) (a0 a1 : Log) (t0 
     subst (λ (w : World). WriteFailed words output w new ⊎ PutFailed words output w new) (behind made) why,
   )
 
-  pub wanted : {output : SeenOutput} → Made words f0 f1 k0 k1 a0 a1 output → (new : World) → new ≡ read
-      → Runs words old new status.Memory
-  wanted made new same = subst (λ (w : World). OutOfMemory words old w) (sym (same ∙ behind made))
-      (no_memory_behind words made.command old made.contents made.is made.whole.held)
+  pub wanted : {output : SeenOutput} → Made words s0 s1 output → (new : World) → new ≡ world s1 o
+      → Runs words (world s0 o) new status.Memory
+  wanted made new same = subst (λ (w : World). OutOfMemory words (world s0 o) w) (sym (same ∙ behind made))
+      (no_memory_behind words made.command (world s0 o) made.contents made.is made.whole.held)
 
   -- the contents were refused, or memory was wanted for what they make
   pub stopped : {command : Command} {places : List ℕ} {contents slice : List (Vec ℕ Global)} (s : Status)
-      → command_in words ≡ Some command → f1 ≡ f0 → places ≡ inputs_of command
-      → ReadsWhole words places f0 k0 k1 a0 a1 (bytes_of contents) → slice ≡ contents
-      → IsFaultOf (Makes command (bytes_of slice)) s → Runs words old read s
+      → command_in words ≡ Some command → s1.files ≡ s0.files → places ≡ inputs_of command
+      → ReadsWhole words places s0 s1 (bytes_of contents) → slice ≡ contents
+      → IsFaultOf (Makes command (bytes_of slice)) s → Runs words (world s0 o) (world s1 o) s
   stopped {command} {places} {contents} {slice} s is files at whole same fault = go s (kind_of s) fault
     where
-      all : ReadsWhole words (inputs_of command) f0 k0 k1 a0 a1 (bytes_of contents)
-      all = subst (λ (ps : List ℕ). ReadsWhole words ps f0 k0 k1 a0 a1 (bytes_of contents)) at whole
+      all : ReadsWhole words (inputs_of command) s0 s1 (bytes_of contents)
+      all = subst (λ (ps : List ℕ). ReadsWhole words ps s0 s1 (bytes_of contents)) at whole
 
-      left : read ≡ read_whole words command old
+      left : world s1 o ≡ read_whole words command (world s0 o)
       left = left_by command (bytes_of contents) files all
 
-      faulted : (t : Status) → Makes command (bytes_of slice) (Err t) → Faulted words old read t
+      faulted : (t : Status) → Makes command (bytes_of slice) (Err t) → Faulted words (world s0 o) (world s1 o) t
       faulted t makes = record {
         worked = record {
           command = command;
@@ -167,22 +160,22 @@ module _ (words : List Text) (f0 f1 : Names) (k0 k1 : Counts) (a0 a1 : Log) (t0 
         left = left;
       }
 
-      go : (t : Status) → Kind t → IsFaultOf (Makes command (bytes_of slice)) t → Runs words old read t
+      go : (t : Status) → Kind t → IsFaultOf (Makes command (bytes_of slice)) t → Runs words (world s0 o) (world s1 o) t
       go _ done fault = absurd fault
       go _ no_command fault = absurd fault
       go _ (failed_read p) fault = absurd fault
       go _ failed_write fault = absurd fault
-      go _ no_memory fault = subst (λ (w : World). OutOfMemory words old w) (sym left)
-          (no_memory_behind words command old (bytes_of contents) is all.held)
+      go _ no_memory fault = subst (λ (w : World). OutOfMemory words (world s0 o) w) (sym left)
+          (no_memory_behind words command (world s0 o) (bytes_of contents) is all.held)
       go _ (long_read p) fault = absurd fault
       go _ (of_contents t of) fault = of.runs words _ _ (faulted t (of.made command (bytes_of slice) fault))
 
-  pub room_of : {output : SeenOutput} → Made words f0 f1 k0 k1 a0 a1 output → (command : Command)
-      (contents : List (List ℕ)) → IsReady words old command contents
-      → FileFits words output.file f1 × HasRoom t0 (length (concat output.lines))
+  pub room_of : {output : SeenOutput} → Made words s0 s1 output → (command : Command) (contents : List (List ℕ))
+      → IsReady words (world s0 o) command contents
+      → FileFits words output.file s1.files × HasRoom o.taken (length (concat output.lines))
   room_of {output} made command contents ready =
       let room = ready.room output
-      (makes_same words f0 command contents ready.is ready.known made.command made.contents (Ok output) made.is
+      (makes_same words s0.files command contents ready.is ready.known made.command made.contents (Ok output) made.is
       made.whole.held made.outcome) in
       (subst (λ (f : Names). FileFits words output.file f) (sym made.files) room.0, room.1)
 

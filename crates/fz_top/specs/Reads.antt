@@ -1,7 +1,8 @@
 -- What the reads of a command's files leave.
 -- Beside the promise.
 use Rattle.std.specs.Prelude.{◌≡◌, ◌≤◌, ℕ, List, [], ◌∷◌, ◌++◌, map, length}
-use Rattle.fz_shelf.specs.{Faults.Rose, Told.Log, Told.Counts, Files.Names, Files.Holds, Files.IsLong, Files.IsThere}
+use Rattle.fz_shelf.specs.{Faults.Rose, Told.Log, Told.Counts, Told.ShelfTold, Files.Names, Files.Holds, Files.IsLong}
+use Rattle.fz_shelf.specs.Files.{IsThere}
 use Rattle.fz_shelf.specs.declared.log.Answer.{Answer}
 use Rattle.fz_shelf.specs.declared.log.Answer.TheVariants.{Whole, Missed, Long}
 use Rattle.fz_status.specs.Words.{Text, word_at}
@@ -46,22 +47,22 @@ pub record ReadsFirst (words : List Text) (places : List ℕ) (files : Names) (o
   pub asked : new ≡ old ++ whole_entries words before
 
 -- why one read stopped
-abbrev pub StopsAt : List Text → ℕ → Names → Counts → Counts → Log → Log → Stop → Type 0
-StopsAt words place files old new asked asked' (stop.Failed p) =
-    (p ≡ place) × (asked' ≡ asked ++ (word_at words place, Missed) ∷ [])
-    × (new ≡ record old { reads = new.reads }) × Rose old.reads new.reads
-StopsAt words place files old new asked asked' (stop.TooLong p) =
-    (p ≡ place) × (asked' ≡ asked ++ (word_at words place, Long) ∷ [])
-    × (new ≡ record old { longs = new.longs }) × Rose old.longs new.longs × IsLong (files (word_at words place))
-StopsAt words place files old new asked asked' stop.Memory = (new ≡ old) × (asked' ≡ asked)
+abbrev pub StopsAt : List Text → ℕ → ShelfTold → ShelfTold → Stop → Type 0
+StopsAt words place old new (stop.Failed p) =
+    (p ≡ place) × (new.asked ≡ old.asked ++ (word_at words place, Missed) ∷ [])
+    × (new.counts ≡ record old.counts { reads = new.counts.reads }) × Rose old.counts.reads new.counts.reads
+StopsAt words place old new (stop.TooLong p) =
+    (p ≡ place) × (new.asked ≡ old.asked ++ (word_at words place, Long) ∷ [])
+    × (new.counts ≡ record old.counts { longs = new.counts.longs }) × Rose old.counts.longs new.counts.longs
+    × IsLong (old.files (word_at words place))
+StopsAt words place old new stop.Memory = (new.counts ≡ old.counts) × (new.asked ≡ old.asked)
 
 -- one read was whole
-pub record ReadsOne (words : List Text) (place : ℕ) (files : Names) (old new : Counts) (asked asked' : Log)
-    (bytes : List ℕ) : Type 0 where
-  pub held : Holds (files (word_at words place)) bytes
+pub record ReadsOne (words : List Text) (place : ℕ) (old new : ShelfTold) (bytes : List ℕ) : Type 0 where
+  pub held : Holds (old.files (word_at words place)) bytes
   pub small : length bytes ≤ 1048576
-  pub counts : new ≡ old
-  pub entry : asked' ≡ asked ++ (word_at words place, Whole) ∷ []
+  pub counts : new.counts ≡ old.counts
+  pub entry : new.asked ≡ old.asked ++ (word_at words place, Whole) ∷ []
 
 -- why the reads stopped: the count of that fault rose in this call, and no other, or memory was wanted
 abbrev pub StopsBy : List Text → List ℕ → Names → Counts → Counts → Log → Log → Stop → Type 0
@@ -73,11 +74,11 @@ StopsBy words places files old new asked asked' (stop.TooLong p) =
 StopsBy words places files old new asked asked' stop.Memory = (new ≡ old) × ReadsFirst words places files asked asked'
 
 -- the reads were all whole
-pub record ReadsWhole (words : List Text) (places : List ℕ) (files : Names) (old new : Counts) (asked asked' : Log)
-    (contents : List (List ℕ)) : Type 0 where
-  pub held : AreHeld files (names_at words places) contents
-  pub counts : new ≡ old
-  pub entries : asked' ≡ asked ++ whole_entries words places
+pub record ReadsWhole (words : List Text) (places : List ℕ) (old new : ShelfTold) (contents : List (List ℕ))
+    : Type 0 where
+  pub held : AreHeld old.files (names_at words places) contents
+  pub counts : new.counts ≡ old.counts
+  pub entries : new.asked ≡ old.asked ++ whole_entries words places
 
 abbrev pub IsFailedRead : Stop → Type 0
 IsFailedRead (stop.Failed p) = Unit {0}

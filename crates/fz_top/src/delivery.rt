@@ -18,24 +18,20 @@ pub(crate) fn deliver<S: Shelf, O: Sink>(
     out: &mut O,
 ) -> Result<(), WriteError>
     ensures others { ChangesOnly (texts_of words.now) (seen_output output.now).file
-        (S.files shelf.old) (S.files shelf.new) }
+        (S.told shelf.old).files (S.told shelf.new).files }
     ensures done { OnOk result (Delivered (texts_of words.now) (seen_output output.now)
-        (world (S.files shelf.old) (S.counts shelf.old) (S.asked shelf.old) (O.told out.old) (O.faults out.old))
-        (world (S.files shelf.new) (S.counts shelf.new) (S.asked shelf.new) (O.told out.new) (O.faults out.new))) }
+        (world (S.told shelf.old) (O.told out.old)) (world (S.told shelf.new) (O.told out.new))) }
     ensures failed { IsErrOf result WriteError.Failed → WriteFailed (texts_of words.now) (seen_output output.now)
-        (world (S.files shelf.old) (S.counts shelf.old) (S.asked shelf.old) (O.told out.old) (O.faults out.old))
-        (world (S.files shelf.new) (S.counts shelf.new) (S.asked shelf.new) (O.told out.new) (O.faults out.new))
+        (world (S.told shelf.old) (O.told out.old)) (world (S.told shelf.new) (O.told out.new))
         ⊎ PutFailed (texts_of words.now) (seen_output output.now)
-        (world (S.files shelf.old) (S.counts shelf.old) (S.asked shelf.old) (O.told out.old) (O.faults out.old))
-        (world (S.files shelf.new) (S.counts shelf.new) (S.asked shelf.new) (O.told out.new) (O.faults out.new)) }
+        (world (S.told shelf.old) (O.told out.old)) (world (S.told shelf.new) (O.told out.new)) }
     ensures memory { IsErrOf result WriteError.Memory
-        → world (S.files shelf.new) (S.counts shelf.new) (S.asked shelf.new) (O.told out.new) (O.faults out.new)
-        ≡ world (S.files shelf.old) (S.counts shelf.old) (S.asked shelf.old) (O.told out.old) (O.faults out.old) }
+        → world (S.told shelf.new) (O.told out.new) ≡ world (S.told shelf.old) (O.told out.old) }
     ensures shelf_reliable { S.reliable shelf.old → S.reliable shelf.new }
     ensures out_reliable { O.reliable out.old → O.reliable out.new }
     ensures steady { S.reliable shelf.old → O.reliable out.old
-        → FileFits (texts_of words.now) (seen_output output.now).file (S.files shelf.old)
-        → HasRoom (O.told out.old) (length (concat (seen_output output.now).lines))
+        → FileFits (texts_of words.now) (seen_output output.now).file (S.told shelf.old).files
+        → HasRoom (O.told out.old).taken (length (concat (seen_output output.now).lines))
         → IsErrOf result WriteError.Failed → ⊥ }
 {
     if let Some((place, bytes)) = &output.file {

@@ -23,16 +23,13 @@ use std::alloc::Global;
 /// Runs the command of the words.
 fn run<S: Shelf, O: Sink>(alloc: Global, words: &[String], shelf: &mut S, out: &mut O) -> Status
     ensures runs { Runs (texts_of words.now)
-        (world (S.files shelf.old) (S.counts shelf.old) (S.asked shelf.old) (O.told out.old) (O.faults out.old))
-        (world (S.files shelf.new) (S.counts shelf.new) (S.asked shelf.new) (O.told out.new) (O.faults out.new))
-        result }
+        (world (S.told shelf.old) (O.told out.old)) (world (S.told shelf.new) (O.told out.new)) result }
     ensures law { (command_in (texts_of words.now) ≡ None) ↔ IsUsage (texts_of words.now) }
     ensures reads_steady { S.reliable shelf.old → (command : Command) → command_in (texts_of words.now) ≡ Some command
-        → AreThere (S.files shelf.old) (names_at (texts_of words.now) (inputs_of command)) → IsReadFault result → ⊥ }
+        → AreThere (S.told shelf.old).files (names_at (texts_of words.now) (inputs_of command))
+        → IsReadFault result → ⊥ }
     ensures writes_steady { S.reliable shelf.old → O.reliable out.old → (command : Command) (contents : List (List ℕ))
-        → IsReady (texts_of words.now)
-        (world (S.files shelf.old) (S.counts shelf.old) (S.asked shelf.old) (O.told out.old) (O.faults out.old))
-        command contents
+        → IsReady (texts_of words.now) (world (S.told shelf.old) (O.told out.old)) command contents
         → IsWriteFault result → ⊥ }
     ensures shelf_reliable { S.reliable shelf.old → S.reliable shelf.new }
     ensures out_reliable { O.reliable out.old → O.reliable out.new }
@@ -72,21 +69,15 @@ pub fn fuzz12<S: Shelf, O: Sink, F: Sink>(
 ) -> Status
     // each status with its cause, and what was read, written and put
     ensures runs { Runs (texts_of words.now)
-        (world (S.files shelf.old) (S.counts shelf.old) (S.asked shelf.old) (O.told out.old) (O.faults out.old))
-        (world (S.files shelf.new) (S.counts shelf.new) (S.asked shelf.new) (O.told out.new) (O.faults out.new))
-        result }
+        (world (S.told shelf.old) (O.told out.old)) (world (S.told shelf.new) (O.told out.new)) result }
 
     // with the words of `run`, `run16`, `trun` or `trun16` and Ok the program's one sentence holds
     ensures promise { OkKeepsPromise (texts_of words.now)
-        (world (S.files shelf.old) (S.counts shelf.old) (S.asked shelf.old) (O.told out.old) (O.faults out.old))
-        (world (S.files shelf.new) (S.counts shelf.new) (S.asked shelf.new) (O.told out.new) (O.faults out.new))
-        result }
+        (world (S.told shelf.old) (O.told out.old)) (world (S.told shelf.new) (O.told out.new)) result }
 
     // with the words of another command that runs firmware and Ok the machine serves what its lines tell
     ensures others { OkServes (texts_of words.now)
-        (world (S.files shelf.old) (S.counts shelf.old) (S.asked shelf.old) (O.told out.old) (O.faults out.old))
-        (world (S.files shelf.new) (S.counts shelf.new) (S.asked shelf.new) (O.told out.new) (O.faults out.new))
-        result }
+        (world (S.told shelf.old) (O.told out.old)) (world (S.told shelf.new) (O.told out.new)) result }
 
     // want of memory has the status of its own alone
     ensures carried { CarriesNoMemory result }
@@ -96,44 +87,38 @@ pub fn fuzz12<S: Shelf, O: Sink, F: Sink>(
     ensures usage_always { IsUsage (texts_of words.now) → (result ≡ Status.Usage) ⊎ (result ≡ Status.Memory) }
 
     // a file that the shelf tells as too long, those before it being read
-    ensures too_long { (place : ℕ) → IsTooLong (texts_of words.now) (S.files shelf.old) place
+    ensures too_long { (place : ℕ) → IsTooLong (texts_of words.now) (S.told shelf.old).files place
         → (result ≡ Status.TooLong place) ⊎ (IsReadFault result ⊎ (result ≡ Status.Memory)) }
 
     // contents that the shelf tells settle the status: it is that of their one result
     ensures settled { (command : Command) (contents : List (List ℕ)) → command_in (texts_of words.now) ≡ Some command
-        → AreKnown (S.files shelf.old) (names_at (texts_of words.now) (inputs_of command)) contents
+        → AreKnown (S.told shelf.old).files (names_at (texts_of words.now) (inputs_of command)) contents
         → Settles (Makes command contents) result }
     ensures complete { S.reliable shelf.old → O.reliable out.old → (command : Command) (contents : List (List ℕ))
-        → IsReady (texts_of words.now)
-        (world (S.files shelf.old) (S.counts shelf.old) (S.asked shelf.old) (O.told out.old) (O.faults out.old))
-        command contents
+        → IsReady (texts_of words.now) (world (S.told shelf.old) (O.told out.old)) command contents
         → IsMade (Makes command contents) result ⊎ (result ≡ Status.Memory) }
 
     // where the contents are accepted it is done, unless a count rose, and also where the shelf and out
     // are reliable with room
     ensures done { (command : Command) (contents : List (List ℕ))
-        → CanBeDone (texts_of words.now) (S.files shelf.old) command contents
-        → HasNoFault
-        (world (S.files shelf.old) (S.counts shelf.old) (S.asked shelf.old) (O.told out.old) (O.faults out.old))
-        (world (S.files shelf.new) (S.counts shelf.new) (S.asked shelf.new) (O.told out.new) (O.faults out.new))
+        → CanBeDone (texts_of words.now) (S.told shelf.old).files command contents
+        → HasNoFault (world (S.told shelf.old) (O.told out.old)) (world (S.told shelf.new) (O.told out.new))
         ⊎ (S.reliable shelf.old × O.reliable out.old
-        × RoomFor (texts_of words.now) (S.files shelf.old) (O.told out.old) (Makes command contents))
+        × RoomFor (texts_of words.now) (S.told shelf.old).files (O.told out.old).taken (Makes command contents))
         → (result ≡ Status.Ok) ⊎ (result ≡ Status.Memory) }
 
     // and a run whose files are accepted is done, unless a count rose
     ensures accepted { AcceptedIsDone (texts_of words.now)
-        (world (S.files shelf.old) (S.counts shelf.old) (S.asked shelf.old) (O.told out.old) (O.faults out.old))
-        (world (S.files shelf.new) (S.counts shelf.new) (S.asked shelf.new) (O.told out.new) (O.faults out.new))
+        (world (S.told shelf.old) (O.told out.old)) (world (S.told shelf.new) (O.told out.new))
         (S.reliable shelf.old × O.reliable out.old) result }
 
     // err
-    ensures quiet { result ≡ Status.Ok → (F.told err.new ≡ F.told err.old) × (F.faults err.new ≡ F.faults err.old) }
+    ensures quiet { result ≡ Status.Ok → F.told err.new ≡ F.told err.old }
     ensures line { (result ≡ Status.Ok → ⊥)
-        → Complains (error_line_of (texts_of words.now) result) (F.told err.old) (F.told err.new)
-        (F.faults err.old) (F.faults err.new) }
+        → Complains (error_line_of (texts_of words.now) result) (F.told err.old) (F.told err.new) }
     ensures err_steady { F.reliable err.old
-        → HasRoom (F.told err.old) (length (error_line_of (texts_of words.now) result))
-        → F.told err.new ≡ gained (F.told err.old) (error_line_of (texts_of words.now) result) }
+        → HasRoom (F.told err.old).taken (length (error_line_of (texts_of words.now) result))
+        → (F.told err.new).taken ≡ gained (F.told err.old).taken (error_line_of (texts_of words.now) result) }
 
     ensures shelf_reliable { S.reliable shelf.old → S.reliable shelf.new }
     ensures out_reliable { O.reliable out.old → O.reliable out.new }

@@ -34,13 +34,12 @@ fn read_one<S: Shelf>(
     words: &[String],
     place: u32,
 ) -> Result<Vec<u8>, Stop>
-    ensures files { S.files shelf.new ≡ S.files shelf.old }
-    ensures whole { IfOk result (λ bytes. ReadsOne (texts_of words.now) place (S.files shelf.old)
-        (S.counts shelf.old) (S.counts shelf.new) (S.asked shelf.old) (S.asked shelf.new) bytes.items) }
-    ensures stops { IfErr result (StopsAt (texts_of words.now) place (S.files shelf.old)
-        (S.counts shelf.old) (S.counts shelf.new) (S.asked shelf.old) (S.asked shelf.new)) }
+    ensures files { (S.told shelf.new).files ≡ (S.told shelf.old).files }
+    ensures whole { IfOk result (λ bytes. ReadsOne (texts_of words.now) place
+        (S.told shelf.old) (S.told shelf.new) bytes.items) }
+    ensures stops { IfErr result (StopsAt (texts_of words.now) place (S.told shelf.old) (S.told shelf.new)) }
     ensures reliable { S.reliable shelf.old → S.reliable shelf.new }
-    ensures steady { S.reliable shelf.old → IsThere (S.files shelf.old (word_at (texts_of words.now) place))
+    ensures steady { S.reliable shelf.old → IsThere ((S.told shelf.old).files (word_at (texts_of words.now) place))
         → IfErr result (λ s. IsFailedRead s → ⊥) }
 {
     let mut bytes = Vec::new(alloc);
@@ -59,14 +58,15 @@ pub(crate) fn read_all<S: Shelf>(
     words: &[String],
     places: &[u32],
 ) -> Result<Vec<Vec<u8>>, Stop>
-    ensures files { S.files shelf.new ≡ S.files shelf.old }
-    ensures whole { IfOk result (λ contents. ReadsWhole (texts_of words.now) places.now (S.files shelf.old)
-        (S.counts shelf.old) (S.counts shelf.new) (S.asked shelf.old) (S.asked shelf.new) (bytes_of contents.items)) }
+    ensures files { (S.told shelf.new).files ≡ (S.told shelf.old).files }
+    ensures whole { IfOk result (λ contents. ReadsWhole (texts_of words.now) places.now
+        (S.told shelf.old) (S.told shelf.new) (bytes_of contents.items)) }
     ensures small { IfOk result (λ contents. All (λ c. length c.items ≤ 1048576) contents.items) }
-    ensures stops { IfErr result (StopsBy (texts_of words.now) places.now (S.files shelf.old)
-        (S.counts shelf.old) (S.counts shelf.new) (S.asked shelf.old) (S.asked shelf.new)) }
+    ensures stops { IfErr result (StopsBy (texts_of words.now) places.now (S.told shelf.old).files
+        (S.told shelf.old).counts (S.told shelf.new).counts (S.told shelf.old).asked (S.told shelf.new).asked) }
     ensures reliable { S.reliable shelf.old → S.reliable shelf.new }
-    ensures steady { S.reliable shelf.old → AreThere (S.files shelf.old) (names_at (texts_of words.now) places.now)
+    ensures steady { S.reliable shelf.old
+        → AreThere (S.told shelf.old).files (names_at (texts_of words.now) places.now)
         → IfErr result (λ s. IsFailedRead s → ⊥) }
 {
     let mut contents = Vec::new(alloc);

@@ -1,7 +1,7 @@
 -- What a call is to leave, and how what it left differs.
 -- Beside the promise.
-use Rattle.std.specs.Prelude.{◌≡◌, ◌≢◌, ℕ, List, [], codes, Option, Some, option_map}
-use Rattle.fz_shelf.specs.Told.{Taken}
+use Rattle.std.specs.Prelude.{◌≡◌, ◌≢◌, ℕ, List, [], codes, Some, option_map}
+use Rattle.fz_shelf.specs.Told.{SinkTold}
 use Rattle.test_program_calls.specs.declared.difference.Difference.{Difference}
 use Rattle.test_program_calls.specs.declared.difference.Difference.TheVariants as difference
 use Rattle.test_program_calls.specs.declared.left.Left.{Left}
@@ -23,17 +23,17 @@ err_left (left.Refused code line) = line.now
 err_left (left.Broken part) = codes "write fault\n"
 
 -- a sink took these bytes in all
-abbrev pub Took : Option Taken → List ℕ → Type 0
-Took told bytes = option_map (λ t. t.bytes) told ≡ Some bytes
+abbrev pub Took : SinkTold → List ℕ → Type 0
+Took told bytes = option_map (λ t. t.bytes) told.taken ≡ Some bytes
 
 -- a call with this status left this, as out and err tell
-pub record Leaves (number : ℕ) (out err : Option Taken) (left : Left) : Type 0 where
+pub record Leaves (number : ℕ) (out err : SinkTold) (left : Left) : Type 0 where
   pub code : number ≡ code_left left
   pub output : Took out (out_left left)
   pub complaint : Took err (err_left left)
 
 -- the first difference, on err, on out or in the status, or memory was wanted
-abbrev pub IsFirstDifference : ℕ → Option Taken → Option Taken → Left → Difference → Type 0
+abbrev pub IsFirstDifference : ℕ → SinkTold → SinkTold → Left → Difference → Type 0
 IsFirstDifference code out err left (difference.Err text) = Took err (err_left left) → ⊥
 IsFirstDifference code out err left (difference.Out text) = Took err (err_left left) × (Took out (out_left left) → ⊥)
 IsFirstDifference code out err left (difference.Status n) =

@@ -1,23 +1,22 @@
 //! Calls of the program.
 ghost use Rattle.std.specs.Prelude.{◌≡◌, ◌∷◌, [], codes, IfErr, IfOk, OnOk};
-ghost use Rattle.fz_shelf.specs.{Fakes.failing_puts_of, Fakes.most_of, MemFiles.file_in};
+ghost use Rattle.fz_shelf.specs.Fakes.{failing_puts_of, most_of, shelf_told, sink_told, told_first};
 ghost use Rattle.fz_status.specs.Words.{texts_of};
 ghost use Rattle.test_program_calls.specs.Calls.{AnswersCode, CallDiffers, CallLeaves, Called, LeavesBehind};
-ghost use Rattle.test_program_calls.specs.Calls.{none_counted, nothing_taken, told, words_in};
+ghost use Rattle.test_program_calls.specs.Calls.{nothing_taken, words_in};
 ghost use Rattle.test_program_calls.specs.Files.{file_with};
 ghost use Rattle.test_texts.specs.Parts.{text_of_parts};
 
 use crate::comparison::compare;
 use crate::files::{Faults, NONE, numbers, push_file, shelf_of};
 use crate::{Difference, Left};
-use fz_shelf::{MemShelf, MemSink, Shelf, Sink};
+use fz_shelf::{MemShelf, MemSink};
 use fz_top::fuzz12;
 use std::alloc::{AllocError, Global};
 
 /// A sink that has taken nothing yet, in which the puts with these numbers fail.
 fn sink_of(alloc: Global, failing: &[u32], most: u64) -> Result<MemSink, Difference>
-    ensures told { IfOk result (λ s. ⟦<MemSink as Sink>⟧.told s ≡ nothing_taken) }
-    ensures faults { IfOk result (λ s. ⟦<MemSink as Sink>⟧.faults s ≡ 0) }
+    ensures told { IfOk result (λ s. sink_told s ≡ nothing_taken) }
     ensures failing { IfOk result (λ s. failing_puts_of s ≡ failing.now) }
     ensures most { IfOk result (λ s. most_of s ≡ most) }
     ensures memory { IfErr result (λ d. d ≡ Difference.Memory) }
@@ -44,25 +43,17 @@ fn status_of(
     out: &mut MemSink,
     err: &mut MemSink,
 ) -> u8
-    requires out { (⟦<MemSink as Sink>⟧.told out.old ≡ nothing_taken) × (⟦<MemSink as Sink>⟧.faults out.old ≡ 0) }
-    requires err { (⟦<MemSink as Sink>⟧.told err.old ≡ nothing_taken) × (⟦<MemSink as Sink>⟧.faults err.old ≡ 0) }
+    requires out { sink_told out.old ≡ nothing_taken }
+    requires err { sink_told err.old ≡ nothing_taken }
     ensures { Called (texts_of words.now)
-        (told (⟦<MemShelf as Shelf>⟧.files shelf.old) (⟦<MemShelf as Shelf>⟧.counts shelf.old)
-        (⟦<MemShelf as Shelf>⟧.asked shelf.old))
-        (told (⟦<MemShelf as Shelf>⟧.files shelf.new) (⟦<MemShelf as Shelf>⟧.counts shelf.new)
-        (⟦<MemShelf as Shelf>⟧.asked shelf.new))
-        (⟦<MemSink as Sink>⟧.told out.new) (⟦<MemSink as Sink>⟧.told err.new) result }
+        (shelf_told shelf.old) (shelf_told shelf.new) (sink_told out.new) (sink_told err.new) result }
 {
     fuzz12(alloc, words, shelf, out, err).code()
 }
 
 /// The number of the status of a call with these words, whose puts do not fail.
 pub fn code_of(alloc: Global, line: &[&str], shelf: &mut MemShelf) -> Result<u8, Difference>
-    ensures code { IfOk result (AnswersCode (words_in line.now)
-        (told (⟦<MemShelf as Shelf>⟧.files shelf.old) (⟦<MemShelf as Shelf>⟧.counts shelf.old)
-        (⟦<MemShelf as Shelf>⟧.asked shelf.old))
-        (told (⟦<MemShelf as Shelf>⟧.files shelf.new) (⟦<MemShelf as Shelf>⟧.counts shelf.new)
-        (⟦<MemShelf as Shelf>⟧.asked shelf.new))) }
+    ensures code { IfOk result (AnswersCode (words_in line.now) (shelf_told shelf.old) (shelf_told shelf.new)) }
     ensures memory { IfErr result (λ d. d ≡ Difference.Memory) }
 {
     let words = words_of(alloc, line)?;
@@ -81,17 +72,9 @@ pub fn call(
     left: &Left,
 ) -> Result<(), Difference>
     ensures leaves { OnOk result (CallLeaves (words_in line.now)
-        (told (⟦<MemShelf as Shelf>⟧.files shelf.old) (⟦<MemShelf as Shelf>⟧.counts shelf.old)
-        (⟦<MemShelf as Shelf>⟧.asked shelf.old))
-        (told (⟦<MemShelf as Shelf>⟧.files shelf.new) (⟦<MemShelf as Shelf>⟧.counts shelf.new)
-        (⟦<MemShelf as Shelf>⟧.asked shelf.new))
-        left.now) }
+        (shelf_told shelf.old) (shelf_told shelf.new) left.now) }
     ensures differs { IfErr result (CallDiffers (words_in line.now)
-        (told (⟦<MemShelf as Shelf>⟧.files shelf.old) (⟦<MemShelf as Shelf>⟧.counts shelf.old)
-        (⟦<MemShelf as Shelf>⟧.asked shelf.old))
-        (told (⟦<MemShelf as Shelf>⟧.files shelf.new) (⟦<MemShelf as Shelf>⟧.counts shelf.new)
-        (⟦<MemShelf as Shelf>⟧.asked shelf.new))
-        left.now) }
+        (shelf_told shelf.old) (shelf_told shelf.new) left.now) }
 {
     let words = words_of(alloc, line)?;
     let mut out = sink_of(alloc, faults.puts, faults.most)?;
@@ -108,9 +91,9 @@ pub fn call_over(
     second: &[&str],
     left: &Left,
 ) -> Result<(), Difference>
-    ensures { OnOk result (LeavesBehind (words_in line.now) (told (file_in (
+    ensures { OnOk result (LeavesBehind (words_in line.now) (told_first (
         file_with (codes "first") (text_of_parts first.now) 0
-        ∷ file_with (codes "second") (text_of_parts second.now) 0 ∷ [])) none_counted []) left.now) }
+        ∷ file_with (codes "second") (text_of_parts second.now) 0 ∷ [])) left.now) }
 {
     let mut files = Vec::new(alloc);
     push_file(alloc, &mut files, "first", first)?;

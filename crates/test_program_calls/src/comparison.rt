@@ -1,9 +1,10 @@
 //! Compares what a call left with what it was expected to leave.
 ghost use Rattle.std.specs.Prelude.{IfErr, OnOk};
+ghost use Rattle.fz_shelf.specs.Fakes.{sink_told};
 ghost use Rattle.test_program_calls.specs.Lefts.{IsFirstDifference, Leaves};
 
 use crate::{Difference, Left};
-use fz_shelf::{MemSink, Sink};
+use fz_shelf::MemSink;
 use std::alloc::{AllocError, Global};
 
 /// What a sink took, if it is text.
@@ -19,10 +20,8 @@ pub(crate) fn compare(
     err: &MemSink,
     left: &Left,
 ) -> Result<(), Difference>
-    ensures same { OnOk result (Leaves code (⟦<MemSink as Sink>⟧.told out.now)
-        (⟦<MemSink as Sink>⟧.told err.now) left.now) }
-    ensures differs { IfErr result (IsFirstDifference code (⟦<MemSink as Sink>⟧.told out.now)
-        (⟦<MemSink as Sink>⟧.told err.now) left.now) }
+    ensures same { OnOk result (Leaves code (sink_told out.now) (sink_told err.now) left.now) }
+    ensures differs { IfErr result (IsFirstDifference code (sink_told out.now) (sink_told err.now) left.now) }
 {
     if err.bytes() != left.err().as_bytes() {
         return Err(Difference::Err(text_in(alloc, err)?));

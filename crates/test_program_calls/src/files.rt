@@ -1,7 +1,7 @@
 //! Files in memory, and which of the calls to them fail.
 ghost use Rattle.std.specs.Prelude.{◌≡◌, ◌≢◌, ◌++◌, ◌∷◌, [], codes, length, IfErr, IfOk, OnOk};
-ghost use Rattle.fz_shelf.specs.Fakes.{failing_reads_of, failing_writes_of, reads_of, writes_of};
-ghost use Rattle.fz_shelf.specs.{Files.Holds, MemFiles.file_in, declared.log.Answer.TheVariants.Whole};
+ghost use Rattle.fz_shelf.specs.Fakes.{failing_reads_of, failing_writes_of, reads_of, shelf_told, told_first};
+ghost use Rattle.fz_shelf.specs.{Fakes.writes_of, Files.Holds, declared.log.Answer.TheVariants.Whole};
 ghost use Rattle.test_texts.specs.Parts.{text_of_parts};
 ghost use Rattle.test_program_calls.specs.Files.{IsInFile, file_with};
 
@@ -91,9 +91,7 @@ pub(crate) fn numbers(alloc: Global, numbers: &[u32]) -> Result<List<u32>, Alloc
 
 /// The shelf of these files.
 pub fn shelf_of(alloc: Global, files: Vec<MemFile>, faults: &Faults) -> Result<MemShelf, Difference>
-    ensures files { IfOk result (λ s. ⟦<MemShelf as Shelf>⟧.files s ≡ file_in files.items) }
-    ensures asked { IfOk result (λ s. ⟦<MemShelf as Shelf>⟧.asked s ≡ []) }
-    ensures counts { IfOk result (λ s. ⟦<MemShelf as Shelf>⟧.counts s ≡ record { reads = 0; longs = 0; writes = 0 }) }
+    ensures told { IfOk result (λ s. shelf_told s ≡ told_first files.items) }
     ensures numbers { IfOk result (λ s. (reads_of s ≡ 0) × (writes_of s ≡ 0)) }
     ensures failing_reads { IfOk result (λ s. failing_reads_of s ≡ faults.now.reads.now) }
     ensures failing_writes { IfOk result (λ s. failing_writes_of s ≡ faults.now.writes.now) }
@@ -106,10 +104,10 @@ pub fn shelf_of(alloc: Global, files: Vec<MemFile>, faults: &Faults) -> Result<M
 
 /// The bytes of a file, or its name if it cannot be read. This read is one of the shelf's too.
 pub fn bytes_of(alloc: Global, shelf: &mut MemShelf, name: &str) -> Result<Vec<u8>, Difference>
-    ensures held { IfOk result (λ bytes. Holds (⟦<MemShelf as Shelf>⟧.files shelf.old name.now) bytes.items) }
-    ensures files { ⟦<MemShelf as Shelf>⟧.files shelf.new ≡ ⟦<MemShelf as Shelf>⟧.files shelf.old }
-    ensures asked { OnOk result (⟦<MemShelf as Shelf>⟧.asked shelf.new
-        ≡ ⟦<MemShelf as Shelf>⟧.asked shelf.old ++ (name.now, Whole) ∷ []) }
+    ensures held { IfOk result (λ bytes. Holds ((shelf_told shelf.old).files name.now) bytes.items) }
+    ensures files { (shelf_told shelf.new).files ≡ (shelf_told shelf.old).files }
+    ensures asked { OnOk result ((shelf_told shelf.new).asked
+        ≡ (shelf_told shelf.old).asked ++ (name.now, Whole) ∷ []) }
     ensures fault { IfErr result (IsInFile name.now) }
 {
     let mut bytes = Vec::new(alloc);
@@ -126,10 +124,10 @@ pub fn file_holds(
     name: &str,
     bytes: &[u8],
 ) -> Result<(), Difference>
-    ensures holds { OnOk result (Holds (⟦<MemShelf as Shelf>⟧.files shelf.old name.now) bytes.now) }
-    ensures files { ⟦<MemShelf as Shelf>⟧.files shelf.new ≡ ⟦<MemShelf as Shelf>⟧.files shelf.old }
-    ensures asked { OnOk result (⟦<MemShelf as Shelf>⟧.asked shelf.new
-        ≡ ⟦<MemShelf as Shelf>⟧.asked shelf.old ++ (name.now, Whole) ∷ []) }
+    ensures holds { OnOk result (Holds ((shelf_told shelf.old).files name.now) bytes.now) }
+    ensures files { (shelf_told shelf.new).files ≡ (shelf_told shelf.old).files }
+    ensures asked { OnOk result ((shelf_told shelf.new).asked
+        ≡ (shelf_told shelf.old).asked ++ (name.now, Whole) ∷ []) }
     ensures differs { IfErr result (IsInFile name.now) }
 {
     if bytes_of(alloc, shelf, name)?.as_slice() != bytes {
@@ -140,9 +138,9 @@ pub fn file_holds(
 
 /// Checks that the shelf's log has this many reads and writes; otherwise it gives their number.
 pub fn calls_are(shelf: &MemShelf, calls: usize) -> Result<(), Difference>
-    ensures same { OnOk result (length (⟦<MemShelf as Shelf>⟧.asked shelf.now) ≡ calls) }
-    ensures differs { IfErr result (λ d. (d ≡ Difference.Calls (length (⟦<MemShelf as Shelf>⟧.asked shelf.now)))
-        × (length (⟦<MemShelf as Shelf>⟧.asked shelf.now) ≢ calls)) }
+    ensures same { OnOk result (length (shelf_told shelf.now).asked ≡ calls) }
+    ensures differs { IfErr result (λ d. (d ≡ Difference.Calls (length (shelf_told shelf.now).asked))
+        × (length (shelf_told shelf.now).asked ≢ calls)) }
 {
     let found = shelf.asked().len();
     if found != calls {

@@ -6,8 +6,8 @@ use Rattle.fz_shelf.proofs.parts.put_numbers.Given as goal
 
 abbrev pub invariant-loop-number : goal.invariant-loop-number
 invariant-loop-number g l = record {
-  putting : Putting (g.S.Sink.told l.initial.sink) (g.S.Sink.told l.sink) (flat_map behind_blank l.numbers)
+  putting : Putting (g.S.Sink.told l.initial.sink).taken (g.S.Sink.told l.sink).taken (flat_map behind_blank l.numbers)
       (flat_map behind_blank (drop l.number-index l.numbers));
-  faults : g.S.Sink.faults l.sink ≡ g.S.Sink.faults l.initial.sink;
+  faults : (g.S.Sink.told l.sink).faults ≡ (g.S.Sink.told l.initial.sink).faults;
   reliable : g.S.Sink.reliable l.initial.sink → g.S.Sink.reliable l.sink;
 }

@@ -6,9 +6,8 @@ use Rattle.fz_top.proofs.reading.read_all.Given as goal
 
 abbrev pub invariant-loop-place : goal.invariant-loop-place
 invariant-loop-place g l = record {
-  files : g.S.Shelf.files l.shelf ≡ g.S.Shelf.files l.initial.shelf;
-  whole : ReadsWhole (texts_of l.words) (take l.place-index l.places) (g.S.Shelf.files l.initial.shelf)
-      (g.S.Shelf.counts l.initial.shelf) (g.S.Shelf.counts l.shelf)
-      (g.S.Shelf.asked l.initial.shelf) (g.S.Shelf.asked l.shelf) (bytes_of l.contents.items);
+  files : (g.S.Shelf.told l.shelf).files ≡ (g.S.Shelf.told l.initial.shelf).files;
+  whole : ReadsWhole (texts_of l.words) (take l.place-index l.places)
+      (g.S.Shelf.told l.initial.shelf) (g.S.Shelf.told l.shelf) (bytes_of l.contents.items);
   reliable : g.S.Shelf.reliable l.initial.shelf → g.S.Shelf.reliable l.shelf;
 }
