@@ -2,8 +2,8 @@
 use Rattle.std.proofs.Common.{arith, ◌≡◌, ◌<◌, ◌+◌, ℕ, true, false, List, ◌∷◌, ◌++◌, length, refl, sym, ◌∙◌, ap, subst}
 use Rattle.std.specs.Prelude.{All, Option, Some}
 use Rattle.std.proofs.lemmas.List.{length-append}
-use Rattle.fz_rows.specs.{FirstRows.Fields, Laws.FirstRowsAreOne}
-use Rattle.fz_rows.proofs.Algebra.{FailsFirst, at_element, more_elements, one_fails_first, one_first_failure}
+use Rattle.trace_io.specs.{FirstRows.Fields, OneReading.FirstRowsAreOne}
+use Rattle.trace_io.proofs.Algebra.{FailsFirst, at_element, more_elements, one_fails_first, one_first_failure}
 use Rattle.cpu12_isa.specs.{Regions.is_free, declared.instr.Write.Write}
 use Rattle.interrupt_plan.specs.OneReading.{LevelFaultsAreOne, PlanFaultsAreOne, PostFaultsAreOne}
 use Rattle.interrupt_plan.specs.OneReading.{SpelledLevelsHaveNoFault, SpelledPlansHaveNoFault}

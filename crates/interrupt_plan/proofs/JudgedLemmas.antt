@@ -7,8 +7,8 @@ use Rattle.std.proofs.lemmas.Bool.{cases_lt}
 use Rattle.std.proofs.lemmas.List.{length-append}
 use Rattle.std.proofs.lemmas.List.Elements.{All-append, All-cons, All-head, All-nil, All-tail}
 use Rattle.cpu12_isa.specs.{declared.instr.Write.Write, Regions.is_free}
-use Rattle.fz_rows.specs.{FirstRows.Fields, Laws.EachTextHasFirstRows}
-use Rattle.fz_rows.proofs.Algebra.{FailsFirst, at_element, judged, more_elements}
+use Rattle.trace_io.specs.{FirstRows.Fields, OneReading.EachTextHasFirstRows}
+use Rattle.trace_io.proofs.Algebra.{FailsFirst, at_element, judged, more_elements}
 use Rattle.interrupt_plan.specs.declared.{PlanFault.PlanFault, Post.Post}
 use Rattle.interrupt_plan.specs.declared.levels.Level.{Level}
 use Rattle.interrupt_plan.specs.declared.PlanFault.TheVariants.{BadRow, NotAscending, NotFree, TooMany}

@@ -6,8 +6,8 @@ use Rattle.std.proofs.lemmas.Bool.{cases_lt}
 use Rattle.std.proofs.lemmas.List.{length-append}
 use Rattle.std.proofs.lemmas.List.Elements.{All-append, All-cons, All-nil}
 use Rattle.cpu12_isa.specs.declared.instr.Write.{Write}
-use Rattle.fz_rows.specs.{FirstRows.Fields, Laws.EachTextHasFirstRows}
-use Rattle.fz_rows.proofs.Algebra.{FailsFirst, at_element, judged, more_elements}
+use Rattle.trace_io.specs.{FirstRows.Fields, OneReading.EachTextHasFirstRows}
+use Rattle.trace_io.proofs.Algebra.{FailsFirst, at_element, judged, more_elements}
 use Rattle.interrupt_plan.specs.declared.upsets.{Upset.Upset, UpsetFault.UpsetFault}
 use Rattle.interrupt_plan.specs.declared.upsets.UpsetFault.TheVariants.{BadRow, NotTable, NotAscending, TooMany}
 use Rattle.interrupt_plan.specs.OneReading.{EachUpsetsTextIsJudged}

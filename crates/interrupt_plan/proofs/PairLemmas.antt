@@ -3,7 +3,7 @@ use Rattle.std.proofs.Common.{◌≡◌, ◌<◌, ◌+◌, ◌*◌, ℕ, zero, s
 use Rattle.std.proofs.Common.{arith}
 use Rattle.std.specs.Prelude.{Option, Some, None}
 use Rattle.cpu12_isa.specs.declared.instr.Write.{Write}
-use Rattle.fz_rows.specs.FirstRows.{Fields}
+use Rattle.trace_io.specs.FirstRows.{Fields}
 use Rattle.interrupt_plan.specs.Rows.{write_of, with_write, writes_of}
 
 -- the fields of the first k pairs

@@ -12,7 +12,7 @@ use Rattle.std.proofs.lemmas.List.Elements.{All-append, All-cons, All-head, All-
 use Rattle.std.proofs.lemmas.Str.Parse.{IsNumeralModel, numerals_by_fold, IsDigitsTest, FoldsDigits, digits_value_short}
 use Rattle.csv.specs.Records.{Row, fields_of}
 use Rattle.cpu12_isa.specs.{declared.instr.Write.Write, Regions.is_free}
-use Rattle.fz_rows.specs.FirstRows.{Fields}
+use Rattle.trace_io.specs.FirstRows.{Fields}
 use Rattle.fz_num.specs.Decimals.{is_digit, next_number, number}
 use Rattle.interrupt_plan.specs.{declared.Request.Request, declared.Post.Post, declared.PlanFault.PlanFault}
 use Rattle.interrupt_plan.proofs.{PairLemmas.length-writes, ByteLemmas.writes_small}

@@ -7,8 +7,8 @@ use Rattle.std.proofs.lemmas.List.{length-append}
 use Rattle.std.proofs.lemmas.List.Elements.{All-append, All-cons, All-nil}
 use Rattle.csv.specs.Records.{Row, fields_of}
 use Rattle.cpu12_isa.specs.declared.instr.Write.{Write}
-use Rattle.fz_rows.specs.{FirstRows.Fields, Laws.FirstRowsAreOne}
-use Rattle.fz_rows.proofs.Algebra.{FailsFirst, at_element, more_elements, one_first_failure}
+use Rattle.trace_io.specs.{FirstRows.Fields, OneReading.FirstRowsAreOne}
+use Rattle.trace_io.proofs.Algebra.{FailsFirst, at_element, more_elements, one_first_failure}
 use Rattle.interrupt_plan.specs.declared.{upsets.Upset.Upset, upsets.UpsetFault.UpsetFault}
 use Rattle.interrupt_plan.specs.declared.upsets.UpsetFault.TheVariants.{NotTable, TooMany}
 use Rattle.interrupt_plan.specs.OneReading.{SpelledUpsetsAreOne, UpsetFaultsAreOne}

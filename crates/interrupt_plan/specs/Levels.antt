@@ -3,7 +3,7 @@
 use Rattle.std.specs.Prelude.{◌≡◌, ◌≤◌, ℕ, List, [], ◌∷◌, length, map, All, Some}
 use Rattle.std.specs.List.Sorted.{IsNonDecreasing}
 use Rattle.cpu12_isa.specs.declared.instr.Write.{Write}
-use Rattle.fz_rows.specs.FirstRows.{Fields}
+use Rattle.trace_io.specs.FirstRows.{Fields}
 use Rattle.interrupt_plan.specs.declared.{levels.Level.Level, PlanFault.PlanFault}
 use Rattle.interrupt_plan.specs.Rows.{Ascend, NoLaterThan, count_of, SpellsText, HasFirstFault}
 

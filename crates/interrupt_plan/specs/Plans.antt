@@ -4,7 +4,7 @@ use Rattle.std.specs.Prelude.{◌≡◌, ◌≤◌, ℕ, true, List, length, All
 use Rattle.cpu12_isa.specs.{Regions.is_free, declared.instr.Write.Write}
 use Rattle.interrupt_plan.specs.{declared.Request.Request, Rows.NoLaterThan, Rows.Ascend, Rows.SpellsRow}
 use Rattle.interrupt_plan.specs.{Rows.SpellsText, Rows.HasFirstFault}
-use Rattle.fz_rows.specs.FirstRows.{Fields}
+use Rattle.trace_io.specs.FirstRows.{Fields}
 use Rattle.interrupt_plan.specs.declared.{PlanFault.PlanFault}
 
 -- a request writes at most eight bytes, each of them free

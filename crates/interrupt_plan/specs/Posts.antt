@@ -2,7 +2,7 @@
 -- Beside the promise.
 use Rattle.std.specs.Prelude.{◌≡◌, ◌<◌, ◌≤◌, ◌^◌, ℕ, true, List, length, All}
 use Rattle.cpu12_isa.specs.{declared.instr.Write.Write, Regions.is_free}
-use Rattle.fz_rows.specs.FirstRows.{Fields}
+use Rattle.trace_io.specs.FirstRows.{Fields}
 use Rattle.interrupt_plan.specs.declared.{Post.Post, PlanFault.PlanFault}
 use Rattle.interrupt_plan.specs.Rows.{Ascend, SpellsRow, SpellsText, HasFirstFault}
 

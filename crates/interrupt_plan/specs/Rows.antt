@@ -5,7 +5,7 @@ use Rattle.std.specs.Prelude.{Result, Ok, Err, slice_index, nat_le, ◌&&◌, tr
 use Rattle.hex.specs.{Hex.decode_sized, declared.error.FromHexError.FromHexError}
 use Rattle.fz_num.specs.Decimals.{are_digits, number}
 use Rattle.cpu12_isa.specs.{declared.instr.Write.Write, Regions.is_free}
-use Rattle.fz_rows.specs.FirstRows.{Fields, AreFirstRows}
+use Rattle.trace_io.specs.FirstRows.{Fields, AreFirstRows}
 use Rattle.interrupt_plan.specs.declared.PlanFault.{PlanFault}
 use Rattle.interrupt_plan.specs.declared.PlanFault.TheVariants.{BadRow, NotFree, NotAscending, TooMany}
 use Rattle.std.specs.Prelude.{◌⊎◌}

@@ -1,7 +1,7 @@
 -- What a text of upsets spells, and its first fault.
 -- Beside the promise.
 use Rattle.std.specs.Prelude.{◌≡◌, ◌<◌, ◌≤◌, ◌+◌, ℕ, false, true, List, [], ◌∷◌, ◌++◌, length, Some}
-use Rattle.fz_rows.specs.FirstRows.{Fields, AreFirstRows}
+use Rattle.trace_io.specs.FirstRows.{Fields, AreFirstRows}
 use Rattle.interrupt_plan.specs.declared.{upsets.Upset.Upset, upsets.UpsetFault.UpsetFault}
 use Rattle.interrupt_plan.specs.declared.upsets.UpsetFault.TheVariants.{BadRow, NotTable, NotAscending, TooMany}
 use Rattle.interrupt_plan.specs.{Rows.SpellAll, Rows.count_of, Rows.write_of, Upsets.AreGoodUpsets, Upsets.is_table}

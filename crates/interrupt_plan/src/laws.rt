@@ -11,28 +11,28 @@ ghost use Rattle.interrupt_plan.specs.UpsetTexts.{SpelledUpsetsHaveNoFault};
 pub fn spelled_plans_have_no_fault()
     ensures { SpelledPlansHaveNoFault }
 {
-    fz_rows::laws::first_rows_are_one();
+    trace_io::laws::first_rows_are_one();
 }
 
 /// A text that spells posts has no fault.
 pub fn spelled_posts_have_no_fault()
     ensures { SpelledPostsHaveNoFault }
 {
-    fz_rows::laws::first_rows_are_one();
+    trace_io::laws::first_rows_are_one();
 }
 
 /// A text that spells levels has no fault.
 pub fn spelled_levels_have_no_fault()
     ensures { SpelledLevelsHaveNoFault }
 {
-    fz_rows::laws::first_rows_are_one();
+    trace_io::laws::first_rows_are_one();
 }
 
 /// A text that spells upsets of an image has no fault for it.
 pub fn spelled_upsets_have_no_fault()
     ensures { SpelledUpsetsHaveNoFault }
 {
-    fz_rows::laws::first_rows_are_one();
+    trace_io::laws::first_rows_are_one();
 }
 
 /// A text has only one first fault: as a plan, as posts, as levels, and as upsets of an image.
@@ -42,7 +42,7 @@ pub fn first_faults_are_one()
     ensures levels { LevelFaultsAreOne }
     ensures upsets { UpsetFaultsAreOne }
 {
-    fz_rows::laws::first_rows_are_one();
+    trace_io::laws::first_rows_are_one();
 }
 
 /// A text spells only one plan, and one list of posts, of levels, and of upsets of an image.
@@ -52,7 +52,7 @@ pub fn spelled_entries_are_one()
     ensures levels { SpelledLevelsAreOne }
     ensures upsets { SpelledUpsetsAreOne }
 {
-    fz_rows::laws::first_rows_are_one();
+    trace_io::laws::first_rows_are_one();
 }
 
 /// Each text spells a plan or has a first fault, and the same holds for posts, for levels, and for upsets of an
@@ -63,5 +63,5 @@ pub fn each_text_is_judged()
     ensures levels { EachLevelsTextIsJudged }
     ensures upsets { EachUpsetsTextIsJudged }
 {
-    fz_rows::laws::each_text_has_first_rows();
+    trace_io::laws::each_text_has_first_rows();
 }

@@ -10,8 +10,8 @@ use crate::row::first_taken;
 use crate::{Plan, PlanFault, Posts};
 use csv::ByteRecord;
 use fz_list::List;
-use fz_rows::first_rows;
 use std::alloc::Global;
+use trace_io::first_rows;
 
 /// The most rows.
 const MOST_ROWS: usize = 10000;

@@ -11,9 +11,9 @@ use crate::row::{count_in, field_at, write_in};
 use cpu12_asm::Image;
 use csv::ByteRecord;
 use fz_list::List;
-use fz_rows::first_rows;
 use std::alloc::Global;
 use thiserror::Error;
+use trace_io::first_rows;
 
 /// A byte of a table that holds another value while a sample is answered.
 #[derive(Clone, Copy, PartialEq, Eq)]

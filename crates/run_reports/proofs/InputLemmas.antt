@@ -4,8 +4,7 @@ use Rattle.std.proofs.lemmas.List.{length-map}
 use Rattle.std.specs.Prelude.{Some, map}
 use Rattle.byte_scaling.specs.Cells.{bytes_of}
 use Rattle.fuzzy_meaning.specs.declared.{block.Block.Block, block.Input.Input}
-use Rattle.fz_rows.specs.Laws.{FirstRowsAreOne}
-use Rattle.trace_io.specs.OneReading.{FirstFaultsAreOne, SpelledTracesHaveNoFault}
+use Rattle.trace_io.specs.OneReading.{FirstFaultsAreOne, FirstRowsAreOne, SpelledTracesHaveNoFault}
 use Rattle.trace_io.specs.Traces.{Fields, HasFault, SpellSamples, Spells, input_bytes}
 use Rattle.trace_io.specs.declared.{sample.Sample.Sample, sample.TraceFault.TraceFault}
 use Rattle.fz_status.specs.declared.status.Status.{Status}

@@ -10,9 +10,8 @@ ghost use Rattle.run_reports.specs.{Inputs.PlansAreExact, Inputs.TracesAreExact,
 use command_parts::laws::{
     certs_are_judged, firmwares_are_judged, handlers_are_judged, images_are_judged, twos_are_judged,
 };
-use fz_rows::laws::first_rows_are_one;
 use interrupt_plan::laws::{spelled_entries_are_one, spelled_plans_have_no_fault};
-use trace_io::laws::spelled_traces_have_no_fault;
+use trace_io::laws::{first_rows_are_one, spelled_traces_have_no_fault};
 
 /// A trace spells at most 10000 samples.
 pub fn spelled_traces_are_short()

@@ -5,14 +5,13 @@ use Rattle.std.specs.Prelude.{Some, None}
 use Rattle.std.proofs.lemmas.Bool.{cases_lt}
 use Rattle.std.proofs.lemmas.List.{length-append}
 use Rattle.fz_num.specs.declared.dec.Dec.{Dec}
-use Rattle.fz_rows.specs.Laws.{FirstRowsAreOne}
-use Rattle.fz_rows.proofs.Algebra.{FailsFirst, at_element, cut_within, more_elements, one_first_failure}
 use Rattle.fuzzy_meaning.specs.{Blocks.IsWithin, declared.block.Input.Input}
-use Rattle.trace_io.specs.OneReading.{FirstFaultsAreOne, SpelledTracesHaveNoFault}
+use Rattle.trace_io.specs.OneReading.{FirstFaultsAreOne, FirstRowsAreOne, SpelledTracesHaveNoFault}
 use Rattle.trace_io.specs.Traces.{AreWithin, Fields, FirstFault, IsFirstOutside, RowFails, SpellSamples, SpellsSample}
 use Rattle.trace_io.specs.Traces.{at_row, miscounted, more, outside, unread}
 use Rattle.trace_io.specs.declared.{sample.Sample.Sample, sample.TraceFault.TraceFault}
 use Rattle.trace_io.specs.declared.sample.TraceFault.TheVariants.{OutOfRange, TooMany}
+use Rattle.trace_io.proofs.Algebra.{FailsFirst, at_element, cut_within, more_elements, one_first_failure}
 
 -- ---- a row that is spelled does not fail
 

@@ -4,15 +4,14 @@ use Rattle.std.proofs.Common.{inl, inr}
 use Rattle.std.specs.Prelude.{Option, Some, None}
 use Rattle.std.proofs.lemmas.{Bool.cases_lt, Int.by_lt_z, Int.ints}
 use Rattle.fz_num.specs.declared.dec.Dec.{Dec}
-use Rattle.fz_rows.specs.Laws.{EachTextHasFirstRows}
-use Rattle.fz_rows.proofs.Algebra.{FailsFirst, at_element, judged, more_elements}
 use Rattle.fuzzy_meaning.specs.{Blocks.IsWithin, declared.block.Input.Input}
 use Rattle.byte_scaling.specs.Cells.{bytes_of}
-use Rattle.trace_io.specs.OneReading.{EachTextIsJudged}
+use Rattle.trace_io.specs.OneReading.{EachTextHasFirstRows, EachTextIsJudged}
 use Rattle.trace_io.specs.Traces.{AreWithin, Fields, FirstFault, IsFirstOutside, RowFails, SpellsSample}
 use Rattle.trace_io.specs.Traces.{at_row, decimals, miscounted, more, outside, unread}
 use Rattle.trace_io.specs.declared.{sample.Sample.Sample, sample.TraceFault.TraceFault}
 use Rattle.trace_io.specs.declared.sample.TraceFault.TheVariants.{OutOfRange, TooMany}
+use Rattle.trace_io.proofs.Algebra.{FailsFirst, at_element, judged, more_elements}
 use Rattle.trace_io.proofs.ApartLemmas.{Fails, Pass}
 use Rattle.trace_io.proofs.TraceLemmas.{decimals_count, spell-snoc}
 

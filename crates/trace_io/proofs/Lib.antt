@@ -1,3 +1,5 @@
+pub mod RowLemmas
+pub mod Algebra
 pub mod TraceLemmas
 pub mod ApartLemmas
 pub mod JudgedLemmas

@@ -1,2 +1,3 @@
+pub mod FirstRows
 pub mod Traces
 pub mod OneReading

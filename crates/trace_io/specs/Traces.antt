@@ -2,10 +2,10 @@
 -- Reached by the promise.
 use Rattle.std.specs.Prelude.{◌≡◌, ◌≢◌, ◌<◌, ◌+◌, ℕ, List, [], ◌∷◌, ◌++◌, length, Option, Some, None, option_map}
 use Rattle.std.specs.Prelude.{Result, Ok, Err}
-pub use Rattle.fz_rows.specs.FirstRows.{Fields, AreFirstRows}
 use Rattle.fz_num.specs.{declared.dec.Dec.Dec, Decimals.decimal}
 use Rattle.fuzzy_meaning.specs.{Blocks.IsWithin, declared.block.Input.Input}
 use Rattle.byte_scaling.specs.Cells.{bytes_of}
+pub use Rattle.trace_io.specs.FirstRows.{Fields, AreFirstRows}
 use Rattle.trace_io.specs.declared.{sample.Sample.Sample, sample.TraceFault.TraceFault}
 use Rattle.trace_io.specs.declared.sample.TraceFault.TheVariants.{TooMany, BadRow, OutOfRange}
 

@@ -7,14 +7,13 @@ ghost use Rattle.byte_scaling.specs.Cells.{bytes_of};
 ghost use Rattle.trace_io.specs.Traces.{decimals, AreWithin, IsFirstOutside, RowFails, SpellsSample, FirstFault};
 ghost use Rattle.trace_io.specs.Traces.{SpellSamples, Spells, HasFault};
 
-use crate::{Sample, TraceFault};
+use crate::{Sample, TraceFault, first_rows};
 use arrayvec::ArrayVec;
 use byte_scaling::to_byte;
 use csv::ByteRecord;
 use fuzzy_meaning::{Block, Input};
 use fz_list::List;
 use fz_num::Dec;
-use fz_rows::first_rows;
 use std::alloc::{AllocError, Global};
 
 /// The most samples of a trace.

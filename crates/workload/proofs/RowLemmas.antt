@@ -12,7 +12,7 @@ use Rattle.csv.specs.Writing.{default_writer, escaped, field_text, fields_text, 
 use Rattle.csv.specs.declared.parser.State.TheVariants as st
 use Rattle.csv.proofs.RoundTrip.{read-write}
 use Rattle.fz_num.specs.Decimals.{are_digits, is_digit}
-use Rattle.fz_rows.specs.FirstRows.{AreFirstRows, Fields}
+use Rattle.trace_io.specs.FirstRows.{AreFirstRows, Fields}
 use Rattle.interrupt_plan.specs.Rows.{SpellAll}
 
 -- ---- the first rows

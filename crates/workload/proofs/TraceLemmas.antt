@@ -13,9 +13,8 @@ use Rattle.byte_scaling.specs.Cells.{bytes_of}
 use Rattle.csv.specs.Writing.{default_writer, row_text}
 use Rattle.fuzzy_meaning.specs.{Blocks.IsWithin, declared.block.Input.Input}
 use Rattle.fz_num.specs.declared.dec.Dec.{Dec}
-use Rattle.fz_rows.specs.FirstRows.{Fields}
 use Rattle.interrupt_plan.specs.Rows.{SpellAll}
-use Rattle.trace_io.specs.Traces.{AreWithin, SpellSamples, Spells, SpellsSample, with_decimal}
+use Rattle.trace_io.specs.Traces.{AreWithin, Fields, SpellSamples, Spells, SpellsSample, with_decimal}
 use Rattle.trace_io.specs.declared.sample.Sample.{Sample}
 use Rattle.workload.specs.{Blocks.drawn_input, Blocks.whole, Workloads.AreDrawnSamples, Workloads.drawn_values}
 use Rattle.workload.specs.Texts.{decimal_text, last_digit, sample_fields}

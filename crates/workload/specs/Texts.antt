@@ -4,7 +4,7 @@ use Rattle.std.specs.Prelude.{ℕ, ◌+◌, ◌*◌, ◌/◌, ◌%◌, List, [],
 use Rattle.std.specs.List.{range_with_len}
 use Rattle.std.specs.Fmt.{decimal as digits}
 use Rattle.hex.specs.Hex.{encode_upper}
-use Rattle.fz_rows.specs.FirstRows.{Fields}
+use Rattle.trace_io.specs.FirstRows.{Fields}
 use Rattle.cpu12_isa.specs.Regions.{free_start}
 use Rattle.workload.specs.declared.texts.TheConstants.{VARIABLES}
 

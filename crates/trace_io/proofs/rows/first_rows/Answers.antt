@@ -2,9 +2,9 @@ use Rattle.std.proofs.Common.{arith, ◌≡◌, ◌<◌, ◌∙◌, ℕ, Bor, Li
 use Rattle.std.proofs.Common.{sym, refl, inl, inr}
 use Rattle.std.proofs.lemmas.List.{length-append, length-map}
 use Rattle.csv.specs.{Reading.Reached, Reading.builder_is_flexible, Reading.strip_bom, Records.fields_of}
-use Rattle.fz_rows.specs.FirstRows.{is_want_of_memory}
-use Rattle.fz_rows.proofs.RowLemmas.{AreFirstRows-all, AreFirstRows-full, HasRead-more, is_want_of_memory-flexible}
-use Rattle.fz_rows.proofs.rows.first_rows.Goals as goal
+use Rattle.trace_io.specs.FirstRows.{is_want_of_memory}
+use Rattle.trace_io.proofs.RowLemmas.{AreFirstRows-all, AreFirstRows-full, HasRead-more, is_want_of_memory-flexible}
+use Rattle.trace_io.proofs.rows.first_rows.Goals as goal
 
 pub loop-row-init : goal.loop-row-init
 unfolding Reached

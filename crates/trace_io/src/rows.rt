@@ -1,7 +1,7 @@
 //! Rows of comma-separated text.
 ghost use Rattle.std.specs.Prelude.{◌≡◌, IfOk, map};
 ghost use Rattle.csv.specs.Records.{fields_of};
-ghost use Rattle.fz_rows.specs.FirstRows.{AreFirstRows, is_want_of_memory};
+ghost use Rattle.trace_io.specs.FirstRows.{AreFirstRows, is_want_of_memory};
 
 use csv::{ByteRecord, ErrorKind, ReaderBuilder};
 use std::alloc::{AllocError, Global};

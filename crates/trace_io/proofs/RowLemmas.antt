@@ -11,8 +11,8 @@ use Rattle.csv.specs.declared.error.ErrorKind.TheVariants as kind
 use Rattle.csv.specs.declared.parser.State.{State}
 use Rattle.csv.specs.declared.parser.State.TheVariants as st
 use Rattle.csv.specs.declared.reader.Reader.{Reader}
-use Rattle.fz_rows.specs.{FirstRows.AreFirstRows, FirstRows.Fields, FirstRows.is_want_of_memory, Laws.EachTextHasFirstRows}
-use Rattle.fz_rows.specs.Laws.{FirstRowsAreOne}
+use Rattle.trace_io.specs.FirstRows.{AreFirstRows, Fields, is_want_of_memory}
+use Rattle.trace_io.specs.OneReading.{EachTextHasFirstRows, FirstRowsAreOne}
 
 some_none : {X : Type 0} {o : Option X} {x : X} → o ≡ Some x → o ≡ None → ⊥
 some_none {X} {o} {x} some none = let bad : Some x ≡ None = sym some ∙ none in cc
