@@ -115,14 +115,27 @@ impl<M: Mem> Machine<M> {
         if let Temps::Running(_, _) = self.temps {
             return 0;
         }
-        let (regs, temps, flags) = (self.regs, self.temps, self.flags);
-        if is_rev(&self.mem, regs.pc) {
-            let (regs, done) = parts_of(&Rev, &mut self.mem, regs, temps, flags, most);
+        if is_rev(&self.mem, self.regs.pc) {
+            let (regs, done) = parts_of(
+                &Rev,
+                &mut self.mem,
+                self.regs,
+                self.temps,
+                self.flags,
+                most,
+            );
             self.regs = regs;
             return done;
         }
-        if is_revw(&self.mem, regs.pc) {
-            let (regs, done) = parts_of(&Revw, &mut self.mem, regs, temps, flags, most);
+        if is_revw(&self.mem, self.regs.pc) {
+            let (regs, done) = parts_of(
+                &Revw,
+                &mut self.mem,
+                self.regs,
+                self.temps,
+                self.flags,
+                most,
+            );
             self.regs = regs;
             return done;
         }
