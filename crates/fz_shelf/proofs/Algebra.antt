@@ -1,4 +1,5 @@
--- Texts in which no line ends.
+-- Texts in which no line ends, and texts that are put into a sink.
+pub use Rattle.fz_shelf.proofs.Taking.{puts_behind, puts_no_more}
 use Rattle.std.proofs.Common.{◌≡◌, ◌<◌, ◌%◌, ◌/◌, ◌==◌, ℕ, zero, suc, List, [], ◌∷◌, ◌++◌, Bool, false, true}
 use Rattle.std.proofs.Common.{refl, ◌∙◌, ap₂, arith}
 use Rattle.std.specs.Prelude.{decimal, if◌then◌else◌, slice_index, ◌&&◌}

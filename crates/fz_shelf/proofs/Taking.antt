@@ -1,14 +1,11 @@
--- A sink that takes a text piece by piece.
-use Rattle.std.proofs.Common.{zero, suc, get_or, subst, ◌∷◌, ◌≡◌, ◌≤◌, ◌<◌, ◌+◌, ◌-◌, ℕ, List, [], ◌++◌, length, take}
-use Rattle.std.proofs.Common.{drop, refl, sym, ◌∙◌, ap, ap₂, arith, length-append, append_assoc, take-append-drop}
-use Rattle.std.specs.List.{concat, flat_map}
-use Rattle.std.specs.Prelude.{Option, Some, None}
-use Rattle.std.proofs.lemmas.List.{append-nil, take_rest}
-use Rattle.std.proofs.Common.{add-one}
-use Rattle.std.proofs.Math.Seq.{take-suc}
-use Rattle.std.proofs.lemmas.List.Folds.{concat-append}
-use Rattle.fz_shelf.specs.Lines.{GainedLines}
-use Rattle.fz_shelf.specs.Told.{Taken, gained, GainedPart, GainedShort, HasRoom}
+-- A text that is put into a sink piece by piece.
+use Rattle.std.proofs.Common.{get_or, subst, ◌∷◌, ◌≡◌, ◌≤◌, ◌<◌, ◌+◌, ◌-◌, ℕ, List, [], ◌++◌, length, take, drop}
+use Rattle.std.proofs.Common.{refl, sym, ◌∙◌, ap, ap₂, arith, length-append, append_assoc, take-append-drop}
+use Rattle.std.specs.List.{concat}
+use Rattle.std.specs.Prelude.{Option, Some, None, Result, Ok, Err, IsErr, OnErr, OnOk}
+use Rattle.std.proofs.lemmas.List.{append-nil, drop_more, take_more, take_rest}
+use Rattle.fz_shelf.specs.{Faults.Rose, Lines.GainedLines, Puts.Puts}
+use Rattle.fz_shelf.specs.Told.{SinkTold, Taken, gained, GainedShort, HasRoom}
 
 abbrev told_as : List ℕ → ℕ → Option Taken
 told_as b r = Some (record { bytes = b; room = r })
@@ -21,9 +18,24 @@ pub gained-append : (t : Option Taken) (a b : List ℕ) → gained (gained t a) 
 gained-append None a b = refl
 gained-append (Some t) a b = ap₂ told_as (append_assoc t.bytes a b) (omega (arith, length-append a b))
 
-pub room-gained : (t : Option Taken) (a : List ℕ) (n : ℕ) → HasRoom t (length a + n) → HasRoom (gained t a) n
-room-gained None a n h = h
-room-gained (Some t) a n h = let h' : length a + n ≤ t.room = h in omega arith
+room_behind : (t : Option Taken) (front text : List ℕ) → HasRoom t (length (front ++ text))
+    → HasRoom (gained t front) (length text)
+room_behind None front text room = room
+room_behind (Some t) front text room = let fits : length (front ++ text) ≤ t.room = room in
+    omega (arith, length-append front text)
+
+room_before : (t : Option Taken) (front text : List ℕ) → HasRoom t (length (front ++ text)) → HasRoom t (length front)
+room_before None front text room = room
+room_before (Some t) front text room = let fits : length (front ++ text) ≤ t.room = room in
+    omega (arith, length-append front text)
+
+on_ok : {E : Type 0} {P Q : Type 0} (r : Result Unit E) → (P → Q) → OnOk r P → OnOk r Q
+on_ok {E} {P} {Q} (Ok x) to h = to h
+on_ok {E} {P} {Q} (Err e) to h = h
+
+on_err : {E : Type 0} {P Q : Type 0} (r : Result Unit E) → (P → Q) → OnErr r P → OnErr r Q
+on_err {E} {P} {Q} (Ok x) to h = h
+on_err {E} {P} {Q} (Err e) to h = to h
 
 -- how far a put of the whole text has come
 pub record Putting (old now : Option Taken) (bytes rest : List ℕ) : Type 0 where
@@ -44,116 +56,92 @@ goes_on {old} {now} {bytes} {rest} p n next told = rw take_rest record {
   told = told ∙ ap (λ (t : Option Taken). gained t (take n rest)) p.told ∙ gained-append old p.part (take n rest);
 }
 
-pub whole : {old now : Option Taken} {bytes : List ℕ} (rest : List ℕ) → Putting old now bytes rest → length rest ≡ 0
-    → now ≡ gained old bytes
-whole {old} {now} {bytes} [] p none = p.told ∙ ap (gained old) (sym (append-nil p.part) ∙ p.split)
-whole (b ∷ rest) p none = absurd (omega arith)
+-- ---- whole texts, one behind another
 
--- one whole piece more
-pub goes_piece : {old now : Option Taken} {bytes : List ℕ} (piece rest : List ℕ) → Putting old now bytes (piece ++ rest)
-    → (next : Option Taken) → next ≡ gained now piece → Putting old next bytes rest
-goes_piece {old} {now} {bytes} piece rest p next told = record {
-  part = p.part ++ piece;
-  split = append_assoc p.part piece rest ∙ p.split;
-  told = told ∙ ap (λ (t : Option Taken). gained t piece) p.told ∙ gained-append old p.part piece;
-}
+module _ {V E : Type 0} {told : V → SinkTold} {reliable : V → Type 0} where
+  pub puts_nothing : (v : V) → Puts {E = E} told reliable v v [] (Ok tt)
+  puts_nothing v =
+      let none = sym (gained-nil (told v).taken) in
+      record {
+        whole = none;
+        part = record { part = []; rest = []; split = refl; told = none };
+        cause = record { later = omega arith; stays = refl; failed = tt };
+        keeps = λ s. s;
+        steady = λ s room. refl;
+      }
 
--- a part of one piece more
-pub stops_in : {old now : Option Taken} {bytes : List ℕ} (piece rest : List ℕ) → Putting old now bytes (piece ++ rest)
-    → (next : Option Taken) → GainedPart now next piece → GainedPart old next bytes
-stops_in {old} {now} {bytes} piece rest p next g = record {
-  part = p.part ++ g.part;
-  rest = g.rest ++ rest;
-  split = append_assoc p.part g.part (g.rest ++ rest)
-      ∙ ap (λ (l : List ℕ). p.part ++ l)
-      (sym (append_assoc g.part g.rest rest) ∙ ap (λ (l : List ℕ). l ++ rest) g.split)
-      ∙ p.split;
-  told = g.told ∙ ap (λ (t : Option Taken). gained t g.part) p.told ∙ gained-append old p.part g.part;
-}
+  module _ {front : List ℕ} {v v' : V} where
+    -- the first text is put, and then the second, or not
+    pub puts_behind : {text : List ℕ} {v'' : V} → Puts {E = E} told reliable v v' front (Ok tt) → (r : Result Unit E)
+        → Puts told reliable v' v'' text r → Puts told reliable v v'' (front ++ text) r
+    puts_behind {text} {v''} first r second = record {
+      whole = on_ok r (λ is. is ∙ ap (λ (t : Option Taken). gained t text) first.whole
+          ∙ gained-append (told v).taken front text)
+          second.whole;
+      part = record {
+        part = front ++ second.part.part;
+        rest = second.part.rest;
+        split = append_assoc front second.part.part second.part.rest
+            ∙ ap (λ (l : List ℕ). front ++ l) second.part.split;
+        told = second.part.told ∙ ap (λ (t : Option Taken). gained t second.part.part) first.whole
+            ∙ gained-append (told v).taken front second.part.part;
+      };
+      cause = record {
+        later = omega (arith, first.cause.later, second.cause.later);
+        stays = on_ok r (λ is. is ∙ first.cause.stays) second.cause.stays;
+        failed = on_err r (λ rose. subst (λ n. Rose n (told v'').faults) first.cause.stays rose) second.cause.failed;
+      };
+      keeps = λ s. second.keeps (first.keeps s);
+      steady = λ s room. second.steady (first.keeps s)
+          (subst (λ (t : Option Taken). HasRoom t (length text)) (sym first.whole)
+          (room_behind (told v).taken front text room));
+    }
 
--- the pieces from the i-th on
-pub flat-drop : {X : Type 0} (f : X → List ℕ) (xs : List X) (i : ℕ) (x : X) → i < length xs → x ≡ get_or xs i x
-    → flat_map f (drop i xs) ≡ f x ++ flat_map f (drop (i + 1) xs)
-flat-drop f [] i x lt is = absurd (omega arith)
-flat-drop {X} f (l ∷ xs) zero x lt is = ap (λ (y : X). f y ++ flat_map f xs) (sym is)
-flat-drop {X} f (l ∷ xs) (suc i) x lt is = let e : suc i + 1 ≡ suc (i + 1) = omega arith in
-    flat-drop f xs i x (omega arith) is ∙ ap (λ (n : ℕ). f x ++ flat_map f (drop n (l ∷ xs))) (sym e)
+    -- the put of the first failed
+    pub puts_no_more : {e : E} → Puts told reliable v v' front (Err e) → (text : List ℕ) (r : Result Unit E) → IsErr r
+        → Puts told reliable v v' (front ++ text) r
+    puts_no_more {e} first text (Ok x) failed = cc
+    puts_no_more {e} first text (Err e') failed = record {
+      whole = tt;
+      part = record {
+        part = first.part.part;
+        rest = first.part.rest ++ text;
+        split = sym (append_assoc first.part.part first.part.rest text)
+            ∙ ap (λ (l : List ℕ). l ++ text) first.part.split;
+        told = first.part.told;
+      };
+      cause = record { later = first.cause.later; stays = tt; failed = first.cause.failed };
+      keeps = first.keeps;
+      steady = λ s room. first.steady s (room_before (told v).taken front text room);
+    }
 
-module _ {X : Type 0} (f : X → List ℕ) {old now : Option Taken} (xs : List X) (i : ℕ) (x : X) (piece : List ℕ)
-    (lt : i < length xs) (is : x ≡ get_or xs i x) (bytes : piece ≡ f x)
-    (so_far : Putting old now (flat_map f xs) (flat_map f (drop i xs))) where
-  split_here : Putting old now (flat_map f xs) (piece ++ flat_map f (drop (i + 1) xs))
-  split_here = subst (λ (t : List ℕ). Putting old now (flat_map f xs) t)
-      (flat-drop f xs i x lt is ∙ ap (λ (b : List ℕ). b ++ flat_map f (drop (i + 1) xs)) (sym bytes)) so_far
+  -- the next of several texts, whose text in all is that of F
+  module _ {X : Type 0} (F : List X → List ℕ) (joins : (a b : List X) → F (a ++ b) ≡ F a ++ F b) (xs : List X) (i : ℕ)
+      (d : X) (lt : i < length xs) {text : List ℕ} (one : F (get_or xs i d ∷ []) ≡ text) {v v' v'' : V}
+      (so_far : Puts {E = E} told reliable v v' (F (take i xs)) (Ok tt)) where
+    pub puts_next : (r : Result Unit E) → Puts told reliable v' v'' text r
+        → Puts told reliable v v'' (F (take (i + 1) xs)) r
+    puts_next r next =
+        subst (λ (t : List ℕ). Puts told reliable v v'' t r)
+        (ap (λ (t : List ℕ). F (take i xs) ++ t) (sym one)
+        ∙ sym (ap F (take_more xs i d lt) ∙ joins (take i xs) (get_or xs i d ∷ []))) (puts_behind so_far r next)
 
-  pub next_piece : (next : Option Taken) → next ≡ gained now piece
-      → Putting old next (flat_map f xs) (flat_map f (drop (i + 1) xs))
-  next_piece next told = goes_piece piece (flat_map f (drop (i + 1) xs)) split_here next told
-
-  pub in_piece : (next : Option Taken) → GainedPart now next piece → GainedPart old next (flat_map f xs)
-  in_piece next g = stops_in piece (flat_map f (drop (i + 1) xs)) split_here next g
-
--- the default does not matter below the length
-get_or-any : {X : Type 0} (xs : List X) (i : ℕ) (d e : X) → i < length xs → get_or xs i d ≡ get_or xs i e
-get_or-any [] i d e lt = absurd (omega arith)
-get_or-any (x ∷ xs) zero d e lt = refl
-get_or-any (x ∷ xs) (suc i) d e lt = get_or-any xs i d e (omega arith)
-
-module _ {X : Type 0} (f : X → List ℕ) {old now : Option Taken} (xs : List X) (i : ℕ) (d : X) (lt : i < length xs)
-    (so_far : Putting old now (flat_map f xs) (flat_map f (drop i xs))) where
-  pub next_at : (next : Option Taken) → next ≡ gained now (f (get_or xs i d))
-      → Putting old next (flat_map f xs) (flat_map f (drop (i + 1) xs))
-  next_at next told = next_piece f xs i (get_or xs i d) (f (get_or xs i d)) lt (get_or-any xs i d (get_or xs i d) lt)
-      refl so_far next told
-
-  pub in_at : (next : Option Taken) → GainedPart now next (f (get_or xs i d)) → GainedPart old next (flat_map f xs)
-  in_at next g = in_piece f xs i (get_or xs i d) (f (get_or xs i d)) lt (get_or-any xs i d (get_or xs i d) lt) refl
-      so_far next g
+    pub puts_stop : {e : E} → Puts told reliable v' v'' text (Err e) → (r : Result Unit E) → IsErr r
+        → Puts told reliable v v'' (F xs) r
+    puts_stop {e} next r failed = subst (λ (t : List ℕ). Puts told reliable v v'' t r)
+        (sym (joins (take (i + 1) xs) (drop (i + 1) xs)) ∙ ap F (take-append-drop (i + 1) xs))
+        (puts_no_more (puts_next (Err e) next) _ r failed)
 
 -- ---- lines
 
--- lines up to one of them, it, and those behind
-cut_at : (lines : List (List ℕ)) (i : ℕ) (d : List ℕ) → i < length lines
-    → lines ≡ take i lines ++ get_or lines i d ∷ drop (i + 1) lines
-cut_at [] i d lt = absurd (omega arith)
-cut_at (x ∷ xs) zero d lt = refl
-cut_at (x ∷ xs) (suc i) d lt = let e : suc i + 1 ≡ suc (i + 1) = omega arith in
-    rw e (ap (λ ls. x ∷ ls) (cut_at xs i d (omega arith)))
-
-module _ (lines : List (List ℕ)) (i : ℕ) (d line : List ℕ) (lt : i < length lines) (is : line ≡ get_or lines i d)
-    (old now : Option Taken) (so_far : now ≡ gained old (concat (take i lines))) where
-  cut_here : lines ≡ take i lines ++ line ∷ drop (i + 1) lines
-  cut_here = rw is (cut_at lines i d lt)
-
-  pub line_put : (next : Option Taken) → next ≡ gained now line → next ≡ gained old (concat (take (i + 1) lines))
-  line_put next told =
-      let more : take (i + 1) lines ≡ take i lines ++ line ∷ [] = rw (add-one, is) (take-suc lines i d lt) in
-      let text : concat (take (i + 1) lines) ≡ concat (take i lines) ++ line =
-      ap concat more ∙ concat-append (take i lines) (line ∷ []) ∙ ap (λ l. concat (take i lines) ++ l) (append-nil line) in
-      told ∙ ap (λ t. gained t line) so_far ∙ gained-append old (concat (take i lines)) line
-      ∙ ap (gained old) (sym text)
-
-  pub line_begun : (next : Option Taken) → GainedShort now next line → GainedLines old next lines
-  line_begun next short = record {
-    whole = take i lines;
-    next = line;
-    others = drop (i + 1) lines;
-    split = cut_here;
-    begun = subst (λ t. GainedShort t next line) so_far short;
-  }
-
-  pub line_fits : HasRoom old (length (concat lines)) → HasRoom now (length line)
-  line_fits h =
-      let before = concat (take i lines) in
-      let behind = concat (drop (i + 1) lines) in
-      let all : concat lines ≡ before ++ (line ++ behind) =
-      ap concat cut_here ∙ concat-append (take i lines) (line ∷ drop (i + 1) lines) in
-      let size : length (concat lines) ≡ length before + (length line + length behind) =
-      ap length all ∙ length-append before (line ++ behind)
-      ∙ ap (λ (n : ℕ). length before + n) (length-append line behind) in
-      less now (length line) (length behind)
-      (rw so_far (room-gained old before (length line + length behind) (rw size at h)))
-    where
-      less : (t : Option Taken) (a b : ℕ) → HasRoom t (a + b) → HasRoom t a
-      less None a b h = h
-      less (Some t) a b h = let h' : a + b ≤ t.room = h in omega arith
+-- a put of lines ends in one of them
+pub line_begun : (lines : List (List ℕ)) (i : ℕ) (d line : List ℕ) → i < length lines → line ≡ get_or lines i d
+    → {old now next : Option Taken} → now ≡ gained old (concat (take i lines)) → GainedShort now next line
+    → GainedLines old next lines
+line_begun lines i d line lt is {old} {now} {next} so_far short = record {
+  whole = take i lines;
+  next = line;
+  others = drop (i + 1) lines;
+  split = rw is (sym (take-append-drop i lines) ∙ ap (λ ls. take i lines ++ ls) (drop_more lines i d lt));
+  begun = subst (λ t. GainedShort t next line) so_far short;
+}

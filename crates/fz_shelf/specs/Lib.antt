@@ -4,6 +4,7 @@ pub mod Faults
 pub mod Files
 pub mod Lines
 pub mod Parts
+pub mod Puts
 pub mod Log
 pub mod MemFiles
 pub mod Reading

@@ -1,8 +1,8 @@
 //! Texts with numbers in them, put without allocating memory.
-ghost use Rattle.std.specs.Prelude.{◌≡◌, ◌/◌, ◌%◌, [], ◌∷◌, length, OnOk, IsOk};
+ghost use Rattle.std.specs.Prelude.{◌≡◌, ◌/◌, ◌%◌, [], ◌∷◌};
 ghost use Rattle.hex.specs.Hex.{encode_upper};
-ghost use Rattle.fz_shelf.specs.{Faults.HasCause, Told.gained, Told.GainedPart, Told.HasRoom};
 ghost use Rattle.fz_shelf.specs.Parts.{address_digits, behind_blank, byte_digits, part_text, parts_text};
+ghost use Rattle.fz_shelf.specs.Puts.{Puts};
 ghost use Rattle.std.specs.List.{flat_map};
 
 use crate::whole::put_all;
@@ -26,12 +26,7 @@ pub enum Part<'a> {
 
 /// Puts the parts one after the other.
 pub fn put_parts<S: Sink>(sink: &mut S, parts: &[Part]) -> Result<(), Failed>
-    ensures whole { OnOk result ((S.told sink.new).taken ≡ gained (S.told sink.old).taken (parts_text parts.now)) }
-    ensures part { GainedPart (S.told sink.old).taken (S.told sink.new).taken (parts_text parts.now) }
-    ensures cause { HasCause (S.told sink.old).faults (S.told sink.new).faults result }
-    ensures reliable { S.reliable sink.old → S.reliable sink.new }
-    ensures steady { S.reliable sink.old → HasRoom (S.told sink.old).taken (length (parts_text parts.now))
-        → IsOk result }
+    ensures { Puts S.told S.reliable sink.old sink.new (parts_text parts.now) result }
 {
     for part in parts {
         put_part(sink, part)?;
@@ -40,11 +35,7 @@ pub fn put_parts<S: Sink>(sink: &mut S, parts: &[Part]) -> Result<(), Failed>
 }
 
 fn put_part<S: Sink>(sink: &mut S, part: &Part) -> Result<(), Failed>
-    ensures whole { OnOk result ((S.told sink.new).taken ≡ gained (S.told sink.old).taken (part_text part.now)) }
-    ensures part { GainedPart (S.told sink.old).taken (S.told sink.new).taken (part_text part.now) }
-    ensures cause { HasCause (S.told sink.old).faults (S.told sink.new).faults result }
-    ensures reliable { S.reliable sink.old → S.reliable sink.new }
-    ensures steady { S.reliable sink.old → HasRoom (S.told sink.old).taken (length (part_text part.now)) → IsOk result }
+    ensures { Puts S.told S.reliable sink.old sink.new (part_text part.now) result }
 {
     match part {
         Part::Text(text) => put_all(sink, text),
@@ -59,13 +50,7 @@ fn put_part<S: Sink>(sink: &mut S, part: &Part) -> Result<(), Failed>
 }
 
 fn put_numbers<S: Sink>(sink: &mut S, numbers: &[u8]) -> Result<(), Failed>
-    ensures whole { OnOk result ((S.told sink.new).taken
-        ≡ gained (S.told sink.old).taken (flat_map behind_blank numbers.now)) }
-    ensures part { GainedPart (S.told sink.old).taken (S.told sink.new).taken (flat_map behind_blank numbers.now) }
-    ensures cause { HasCause (S.told sink.old).faults (S.told sink.new).faults result }
-    ensures reliable { S.reliable sink.old → S.reliable sink.new }
-    ensures steady { S.reliable sink.old
-        → HasRoom (S.told sink.old).taken (length (flat_map behind_blank numbers.now)) → IsOk result }
+    ensures { Puts S.told S.reliable sink.old sink.new (flat_map behind_blank numbers.now) result }
 {
     for number in numbers {
         put_behind_blank(sink, *number)?;
@@ -74,12 +59,7 @@ fn put_numbers<S: Sink>(sink: &mut S, numbers: &[u8]) -> Result<(), Failed>
 }
 
 fn put_behind_blank<S: Sink>(sink: &mut S, number: u8) -> Result<(), Failed>
-    ensures whole { OnOk result ((S.told sink.new).taken ≡ gained (S.told sink.old).taken (behind_blank number)) }
-    ensures part { GainedPart (S.told sink.old).taken (S.told sink.new).taken (behind_blank number) }
-    ensures cause { HasCause (S.told sink.old).faults (S.told sink.new).faults result }
-    ensures reliable { S.reliable sink.old → S.reliable sink.new }
-    ensures steady { S.reliable sink.old → HasRoom (S.told sink.old).taken (length (behind_blank number))
-        → IsOk result }
+    ensures { Puts S.told S.reliable sink.old sink.new (behind_blank number) result }
 {
     put_all(sink, b" ")?;
     let mut buffer = Buffer::new();

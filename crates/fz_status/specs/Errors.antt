@@ -1,7 +1,7 @@
 -- The one line on err.
 -- Beside the promise.
-use Rattle.std.specs.Prelude.{◌≡◌, ◌≤◌, ◌++◌, ℕ, List, [], length, codes, Result, IsOk, OnOk}
-use Rattle.fz_shelf.specs.{Faults.HasCause, Faults.Rose, Told.SinkTold, Told.gained, Told.GainedPart, Told.HasRoom}
+use Rattle.std.specs.Prelude.{◌≡◌, ◌≤◌, ◌++◌, ℕ, List, [], codes}
+use Rattle.fz_shelf.specs.{Faults.Rose, Told.SinkTold, Told.gained, Told.GainedPart}
 use Rattle.fz_status.specs.FaultLines.{asm_line, cert_line, fast_line, fcl_line, handler_line, image_line}
 use Rattle.fz_status.specs.FaultLines.{not_reached_line, plan_line, trace_line, trap_line, upset_line, want_of_memory}
 use Rattle.fz_status.specs.FaultLines.{with_name, with_number}
@@ -30,15 +30,6 @@ error_line_of words (status.Budget steps) = with_number (codes "budget: ") steps
 error_line_of words (status.Handler f) = handler_line f
 error_line_of words (status.Script line) = with_number (codes "script: line ") line []
 error_line_of words (status.Fast f) = fast_line f
-
--- a text is put into a sink: what it tells and its soundness, of the old one and of the new
-pub record Puts {V E : Type 0} (told : V → SinkTold) (reliable : V → Type 0) (old new : V) (text : List ℕ)
-    (result : Result Unit E) : Type 0 where
-  pub whole : OnOk result ((told new).taken ≡ gained (told old).taken text)
-  pub part : GainedPart (told old).taken (told new).taken text
-  pub cause : HasCause (told old).faults (told new).faults result
-  pub keeps : reliable old → reliable new
-  pub steady : reliable old → HasRoom (told old).taken (length text) → IsOk result
 
 -- the sink gained a prefix of the line, and all of it where its count did not rise
 pub record Complains (text : List ℕ) (old new : SinkTold) : Type 0 where

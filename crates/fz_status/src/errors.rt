@@ -2,21 +2,22 @@
 ghost use Rattle.std.specs.Prelude.{◌≡◌, ◌++◌, length};
 ghost use Rattle.fz_shelf.specs.Told.{gained, HasRoom};
 ghost use Rattle.fz_status.specs.Words.{texts_of};
-ghost use Rattle.fz_status.specs.Errors.{Puts, Complains, error_line_of};
+ghost use Rattle.fz_shelf.specs.Puts.{Puts};
+ghost use Rattle.fz_status.specs.Errors.{Complains, error_line_of};
 
 use crate::Status;
 use crate::fault_lines::{
-    put, put_asm, put_cert, put_fast, put_fcl, put_handler, put_image, put_name, put_not_reached,
+    put_asm, put_cert, put_fast, put_fcl, put_handler, put_image, put_name, put_not_reached,
     put_number, put_plan, put_text, put_trace, put_trap, put_upset,
 };
 use crate::words::word;
-use fz_shelf::{Failed, Sink};
+use fz_shelf::{Failed, Sink, put_parts};
 
 fn put_line<F: Sink>(err: &mut F, words: &[String], status: &Status) -> Result<(), Failed>
     ensures { Puts F.told F.reliable err.old err.new (error_line_of (texts_of words.now) status.now) result }
 {
     match status {
-        Status::Ok => put(err, &[]),
+        Status::Ok => put_parts(err, &[]),
         Status::Usage => put_text(
             err,
             b"usage: fuzz12 compile, certify, check, run, asm, exec or gen",

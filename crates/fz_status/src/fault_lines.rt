@@ -1,7 +1,6 @@
 //! The lines of faults of contents, put in parts that need no memory.
 ghost use Rattle.std.specs.Prelude.{◌≡◌, ◌++◌};
-ghost use Rattle.fz_shelf.specs.Parts.{part_text, parts_text, newline};
-ghost use Rattle.fz_status.specs.Errors.{Puts};
+ghost use Rattle.fz_shelf.specs.{Parts.part_text, Parts.newline, Puts.Puts};
 ghost use Rattle.fz_status.specs.FaultLines.{asm_line, at_address, byte_or_none, cert_line, check_line, fast_line};
 ghost use Rattle.fz_status.specs.FaultLines.{fcl_line, handler_line, image_line, leaf_line, load_kind, load_line};
 ghost use Rattle.fz_status.specs.FaultLines.{not_reached_line, plan_line, records_line, syntax_line, trace_line};
@@ -22,17 +21,10 @@ use rule_layout::LayoutFault;
 use srecord::SrecFault;
 use trace_io::TraceFault;
 
-/// Puts the parts one after the other.
-pub(crate) fn put<F: Sink>(err: &mut F, parts: &[Part]) -> Result<(), Failed>
-    ensures { Puts F.told F.reliable err.old err.new (parts_text parts.now) result }
-{
-    put_parts(err, parts)
-}
-
 /// Puts texts, each with an optional part after it, and the line feed.
 macro_rules! write_line {
     ($err:ident; $($text:tt $($kind:ident $value:expr)?),+) => {
-        put($err, &[$(Part::Text($text), $(part!($kind $value),)?)+ Part::Text(b"\n")])
+        put_parts($err, &[$(Part::Text($text), $(part!($kind $value),)?)+ Part::Text(b"\n")])
     };
 }
 
@@ -350,7 +342,7 @@ pub(crate) fn put_handler<F: Sink>(err: &mut F, fault: &HandlerFault) -> Result<
 pub(crate) fn put_fast<F: Sink>(err: &mut F, fault: &FastFault) -> Result<(), Failed>
     ensures { Puts F.told F.reliable err.old err.new (fast_line fault.now) result }
 {
-    put(err, &[Part::Text(b"fast ")])?;
+    put_parts(err, &[Part::Text(b"fast ")])?;
     put_usual(err, fault)
 }
 
