@@ -40,7 +40,7 @@ ports_of x leaves = record {
     subst (λ (l : MemoryMap). l.outputs ≤ at) (map_is x) from,
     end at (subst (λ (w : Width). at < main_map.outputs + places w * x.two.firmware.outputs) (width_is x)
         (subst (λ (l : MemoryMap). at < l.outputs + places x.two.firmware.width * x.two.firmware.outputs)
-            (map_is x) to)),
+        (map_is x) to)),
   ));
 }
   where
