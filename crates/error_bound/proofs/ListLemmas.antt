@@ -54,13 +54,19 @@ drop_back xs k x d some upto is =
     let back : suc (k - 1) ≡ k = omega arith in
     drop-cons xs (k - 1) d (omega arith) ∙ ap₂ (λ y n. y ∷ drop n xs) (sym is) back
 
+-- and over what is read of a list, what the list has there
+pub step_back : {X : Type 0} {xs ys : List X} {k : ℕ} {x : X} → xs ≡ ys → 1 ≤ k → k ≤ length xs
+    → x ≡ get_or xs (k - 1) x → (drop (k - 1) xs ≡ x ∷ drop k xs) × (slice_get ys (k - 1) ≡ Some x)
+step_back {xs = xs} {ys = ys} {k = k} {x = x} same some upto is =
+    (drop_back xs k x x some upto is, slice_get-slice xs ys (k - 1) x same (omega arith) is)
+
 -- ---- the parts of a valid AND or OR are valid
 
 -- the part number k falls, and is valid
-pub part_asks : PartsAreValid → (b : Block) (parts : List Condition) (k : ℕ) (part : Condition) → 1 ≤ k
-    → k ≤ length parts → part ≡ get_or parts (k - 1) part → AreValidConditions b (conditions parts)
+pub part_asks : PartsAreValid → (b : Block) (parts : List Condition) {k : ℕ} {part : Condition}
+    → part ≡ get_or parts (k - 1) part → AreValidConditions b (conditions parts) → 1 ≤ k → k ≤ length parts
     → (size-Condition part ≤ most size-Condition parts) × IsValidCondition b part
-part_asks parts_are_valid b parts k part from to is valid = (
+part_asks parts_are_valid b parts {k} {part} is valid from to = (
   part_falls parts (k - 1) part (omega arith) is,
   parts_are_valid b parts (k - 1) part valid (slice_get-read parts parts (k - 1) part refl (omega arith) is),
 )

@@ -480,12 +480,12 @@ raised-le true x y a n e hx hy = omega arith
 raised-le false x y a n e hx hy = omega arith
 
 -- one rule more
-pub AreGreatest-raised : (f : Rule → ℕ) (n o : ℕ) (r : Rule) (rest rs : List Rule) (value : ℕ) (old new : List ℕ)
+pub AreGreatest-raised : {f : Rule → ℕ} {n o : ℕ} {r : Rule} {rest rs : List Rule} {value : ℕ} {old new : List ℕ}
     → rs ≡ r ∷ rest → value ≡ f r → value ≤ n → AreGreatest f n o rest old
     → ((t : ℕ) → t < 15 → slice_index new t
     ≡ (if concludes r o (t + 1) then max value (slice_index old t) else slice_index old t))
     → AreGreatest f n o rs new
-AreGreatest-raised f n o r rest rs value old new here is to before raised = record {
+AreGreatest-raised {f} {n} {o} {r} {rest} {rs} {value} {old} {new} here is to before raised = record {
   each = λ t few. raised t few
       ∙ ap₂ (λ x y. if concludes r o (t + 1) then max x y else y) is (before.each t few)
       ∙ sym (ap (greatest_of f o (t + 1)) here);
@@ -498,10 +498,10 @@ skipped-is true x y within = let z = within refl in omega arith
 skipped-is false x y within = refl
 
 -- one that raises nothing
-pub AreGreatest-within : (f : Rule → ℕ) (n o : ℕ) (r : Rule) (rest rs : List Rule) (values : List ℕ) → rs ≡ r ∷ rest
+pub AreGreatest-within : {f : Rule → ℕ} {n o : ℕ} {r : Rule} {rest rs : List Rule} {values : List ℕ} → rs ≡ r ∷ rest
     → ((t : ℕ) → t < 15 → concludes r o (t + 1) ≡ true → f r ≤ slice_index values t) → AreGreatest f n o rest values
     → AreGreatest f n o rs values
-AreGreatest-within f n o r rest rs values here within before = record {
+AreGreatest-within {f} {n} {o} {r} {rest} {rs} {values} here within before = record {
   each = λ t few. before.each t few
       ∙ skipped-is (concludes r o (t + 1)) (f r) (greatest_of f o (t + 1) rest)
       (λ c. subst (λ m. f r ≤ m) (before.each t few) (within t few c))
@@ -510,10 +510,10 @@ AreGreatest-within f n o r rest rs values here within before = record {
 }
 
 -- one that counts for nothing
-pub AreGreatest-skipped : (f : Rule → ℕ) (n o : ℕ) (r : Rule) (rest rs : List Rule) (values : List ℕ) → rs ≡ r ∷ rest
+pub AreGreatest-skipped : {f : Rule → ℕ} {n o : ℕ} {r : Rule} {rest rs : List Rule} {values : List ℕ} → rs ≡ r ∷ rest
     → (concludes_some r o ≡ true → f r ≡ 0) → AreGreatest f n o rest values → AreGreatest f n o rs values
-AreGreatest-skipped f n o r rest rs values here none = AreGreatest-within f n o r rest rs values here
-    (λ t few c. omega (arith, none (any-some o (t + 1) r.concl c)))
+AreGreatest-skipped {o = o} {r = r} here none =
+    AreGreatest-within here (λ t few c. omega (arith, none (any-some o (t + 1) r.concl c)))
 
 both_ways : {m n : ℕ} → m ≤ n → n ≤ m → m ≡ n
 both_ways l k = omega arith

@@ -8,14 +8,12 @@ use Rattle.error_bound.proofs.ends.+ends.Goals as goal
 
 pub end_among-end_of_literal-end-requires-clause-literal : goal.end_among-end_of_literal-end-requires-clause-literal
 end_among-end_of_literal-end-requires-clause-literal t c =
-    let asks = part_asks c.parts_are_valid.ensures c.args.table.now.table.now.block.now c.args.parts.now c.loop-k.k c.index-parts-k.result
-    (search rules) (search rules) c.index-parts-k.is c.requires.parts in
-    subst (IsValidCondition c.args.table.now.table.now.block.now) c.in-Some.ensures asks.1
+    subst (IsValidCondition _) c.in-Some.ensures
+    (part_asks c.parts_are_valid.ensures _ _ c.index-parts-k.is c.requires.parts (search rules) (search rules)).1
 
 pub end_among-end_of-end-requires : goal.end_among-end_of-end-requires
 end_among-end_of-end-requires t c =
-    let asks = part_asks c.parts_are_valid.ensures c.args.table.now.table.now.block.now c.args.parts.now c.loop-k.k c.index-parts-k.result
-    (search rules) (search rules) c.index-parts-k.is c.requires.parts in
+    let asks = part_asks c.parts_are_valid.ensures _ _ c.index-parts-k.is c.requires.parts (search rules) (search rules) in
     (search (rules, asks.0), (asks.1, c.requires.table))
 
 pub end_among-joined-joined-requires-clause-left : goal.end_among-joined-joined-requires-clause-left
@@ -46,10 +44,10 @@ end_among-loop-k-init t c =
 
 pub end_of-end_among-requires : goal.end_of-end_among-requires
 end_of-end_among-requires t c =
-    let asks = parts_ask c.args.table.now.table.now.block.now c.condition.view_is (inl c.in-And.is) c.as_slice.ensures.value
-    c.requires.condition in (search (rules, asks.0), (asks.1, c.requires.table))
+    let asks = parts_ask _ c.condition.view_is (inl c.in-And.is) c.as_slice.ensures.value c.requires.condition in
+    (search (rules, asks.0), (asks.1, c.requires.table))
 
 pub end_of-end_among-requires-in-Or : goal.end_of-end_among-requires-in-Or
 end_of-end_among-requires-in-Or t c =
-    let asks = parts_ask c.args.table.now.table.now.block.now c.condition.view_is (inr c.in-Or.is) c.as_slice-in-Or.ensures.value
-    c.requires.condition in (search (rules, asks.0), (asks.1, c.requires.table))
+    let asks = parts_ask _ c.condition.view_is (inr c.in-Or.is) c.as_slice-in-Or.ensures.value c.requires.condition in
+    (search (rules, asks.0), (asks.1, c.requires.table))

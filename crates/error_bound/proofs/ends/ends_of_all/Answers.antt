@@ -6,8 +6,7 @@ use Rattle.error_bound.proofs.ends.ends_of_all.Goals as goal
 
 pub ends_of_part-ends-requires-clause-part : goal.ends_of_part-ends-requires-clause-part
 ends_of_part-ends-requires-clause-part c =
-    (part_asks c.parts_are_valid.ensures c.args.table.now.table.now.block.now c.args.parts.now c.loop-k.k c.index-parts-k.result
-    (search rules) (search rules) c.index-parts-k.is c.requires.parts).1
+    (part_asks c.parts_are_valid.ensures _ _ c.index-parts-k.is c.requires.parts (search rules) (search rules)).1
 
 pub loop-k-preserved : goal.loop-k-preserved
 loop-k-preserved c =

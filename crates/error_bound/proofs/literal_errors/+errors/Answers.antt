@@ -10,26 +10,24 @@ pub deviation_among-reach_of_literal-reach-requires-clause-term :
     goal.deviation_among-reach_of_literal-reach-requires-clause-term
 deviation_among-reach_of_literal-reach-requires-clause-term t c =
     let l = c.in-Some.literal in
-    let asks = part_asks c.parts_are_valid.ensures c.args.table.now.table.now.block.now c.args.parts.now c.loop-k.k c.index-parts-k.result
-    (search rules) (search rules) c.index-parts-k.is c.requires.parts in
+    let asks = part_asks c.parts_are_valid.ensures _ _ c.index-parts-k.is c.requires.parts (search rules) (search rules) in
     valid_under c.args.table.now.table.now.block.now l.negated (is l.input l.term)
     (subst (IsValidCondition c.args.table.now.table.now.block.now) c.in-Some.ensures asks.1)
 
 pub deviation_among-deviation_of-here-requires : goal.deviation_among-deviation_of-here-requires
 deviation_among-deviation_of-here-requires t c =
-    let asks = part_asks c.parts_are_valid.ensures c.args.table.now.table.now.block.now c.args.parts.now c.loop-k.k c.index-parts-k.result
-    (search rules) (search rules) c.index-parts-k.is c.requires.parts in
+    let asks = part_asks c.parts_are_valid.ensures _ _ c.index-parts-k.is c.requires.parts (search rules) (search rules) in
     (search (rules, asks.0), (asks.1, c.requires.table))
 
 pub deviation_of-deviation_among-requires : goal.deviation_of-deviation_among-requires
 deviation_of-deviation_among-requires t c =
-    let asks = parts_ask c.args.table.now.table.now.block.now c.condition.view_is (inl c.in-And.is) c.as_slice.ensures.value
-    c.requires.condition in (search (rules, asks.0), (asks.1, c.requires.table))
+    let asks = parts_ask _ c.condition.view_is (inl c.in-And.is) c.as_slice.ensures.value c.requires.condition in
+    (search (rules, asks.0), (asks.1, c.requires.table))
 
 pub deviation_of-deviation_among-requires-in-Or : goal.deviation_of-deviation_among-requires-in-Or
 deviation_of-deviation_among-requires-in-Or t c =
-    let asks = parts_ask c.args.table.now.table.now.block.now c.condition.view_is (inr c.in-Or.is) c.as_slice-in-Or.ensures.value
-    c.requires.condition in (search (rules, asks.0), (asks.1, c.requires.table))
+    let asks = parts_ask _ c.condition.view_is (inr c.in-Or.is) c.as_slice-in-Or.ensures.value c.requires.condition in
+    (search (rules, asks.0), (asks.1, c.requires.table))
 
 pub deviation_of-returns-in-Or : goal.deviation_of-returns-in-Or
 deviation_of-returns-in-Or t c =

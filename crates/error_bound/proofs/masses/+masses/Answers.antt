@@ -11,14 +11,12 @@ use Rattle.error_bound.proofs.masses.+masses.Goals as goal
 
 pub mass_among-mass_of_literal-mass-requires-clause-literal : goal.mass_among-mass_of_literal-mass-requires-clause-literal
 mass_among-mass_of_literal-mass-requires-clause-literal t c =
-    let asks = part_asks c.parts_are_valid.ensures c.args.table.now.table.now.block.now c.args.parts.now c.loop-k.k c.index-parts-k.result
-    (search rules) (search rules) c.index-parts-k.is c.requires.parts in
-    subst (IsValidCondition c.args.table.now.table.now.block.now) c.in-Some.ensures asks.1
+    subst (IsValidCondition _) c.in-Some.ensures
+    (part_asks c.parts_are_valid.ensures _ _ c.index-parts-k.is c.requires.parts (search rules) (search rules)).1
 
 pub mass_among-mass_of-mass-requires : goal.mass_among-mass_of-mass-requires
 mass_among-mass_of-mass-requires t c =
-    let asks = part_asks c.parts_are_valid.ensures c.args.table.now.table.now.block.now c.args.parts.now c.loop-k.k c.index-parts-k.result
-    (search rules) (search rules) c.index-parts-k.is c.requires.parts in
+    let asks = part_asks c.parts_are_valid.ensures _ _ c.index-parts-k.is c.requires.parts (search rules) (search rules) in
     (search (rules, asks.0), (asks.1, c.requires.table))
 
 pub mass_among-loop-k-init : goal.mass_among-loop-k-init
@@ -58,13 +56,13 @@ mass_among-returns t c =
 
 pub mass_of-mass_among-requires : goal.mass_of-mass_among-requires
 mass_of-mass_among-requires t c =
-    let asks = parts_ask c.args.table.now.table.now.block.now c.condition.view_is (inl c.in-And.is) c.as_slice.ensures.value
-    c.requires.condition in (search (rules, asks.0), (asks.1, c.requires.table))
+    let asks = parts_ask _ c.condition.view_is (inl c.in-And.is) c.as_slice.ensures.value c.requires.condition in
+    (search (rules, asks.0), (asks.1, c.requires.table))
 
 pub mass_of-mass_among-requires-in-Or : goal.mass_of-mass_among-requires-in-Or
 mass_of-mass_among-requires-in-Or t c =
-    let asks = parts_ask c.args.table.now.table.now.block.now c.condition.view_is (inr c.in-Or.is) c.as_slice-in-Or.ensures.value
-    c.requires.condition in (search (rules, asks.0), (asks.1, c.requires.table))
+    let asks = parts_ask _ c.condition.view_is (inr c.in-Or.is) c.as_slice-in-Or.ensures.value c.requires.condition in
+    (search (rules, asks.0), (asks.1, c.requires.table))
 
 pub mass_of-returns-in_default : goal.mass_of-returns-in_default
 mass_of-returns-in_default t c =

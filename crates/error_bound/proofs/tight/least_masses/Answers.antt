@@ -1,5 +1,5 @@
-use Rattle.std.proofs.Common.{◌≡◌, ◌≤◌, ℕ, ◌+◌, ◌-◌, min, Bool, true, false, List, length, drop, get_or}
-use Rattle.std.proofs.Common.{refl, ap, ◌∙◌, subst, arith}
+use Rattle.std.proofs.Common.{◌≡◌, ◌≤◌, ℕ, ◌+◌, ◌-◌, min, Bool, true, false, List, ◌∷◌, length, drop, get_or}
+use Rattle.std.proofs.Common.{refl, ap, subst, arith}
 use Rattle.std.proofs.lemmas.Bool.Decides.{nat_tests}
 use Rattle.std.specs.Prelude.{slice_index, ◌==◌, ◌&&◌, ◌||◌}
 use Rattle.error_bound.proofs.{LeafLemmas.concludes_among, ListLemmas.drop_back}
@@ -14,23 +14,23 @@ either o t false x least value values h rest is =
     let same : x.1 - 1 ≡ t = grind (arith, nat_tests) in
     omega (arith, is, ap values same)
 
+drop_read : {X : Type 0} {xs ys : List X} {k : ℕ} (d : X) → xs ≡ ys → 1 ≤ k → k ≤ length xs
+    → drop (k - 1) ys ≡ get_or xs (k - 1) d ∷ drop k ys
+drop_read {xs = xs} {k = k} d same some upto =
+    subst (λ zs. drop (k - 1) zs ≡ get_or xs (k - 1) d ∷ drop k zs) same (drop_back xs k _ d some upto refl)
+
 pub loop-k-preserved-then-output-out : goal.loop-k-preserved-then-output-out
 loop-k-preserved-then-output-out c =
-    let cs = c.args.rule.now.concl in
-    let j = c.loop-k.k - 1 in
-    let x = get_or cs j (0, 0) in
-    let named : get_or c.as_slice-conclusions.result.now j (0, 0) ≡ x =
-    ap (λ l. get_or l j (0, 0)) c.as_slice-conclusions.ensures in
-    let next = drop_back cs c.loop-k.k x (0, 0) (omega arith) (omega (arith, ap length c.as_slice-conclusions.ensures))
-    refl in
-    let rest = drop c.loop-k.k cs in
     let o = c.args.out in
+    let rest = drop c.loop-k.k c.args.rule.now.concl in
+    let now = drop (c.loop-k.k - 1) c.args.rule.now.concl in
+    let x = get_or c.as_slice-conclusions.result.now (c.loop-k.k - 1) (0, 0) in
+    let next = drop_read (0, 0) c.as_slice-conclusions.ensures c.loop-k-test.true c.loop-k.auto.k in
     let raised : (least value : ℕ) (values : List ℕ) → IsLeast o least rest values
-    → value ≡ min least (slice_index values ((get_or c.as_slice-conclusions.result.now j (0, 0)).1 - 1))
-    → IsLeast o value (drop j cs) values = λ least value values before is t few one.
+    → value ≡ min least (slice_index values (x.1 - 1))
+    → IsLeast o value now values = λ least value values before is t few one.
     either o t (concludes_among o (t + 1) rest) x least value (slice_index values)
-    (subst (λ ys. concludes_among o (t + 1) ys ≡ true) next one) (before t few)
-    (is ∙ ap (λ (y : ℕ × ℕ). min least (slice_index values (y.1 - 1))) named) in
+    (subst (λ ys. concludes_among o (t + 1) ys ≡ true) next one) (before t few) is in
     let i = c.loop-k.invariant in
     record {
       low = raised c.loop-k.low c.min-low.result c.args.lows.now i.low c.min-low.ensures;
@@ -48,18 +48,13 @@ elsewhere o t p x differs h =
 
 pub loop-k-preserved : goal.loop-k-preserved
 loop-k-preserved c =
-    let cs = c.args.rule.now.concl in
-    let j = c.loop-k.k - 1 in
-    let x = get_or cs j (0, 0) in
-    let named : get_or c.as_slice-conclusions.result.now j (0, 0) ≡ x =
-    ap (λ l. get_or l j (0, 0)) c.as_slice-conclusions.ensures in
-    let next = drop_back cs c.loop-k.k x (0, 0) (omega arith) (omega (arith, ap length c.as_slice-conclusions.ensures))
-    refl in
-    let rest = drop c.loop-k.k cs in
     let o = c.args.out in
-    let differs = subst (λ (y : ℕ × ℕ). y.0 ≡ o → ⊥) named c.if-output-out.false in
-    let kept : (least : ℕ) (values : List ℕ) → IsLeast o least rest values → IsLeast o least (drop j cs) values =
-    λ least values before t few one. before t few (elsewhere o t (concludes_among o (t + 1) rest) x differs
+    let rest = drop c.loop-k.k c.args.rule.now.concl in
+    let now = drop (c.loop-k.k - 1) c.args.rule.now.concl in
+    let x = get_or c.as_slice-conclusions.result.now (c.loop-k.k - 1) (0, 0) in
+    let next = drop_read (0, 0) c.as_slice-conclusions.ensures c.loop-k-test.true c.loop-k.auto.k in
+    let kept : (least : ℕ) (values : List ℕ) → IsLeast o least rest values → IsLeast o least now values =
+    λ least values before t few one. before t few (elsewhere o t (concludes_among o (t + 1) rest) x c.if-output-out.false
     (subst (λ ys. concludes_among o (t + 1) ys ≡ true) next one)) in
     let i = c.loop-k.invariant in
     record {

@@ -1,25 +1,20 @@
-use Rattle.std.proofs.Common.{◌≡◌, ℕ, ◌+◌, ◌-◌, max, Bool, true, false, refl, sym, ap, ap₂, ◌∙◌, arith}
+use Rattle.std.proofs.Common.{◌≡◌, ℕ, ◌+◌, max, Bool, true, false, refl, sym, ap, ap₂, ◌∙◌}
 use Rattle.std.specs.Prelude.{if◌then◌else◌}
 use Rattle.fuzzy_meaning.specs.{declared.block.Rule.Rule, Meaning.concludes}
 use Rattle.error_bound.specs.{Errors.output_error_among, Errors.rule_error, CellErrors.term_errors}
 use Rattle.error_bound.specs.Leaves.{concludes_some}
-use Rattle.error_bound.proofs.{LeafLemmas.any-some, ListLemmas.drop_back, ListLemmas.slice_get-slice}
+use Rattle.error_bound.proofs.{LeafLemmas.any-some, ListLemmas.step_back}
 use Rattle.error_bound.proofs.TightLawLemmas.{raised-le}
 use Rattle.error_bound.proofs.tables.BoxTable.errors_by_term.Goals as goal
 
 pub loop-n-preserved-then-concludes_some : goal.loop-n-preserved-then-concludes_some
 loop-n-preserved-then-concludes_some c =
-    let b = c.args.self.now.table.now.block.now in
-    let rules = c.as_slice-rules.result.now in
-    let e = term_errors b c.args.self.now.bytes.0.items in
+    let e = term_errors c.args.self.now.table.now.block.now c.args.self.now.bytes.0.items in
     let o = c.args.out in
-    let j = c.loop-n.n - 1 in
     let r0 = c.index-rules-n-then-concludes_some.result in
-    let here = drop_back rules c.loop-n.n r0 r0 c.loop-n-test.true c.loop-n.auto.n
+    let step = step_back c.as_slice-rules.ensures c.loop-n-test.true c.loop-n.auto.n
     c.index-rules-n-then-concludes_some.is in
-    let found = slice_get-slice rules b.rules j r0 c.as_slice-rules.ensures
-    (omega (arith, c.loop-n-test.true, c.loop-n.auto.n)) c.index-rules-n-then-concludes_some.is in
-    let q = c.error_of_rule-error.ensures r0 found in
+    let q = c.error_of_rule-error.ensures r0 step.1 in
     let error = c.error_of_rule-error.result in
     let before = c.loop-n.invariant in
     let raised = c.raise_terms.ensures in
@@ -27,7 +22,7 @@ loop-n-preserved-then-concludes_some c =
       count = c.raise_terms.array_long;
       each = λ t few.
           raised t few ∙ ap₂ (λ x y. if concludes r0 o (t + 1) then max x y else y) q.value (before.each t few)
-          ∙ sym (ap (output_error_among e o (t + 1)) here);
+          ∙ sym (ap (output_error_among e o (t + 1)) step.0);
       small = λ t few. raised-le (concludes r0 o (t + 1)) error _ _ 3000000000 (raised t few) q.small
           (before.small t few);
     }
@@ -42,17 +37,16 @@ not_concluded r o t none e n = by_test (concludes r o t) refl
 
 pub loop-n-preserved : goal.loop-n-preserved
 loop-n-preserved c =
-    let rules = c.as_slice-rules.result.now in
     let e = term_errors c.args.self.now.table.now.block.now c.args.self.now.bytes.0.items in
     let o = c.args.out in
     let r0 = c.index-rules-n.result in
-    let here = drop_back rules c.loop-n.n r0 r0 c.loop-n-test.true c.loop-n.auto.n c.index-rules-n.is in
+    let step = step_back c.as_slice-rules.ensures c.loop-n-test.true c.loop-n.auto.n c.index-rules-n.is in
     let before = c.loop-n.invariant in
     record {
       count = before.count;
       each = λ t few.
           before.each t few
           ∙ not_concluded r0 o (t + 1) (sym c.concludes_some.ensures ∙ c.if-concludes_some.false) (rule_error e r0) _
-          ∙ sym (ap (output_error_among e o (t + 1)) here);
+          ∙ sym (ap (output_error_among e o (t + 1)) step.0);
       small = before.small;
     }
