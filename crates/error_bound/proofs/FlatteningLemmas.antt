@@ -320,14 +320,14 @@ pub from_place : (parts : List Condition) (k : ℕ) (part : Condition) → 1 ≤
     → part ≡ get_or parts (k - 1) part → conditions (drop (k - 1) parts) ≡ also part (conditions (drop k parts))
 from_place parts k part from to here_is = ap conditions (drop_back parts k part part from to here_is)
 
-pub end_from : (b : Block) (box : List Interval) (or : Bool) (side : Side) (parts : List Condition) (k : ℕ) (part : Condition)
-    (p r s : End) → 1 ≤ k → k ≤ length parts → part ≡ get_or parts (k - 1) part
+pub end_from : {b : Block} {box : List Interval} (or : Bool) {side : Side} (parts : List Condition) {k : ℕ} {part : Condition}
+    {p r s : End} → 1 ≤ k → k ≤ length parts → part ≡ get_or parts (k - 1) part
     → IsEndOfCondition b box part side p
     → IsEndOfCondition b box (group or (conditions (drop k parts))) side r
     → value_of s.truth ≡ truths.join or (value_of p.truth) (value_of r.truth)
     → s.byte ≡ (levels 255).join or p.byte r.byte → IsDegreeRatio s.truth
     → IsEndOfCondition b box (group or (conditions (drop (k - 1) parts))) side s
-end_from b box or side parts k part p r s from to here_is hp hr value byte small =
+end_from {b} {box} or {side} parts {k} {part} {p} {r} {s} from to here_is hp hr value byte small =
     let cs = conditions (drop k parts) in
     subst (λ ds. IsEndOfCondition b box (group or ds) side s) (sym (from_place parts k part from to here_is)) (record {
       value = value ∙ ap₂ (truths.join or) hp.value hr.value
@@ -337,10 +337,10 @@ end_from b box or side parts k part p r s from to here_is hp hr value byte small
       small = small;
     })
 
-pub end_from_none : (b : Block) (box : List Interval) (or : Bool) (side : Side) (parts : List Condition) (r : End)
+pub end_from_none : {b : Block} {box : List Interval} (or : Bool) {side : Side} (parts : List Condition) {r : End}
     → value_of r.truth ≡ truths.none or → r.byte ≡ (levels 255).none or → IsDegreeRatio r.truth
     → IsEndOfCondition b box (group or (conditions (drop (length parts) parts))) side r
-end_from_none b box or side parts r value byte small =
+end_from_none {b} {box} or {side} parts {r} value byte small =
     subst (λ ps. IsEndOfCondition b box (group or (conditions ps)) side r)
     (sym (drop_all (length parts) parts (omega arith))) (record {
       value = value ∙ sym (reach-end one_minus truths (literal_span b box) side or);

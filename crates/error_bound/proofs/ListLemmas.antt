@@ -64,9 +64,9 @@ step_back {xs = xs} {ys = ys} {k = k} {x = x} same some upto is =
 
 -- the part number k falls, and is valid
 pub part_asks : PartsAreValid → (b : Block) (parts : List Condition) {k : ℕ} {part : Condition}
-    → part ≡ get_or parts (k - 1) part → AreValidConditions b (conditions parts) → 1 ≤ k → k ≤ length parts
+    → part ≡ get_or parts (k - 1) part → AreValidConditions b (conditions parts) → (1 ≤ k) × (k ≤ length parts)
     → (size-Condition part ≤ most size-Condition parts) × IsValidCondition b part
-part_asks parts_are_valid b parts {k} {part} is valid from to = (
+part_asks parts_are_valid b parts {k} {part} is valid (from, to) = (
   part_falls parts (k - 1) part (omega arith) is,
   parts_are_valid b parts (k - 1) part valid (slice_get-read parts parts (k - 1) part refl (omega arith) is),
 )

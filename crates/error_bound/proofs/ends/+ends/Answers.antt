@@ -9,11 +9,11 @@ use Rattle.error_bound.proofs.ends.+ends.Goals as goal
 pub end_among-end_of_literal-end-requires-clause-literal : goal.end_among-end_of_literal-end-requires-clause-literal
 end_among-end_of_literal-end-requires-clause-literal t c =
     subst (IsValidCondition _) c.in-Some.ensures
-    (part_asks c.parts_are_valid.ensures _ _ c.index-parts-k.is c.requires.parts (search rules) (search rules)).1
+    (part_asks c.parts_are_valid.ensures _ _ c.index-parts-k.is c.requires.parts (search rules)).1
 
 pub end_among-end_of-end-requires : goal.end_among-end_of-end-requires
 end_among-end_of-end-requires t c =
-    let asks = part_asks c.parts_are_valid.ensures _ _ c.index-parts-k.is c.requires.parts (search rules) (search rules) in
+    let asks = part_asks c.parts_are_valid.ensures _ _ c.index-parts-k.is c.requires.parts (search rules) in
     (search (rules, asks.0), (asks.1, c.requires.table))
 
 pub end_among-joined-joined-requires-clause-left : goal.end_among-joined-joined-requires-clause-left
@@ -33,14 +33,13 @@ end_among-loop-k-preserved t c =
       | end_among-in-None w ↦ rw w.end-is w.end_of-end.ensures
     ] in
     let m = c.joined-joined.ensures in
-    end_from b box (is_any c.args.group) c.args.side c.args.parts.now c.loop-k.k part q c.loop-k.joined c.joined-joined.result
-    (search rules) (search rules) c.index-parts-k.is made c.loop-k.invariant m.value m.byte m.small
+    end_from (is_any c.args.group) c.args.parts.now (search rules) (search rules) c.index-parts-k.is made c.loop-k.invariant
+    m.value m.byte m.small
 
 pub end_among-loop-k-init : goal.end_among-loop-k-init
 end_among-loop-k-init t c =
     let m = c.of_none-joined.ensures in
-    end_from_none c.args.table.now.table.now.block.now c.args.table.now.bytes.0.items (is_any c.args.group) c.args.side c.args.parts.now
-    c.of_none-joined.result m.value m.byte m.small
+    end_from_none (is_any c.args.group) c.args.parts.now m.value m.byte m.small
 
 pub end_of-end_among-requires : goal.end_of-end_among-requires
 end_of-end_among-requires t c =

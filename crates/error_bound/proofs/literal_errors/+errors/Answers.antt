@@ -10,13 +10,13 @@ pub deviation_among-reach_of_literal-reach-requires-clause-term :
     goal.deviation_among-reach_of_literal-reach-requires-clause-term
 deviation_among-reach_of_literal-reach-requires-clause-term t c =
     let l = c.in-Some.literal in
-    let asks = part_asks c.parts_are_valid.ensures _ _ c.index-parts-k.is c.requires.parts (search rules) (search rules) in
+    let asks = part_asks c.parts_are_valid.ensures _ _ c.index-parts-k.is c.requires.parts (search rules) in
     valid_under c.args.table.now.table.now.block.now l.negated (is l.input l.term)
     (subst (IsValidCondition c.args.table.now.table.now.block.now) c.in-Some.ensures asks.1)
 
 pub deviation_among-deviation_of-here-requires : goal.deviation_among-deviation_of-here-requires
 deviation_among-deviation_of-here-requires t c =
-    let asks = part_asks c.parts_are_valid.ensures _ _ c.index-parts-k.is c.requires.parts (search rules) (search rules) in
+    let asks = part_asks c.parts_are_valid.ensures _ _ c.index-parts-k.is c.requires.parts (search rules) in
     (search (rules, asks.0), (asks.1, c.requires.table))
 
 pub deviation_of-deviation_among-requires : goal.deviation_of-deviation_among-requires

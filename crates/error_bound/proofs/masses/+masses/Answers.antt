@@ -1,6 +1,6 @@
-use Rattle.std.proofs.Common.{◌≡◌, inl, inr, subst, rules, sym, drop, length, arith}
+use Rattle.std.proofs.Common.{◌≡◌, inl, inr, subst, rules, drop, length, arith}
 use Rattle.fuzzy_meaning.specs.Blocks.{IsValidCondition}
-use Rattle.fuzzy_meaning.specs.Conditions.{conditions, group}
+use Rattle.fuzzy_meaning.specs.Conditions.{conditions}
 use Rattle.error_bound.specs.{Masses.AreEndsOfCondition, Flattening.is_any}
 use Rattle.error_bound.proofs.masses.+masses.Goals.{mass_among-in-Some, mass_among-in-None}
 use Rattle.error_bound.proofs.FlatteningLemmas.{from_place}
@@ -12,27 +12,24 @@ use Rattle.error_bound.proofs.masses.+masses.Goals as goal
 pub mass_among-mass_of_literal-mass-requires-clause-literal : goal.mass_among-mass_of_literal-mass-requires-clause-literal
 mass_among-mass_of_literal-mass-requires-clause-literal t c =
     subst (IsValidCondition _) c.in-Some.ensures
-    (part_asks c.parts_are_valid.ensures _ _ c.index-parts-k.is c.requires.parts (search rules) (search rules)).1
+    (part_asks c.parts_are_valid.ensures _ _ c.index-parts-k.is c.requires.parts (search rules)).1
 
 pub mass_among-mass_of-mass-requires : goal.mass_among-mass_of-mass-requires
 mass_among-mass_of-mass-requires t c =
-    let asks = part_asks c.parts_are_valid.ensures _ _ c.index-parts-k.is c.requires.parts (search rules) (search rules) in
+    let asks = part_asks c.parts_are_valid.ensures _ _ c.index-parts-k.is c.requires.parts (search rules) in
     (search (rules, asks.0), (asks.1, c.requires.table))
 
 pub mass_among-loop-k-init : goal.mass_among-loop-k-init
 mass_among-loop-k-init t c =
-    let b = c.args.table.now.table.now.block.now in
-    let box = c.args.table.now.bytes.0.items in
     let parts = c.args.parts.now in
-    subst (λ ps. AreEndsOfCondition b box (group (is_any c.args.group) (conditions ps)) c.of_none-joined.result)
-    (sym (drop_all (length parts) parts (omega arith)))
-    (ends_none b box (is_any c.args.group) c.of_none-joined.result c.of_none-joined.ensures)
+    rw (drop_all (length parts) parts (omega arith))
+    (ends_none c.args.table.now.table.now.block.now c.args.table.now.bytes.0.items (is_any c.args.group) _
+    c.of_none-joined.ensures)
 
 pub mass_among-loop-k-preserved : goal.mass_among-loop-k-preserved
 mass_among-loop-k-preserved t c =
     let b = c.args.table.now.table.now.block.now in
     let box = c.args.table.now.bytes.0.items in
-    let or = is_any c.args.group in
     let parts = c.args.parts.now in
     let k = c.loop-k.k in
     let part = c.index-parts-k.result in
@@ -41,18 +38,13 @@ mass_among-loop-k-preserved t c =
       | mass_among-in-Some w ↦ rw (w.mass-is, w.in-Some.ensures) w.mass_of_literal-mass.ensures
       | mass_among-in-None w ↦ rw w.mass-is w.mass_of-mass.ensures
     ] in
-    subst (λ ds. AreEndsOfCondition b box (group or ds) c.joined-joined.result)
-    (sym (from_place parts k part (search rules) (search rules) c.index-parts-k.is))
-    (ends_also b box or part (conditions (drop k parts)) q c.loop-k.joined c.joined-joined.result made c.loop-k.invariant
-    c.joined-joined.ensures)
+    rw (from_place parts k part (search rules) (search rules) c.index-parts-k.is)
+    (ends_also b box _ part (conditions (drop k parts)) q _ _ made c.loop-k.invariant c.joined-joined.ensures)
 
 pub mass_among-returns : goal.mass_among-returns
 mass_among-returns t c =
-    let b = c.args.table.now.table.now.block.now in
-    let box = c.args.table.now.bytes.0.items in
     let none : c.loop-k.k ≡ 0 = omega (arith, c.loop-k-test.false) in
-    subst (λ k. AreEndsOfCondition b box (group (is_any c.args.group) (conditions (drop k c.args.parts.now)))
-    c.loop-k.joined) none c.loop-k.invariant
+    rw none at c.loop-k.invariant
 
 pub mass_of-mass_among-requires : goal.mass_of-mass_among-requires
 mass_of-mass_among-requires t c =

@@ -13,7 +13,7 @@ all-any p (also c cs) = ap (λ d. some_literal p c || d) (all-any p cs)
 
 pub some_asks_for-asks_for-requires : goal.some_asks_for-asks_for-requires
 some_asks_for-asks_for-requires t c =
-    let asks = part_asks c.parts_are_valid.ensures _ _ c.index-parts-k.is c.requires.parts (search rules) (search rules) in
+    let asks = part_asks c.parts_are_valid.ensures _ _ c.index-parts-k.is c.requires.parts (search rules) in
     (search (rules, asks.0), (asks.1, c.requires.table))
 
 pub asks_for-some_asks_for-requires : goal.asks_for-some_asks_for-requires
