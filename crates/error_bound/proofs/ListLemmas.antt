@@ -11,7 +11,7 @@ use Rattle.fuzzy_meaning.specs.declared.condition.Node.TheVariants.{And, Or}
 use Rattle.fuzzy_meaning.specs.Trees.{tree}
 use Rattle.fuzzy_meaning.proofs.Algebra.{part_falls, parts_fall, parts_tree}
 use Rattle.fuzzy_meaning.specs.Blocks.{IsValidCondition, AreValidConditions, PartsAreValid}
-use Rattle.fuzzy_meaning.specs.{Conditions.Condition, Conditions.conditions, Conditions.nodes}
+use Rattle.fuzzy_meaning.specs.{Conditions.Condition, Conditions.conditions}
 use Rattle.fuzzy_meaning.specs.declared.block.Block.{Block}
 
 -- the list has what is read at a place of it
@@ -62,21 +62,29 @@ step_back {xs = xs} {ys = ys} {k = k} {x = x} same some upto is =
 
 -- ---- the parts of a valid AND or OR are valid
 
--- the part number k falls, and is valid
-pub part_asks : PartsAreValid → (b : Block) (parts : List Condition) {k : ℕ} {part : Condition}
+-- the part number k
+pub part_is_valid : PartsAreValid → (b : Block) (parts : List Condition) {k : ℕ} {part : Condition}
     → part ≡ get_or parts (k - 1) part → AreValidConditions b (conditions parts) → (1 ≤ k) × (k ≤ length parts)
-    → (size-Condition part ≤ most size-Condition parts) × IsValidCondition b part
-part_asks parts_are_valid b parts {k} {part} is valid (from, to) = (
-  part_falls parts (k - 1) part (omega arith) is,
-  parts_are_valid b parts (k - 1) part valid (slice_get-read parts parts (k - 1) part refl (omega arith) is),
+    → IsValidCondition b part
+part_is_valid parts_are_valid b parts {k} {part} is valid (from, to) =
+    parts_are_valid b parts (k - 1) part valid (slice_get-read parts parts (k - 1) part refl (omega arith) is)
+
+-- so it may be called on, where t is what the calls fall below, and T what else they ask for
+pub part_asks : PartsAreValid → (b : Block) (parts : List Condition) {k : ℕ} {part : Condition} {t : ℕ} {T : Type 0}
+    → part ≡ get_or parts (k - 1) part → AreValidConditions b (conditions parts) → T
+    → (1 ≤ k) × (k ≤ length parts) × (2 * most size-Condition parts + 1 ≤ t)
+    → (2 * size-Condition part + 0 < t) × (IsValidCondition b part × T)
+part_asks parts_are_valid b parts {k} {part} is valid rest (from, to, below) = (
+  omega (arith, part_falls parts (k - 1) part (omega arith) is),
+  (part_is_valid parts_are_valid b parts is valid (from, to), rest),
 )
 
--- all of them do, and are
+-- and so may all of them
 pub parts_ask : (b : Block) {n : Node} {c : Condition} (seen : tree n ≡ c) {v : Vec Condition Global}
-    (sort : (n ≡ And v) ⊎ (n ≡ Or v)) {read : List Condition} → read ≡ v.items → IsValidCondition b c
-    → (most size-Condition read ≤ 2 * nodes c) × AreValidConditions b (conditions read)
-parts_ask b seen sort {read} same valid = (
-  parts_fall seen sort same,
-  subst (λ (cs : List Condition). AreValidConditions b (conditions cs)) (sym same) (⊎_elim
-      (λ e. subst (IsValidCondition b) e valid) (λ e. subst (IsValidCondition b) e valid) (parts_tree seen sort)),
+    (sort : (n ≡ And v) ⊎ (n ≡ Or v)) {read : List Condition} {t : ℕ} {T : Type 0}
+    → (read ≡ v.items) × IsValidCondition b c × T × (2 * size-Condition c + 0 ≤ t)
+    → (2 * most size-Condition read + 1 < t) × (AreValidConditions b (conditions read) × T)
+parts_ask b seen sort (same, valid, rest, below) = (
+  omega (arith, parts_fall seen sort same),
+  (rw same (⊎_elim (λ e. rw e at valid) (λ e. rw e at valid) (parts_tree seen sort)), rest),
 )

@@ -3,18 +3,17 @@ use Rattle.fuzzy_meaning.specs.Blocks.{IsValidCondition}
 use Rattle.error_bound.specs.{Reaches.IsEndOfCondition, Flattening.is_any}
 use Rattle.error_bound.proofs.ends.+ends.Goals.{end_among-in-Some, end_among-in-None}
 use Rattle.error_bound.proofs.FlatteningLemmas.{end_from, end_from_none}
-use Rattle.error_bound.proofs.ListLemmas.{part_asks, parts_ask}
+use Rattle.error_bound.proofs.ListLemmas.{part_asks, part_is_valid, parts_ask}
 use Rattle.error_bound.proofs.ends.+ends.Goals as goal
 
 pub end_among-end_of_literal-end-requires-clause-literal : goal.end_among-end_of_literal-end-requires-clause-literal
 end_among-end_of_literal-end-requires-clause-literal t c =
     subst (IsValidCondition _) c.in-Some.ensures
-    (part_asks c.parts_are_valid.ensures _ _ c.index-parts-k.is c.requires.parts (search rules)).1
+    (part_is_valid c.parts_are_valid.ensures _ _ c.index-parts-k.is c.requires.parts (search rules))
 
 pub end_among-end_of-end-requires : goal.end_among-end_of-end-requires
 end_among-end_of-end-requires t c =
-    let asks = part_asks c.parts_are_valid.ensures _ _ c.index-parts-k.is c.requires.parts (search rules) in
-    (search (rules, asks.0), (asks.1, c.requires.table))
+    part_asks c.parts_are_valid.ensures _ _ c.index-parts-k.is c.requires.parts c.requires.table (search rules)
 
 pub end_among-joined-joined-requires-clause-left : goal.end_among-joined-joined-requires-clause-left
 end_among-joined-joined-requires-clause-left t c = elim c.match-literal_in.branch [
@@ -43,10 +42,8 @@ end_among-loop-k-init t c =
 
 pub end_of-end_among-requires : goal.end_of-end_among-requires
 end_of-end_among-requires t c =
-    let asks = parts_ask _ c.condition.view_is (inl c.in-And.is) c.as_slice.ensures.value c.requires.condition in
-    (search (rules, asks.0), (asks.1, c.requires.table))
+    parts_ask _ c.condition.view_is (inl c.in-And.is) (search rules)
 
 pub end_of-end_among-requires-in-Or : goal.end_of-end_among-requires-in-Or
 end_of-end_among-requires-in-Or t c =
-    let asks = parts_ask _ c.condition.view_is (inr c.in-Or.is) c.as_slice-in-Or.ensures.value c.requires.condition in
-    (search (rules, asks.0), (asks.1, c.requires.table))
+    parts_ask _ c.condition.view_is (inr c.in-Or.is) (search rules)

@@ -1,11 +1,11 @@
 use Rattle.std.proofs.Common.{false, rules}
 use Rattle.error_bound.proofs.FlatteningLemmas.{end_from, end_from_none}
-use Rattle.error_bound.proofs.ListLemmas.{part_asks}
+use Rattle.error_bound.proofs.ListLemmas.{part_is_valid}
 use Rattle.error_bound.proofs.ends.ends_of_all.Goals as goal
 
 pub ends_of_part-ends-requires-clause-part : goal.ends_of_part-ends-requires-clause-part
 ends_of_part-ends-requires-clause-part c =
-    (part_asks c.parts_are_valid.ensures _ _ c.index-parts-k.is c.requires.parts (search rules)).1
+    (part_is_valid c.parts_are_valid.ensures _ _ c.index-parts-k.is c.requires.parts (search rules))
 
 pub loop-k-preserved : goal.loop-k-preserved
 loop-k-preserved c =

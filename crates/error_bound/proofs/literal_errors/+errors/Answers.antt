@@ -3,31 +3,27 @@ use Rattle.fuzzy_meaning.specs.Conditions.{is, any, conditions}
 use Rattle.fuzzy_meaning.specs.{Blocks.IsValidCondition, Trees.tree}
 use Rattle.error_bound.specs.Reaches.{IsDeviationOfCondition}
 use Rattle.error_bound.proofs.ConditionErrors.{valid_under, deviation_of_any}
-use Rattle.error_bound.proofs.ListLemmas.{part_asks, parts_ask}
+use Rattle.error_bound.proofs.ListLemmas.{part_asks, part_is_valid, parts_ask}
 use Rattle.error_bound.proofs.literal_errors.+errors.Goals as goal
 
 pub deviation_among-reach_of_literal-reach-requires-clause-term :
     goal.deviation_among-reach_of_literal-reach-requires-clause-term
 deviation_among-reach_of_literal-reach-requires-clause-term t c =
     let l = c.in-Some.literal in
-    let asks = part_asks c.parts_are_valid.ensures _ _ c.index-parts-k.is c.requires.parts (search rules) in
-    valid_under c.args.table.now.table.now.block.now l.negated (is l.input l.term)
-    (subst (IsValidCondition c.args.table.now.table.now.block.now) c.in-Some.ensures asks.1)
+    let valid = part_is_valid c.parts_are_valid.ensures _ _ c.index-parts-k.is c.requires.parts (search rules) in
+    valid_under _ l.negated (is l.input l.term) (subst (IsValidCondition _) c.in-Some.ensures valid)
 
 pub deviation_among-deviation_of-here-requires : goal.deviation_among-deviation_of-here-requires
 deviation_among-deviation_of-here-requires t c =
-    let asks = part_asks c.parts_are_valid.ensures _ _ c.index-parts-k.is c.requires.parts (search rules) in
-    (search (rules, asks.0), (asks.1, c.requires.table))
+    part_asks c.parts_are_valid.ensures _ _ c.index-parts-k.is c.requires.parts c.requires.table (search rules)
 
 pub deviation_of-deviation_among-requires : goal.deviation_of-deviation_among-requires
 deviation_of-deviation_among-requires t c =
-    let asks = parts_ask _ c.condition.view_is (inl c.in-And.is) c.as_slice.ensures.value c.requires.condition in
-    (search (rules, asks.0), (asks.1, c.requires.table))
+    parts_ask _ c.condition.view_is (inl c.in-And.is) (search rules)
 
 pub deviation_of-deviation_among-requires-in-Or : goal.deviation_of-deviation_among-requires-in-Or
 deviation_of-deviation_among-requires-in-Or t c =
-    let asks = parts_ask _ c.condition.view_is (inr c.in-Or.is) c.as_slice-in-Or.ensures.value c.requires.condition in
-    (search (rules, asks.0), (asks.1, c.requires.table))
+    parts_ask _ c.condition.view_is (inr c.in-Or.is) (search rules)
 
 pub deviation_of-returns-in-Or : goal.deviation_of-returns-in-Or
 deviation_of-returns-in-Or t c =

@@ -5,19 +5,18 @@ use Rattle.error_bound.specs.{Masses.AreEndsOfCondition, Flattening.is_any}
 use Rattle.error_bound.proofs.masses.+masses.Goals.{mass_among-in-Some, mass_among-in-None}
 use Rattle.error_bound.proofs.FlatteningLemmas.{from_place}
 use Rattle.error_bound.proofs.MassLemmas.{ends_also, ends_none, ends_of_exact}
-use Rattle.error_bound.proofs.ListLemmas.{part_asks, parts_ask}
+use Rattle.error_bound.proofs.ListLemmas.{part_asks, part_is_valid, parts_ask}
 use Rattle.std.proofs.lemmas.List.{drop_all}
 use Rattle.error_bound.proofs.masses.+masses.Goals as goal
 
 pub mass_among-mass_of_literal-mass-requires-clause-literal : goal.mass_among-mass_of_literal-mass-requires-clause-literal
 mass_among-mass_of_literal-mass-requires-clause-literal t c =
     subst (IsValidCondition _) c.in-Some.ensures
-    (part_asks c.parts_are_valid.ensures _ _ c.index-parts-k.is c.requires.parts (search rules)).1
+    (part_is_valid c.parts_are_valid.ensures _ _ c.index-parts-k.is c.requires.parts (search rules))
 
 pub mass_among-mass_of-mass-requires : goal.mass_among-mass_of-mass-requires
 mass_among-mass_of-mass-requires t c =
-    let asks = part_asks c.parts_are_valid.ensures _ _ c.index-parts-k.is c.requires.parts (search rules) in
-    (search (rules, asks.0), (asks.1, c.requires.table))
+    part_asks c.parts_are_valid.ensures _ _ c.index-parts-k.is c.requires.parts c.requires.table (search rules)
 
 pub mass_among-loop-k-init : goal.mass_among-loop-k-init
 mass_among-loop-k-init t c =
@@ -48,13 +47,11 @@ mass_among-returns t c =
 
 pub mass_of-mass_among-requires : goal.mass_of-mass_among-requires
 mass_of-mass_among-requires t c =
-    let asks = parts_ask _ c.condition.view_is (inl c.in-And.is) c.as_slice.ensures.value c.requires.condition in
-    (search (rules, asks.0), (asks.1, c.requires.table))
+    parts_ask _ c.condition.view_is (inl c.in-And.is) (search rules)
 
 pub mass_of-mass_among-requires-in-Or : goal.mass_of-mass_among-requires-in-Or
 mass_of-mass_among-requires-in-Or t c =
-    let asks = parts_ask _ c.condition.view_is (inr c.in-Or.is) c.as_slice-in-Or.ensures.value c.requires.condition in
-    (search (rules, asks.0), (asks.1, c.requires.table))
+    parts_ask _ c.condition.view_is (inr c.in-Or.is) (search rules)
 
 pub mass_of-returns-in_default : goal.mass_of-returns-in_default
 mass_of-returns-in_default t c =

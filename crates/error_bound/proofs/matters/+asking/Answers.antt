@@ -13,18 +13,15 @@ all-any p (also c cs) = ap (λ d. some_literal p c || d) (all-any p cs)
 
 pub some_asks_for-asks_for-requires : goal.some_asks_for-asks_for-requires
 some_asks_for-asks_for-requires t c =
-    let asks = part_asks c.parts_are_valid.ensures _ _ c.index-parts-k.is c.requires.parts (search rules) in
-    (search (rules, asks.0), (asks.1, c.requires.table))
+    part_asks c.parts_are_valid.ensures _ _ c.index-parts-k.is c.requires.parts c.requires.table (search rules)
 
 pub asks_for-some_asks_for-requires : goal.asks_for-some_asks_for-requires
 asks_for-some_asks_for-requires t c =
-    let asks = parts_ask _ c.condition.view_is (inl c.in-And.is) c.as_slice.ensures.value c.requires.condition in
-    (search (rules, asks.0), (asks.1, c.requires.table))
+    parts_ask _ c.condition.view_is (inl c.in-And.is) (search rules)
 
 pub asks_for-some_asks_for-requires-in-Or : goal.asks_for-some_asks_for-requires-in-Or
 asks_for-some_asks_for-requires-in-Or t c =
-    let asks = parts_ask _ c.condition.view_is (inr c.in-Or.is) c.as_slice-in-Or.ensures.value c.requires.condition in
-    (search (rules, asks.0), (asks.1, c.requires.table))
+    parts_ask _ c.condition.view_is (inr c.in-Or.is) (search rules)
 
 pub asks_for-returns-in-Or : goal.asks_for-returns-in-Or
 asks_for-returns-in-Or t c =
