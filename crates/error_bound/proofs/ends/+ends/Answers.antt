@@ -32,8 +32,8 @@ end_among-loop-k-preserved t c =
       | end_among-in-None w ↦ rw w.end-is w.end_of-end.ensures
     ] in
     let m = c.joined-joined.ensures in
-    end_from (is_any c.args.group) c.args.parts.now (search rules) (search rules) c.index-parts-k.is made c.loop-k.invariant
-    m.value m.byte m.small
+    end_from (is_any c.args.group) c.args.parts.now (search rules) (search rules) c.index-parts-k.is made
+    c.loop-k.invariant m.value m.byte m.small
 
 pub end_among-loop-k-init : goal.end_among-loop-k-init
 end_among-loop-k-init t c =

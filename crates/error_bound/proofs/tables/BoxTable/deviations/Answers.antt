@@ -1,4 +1,4 @@
-use Rattle.std.proofs.Common.{◌≡◌, drop, ap, ◌∙◌, arith}
+use Rattle.std.proofs.Common.{◌≡◌, arith}
 use Rattle.error_bound.specs.{CellErrors.term_errors, Errors.rule_rise, Errors.rule_fall}
 use Rattle.error_bound.proofs.TightLawLemmas.{AreGreatest-raised, AreGreatest-skipped}
 use Rattle.error_bound.proofs.{ListLemmas.step_back, TightLemmas.still_moves}
@@ -37,6 +37,5 @@ pub returns : goal.returns
 returns c =
     let i = c.loop-n.invariant in
     let none : c.loop-n.n ≡ 0 = omega (arith, c.loop-n-test.false) in
-    let whole : drop c.loop-n.n c.as_slice-rules.result.now ≡ c.args.self.now.table.now.block.now.rules =
-    ap (λ n. drop n c.as_slice-rules.result.now) none ∙ c.as_slice-rules.ensures in
-    record { rises = rw whole at i.rises; falls = rw whole at i.falls }
+    let read = c.as_slice-rules.ensures in
+    record { rises = rw (none, read) at i.rises; falls = rw (none, read) at i.falls }

@@ -1,4 +1,4 @@
-use Rattle.std.proofs.Common.{◌≡◌, true, ◌+◌, drop, ap, ◌∙◌, arith}
+use Rattle.std.proofs.Common.{◌≡◌, true, ◌+◌, drop, arith}
 use Rattle.error_bound.specs.{Leaves.concludes_some}
 use Rattle.error_bound.proofs.TightLawLemmas.{AreGreatest-raised, AreGreatest-skipped, AreGreatest-within}
 use Rattle.error_bound.proofs.StillLemmas.{still_parts}
@@ -67,15 +67,13 @@ returns c =
     let box = c.args.self.now.bytes.0.items in
     let i = c.loop-n.invariant in
     let none : c.loop-n.n ≡ 0 = omega (arith, c.loop-n-test.false) in
-    let whole : drop c.loop-n.n c.as_slice-rules.result.now ≡ b.rules =
-    ap (λ n. drop n c.as_slice-rules.result.now) none ∙ c.as_slice-rules.ensures in
     let table = c.requires.table.box_is in
     record {
       masses = record {
-        lows = rw whole at i.lows;
-        highs = rw whole at i.highs;
-        byte_lows = rw whole at i.byte_lows;
-        byte_highs = rw whole at i.byte_highs;
+        lows = rw (none, c.as_slice-rules.ensures) at i.lows;
+        highs = rw (none, c.as_slice-rules.ensures) at i.highs;
+        byte_lows = rw (none, c.as_slice-rules.ensures) at i.byte_lows;
+        byte_highs = rw (none, c.as_slice-rules.ensures) at i.byte_highs;
       };
       ordered = λ t few. omega (
         arith,

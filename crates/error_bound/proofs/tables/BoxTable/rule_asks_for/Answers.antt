@@ -10,8 +10,7 @@ returns-then-not-asks_for c r found =
     let b = c.args.self.now.table.now.block.now in
     let box = c.args.self.now.bytes.0.items in
     let i = c.args.input in
-    let rule_is = c.index-as_slice-place.is ∙ get_or-slice c.as_slice.result.now b.rules c.args.place
-    c.index-as_slice-place.result r c.as_slice.ensures found in
+    let rule_is = c.index-as_slice-place.is ∙ get_or-slice _ _ c.args.place _ r c.as_slice.ensures found in
     let asks : asks_for b box i r.cond ≡ false =
     sym (ap (λ (q : Rule). asks_for b box i q.cond) rule_is)
     ∙ sym c.asks_for.ensures ∙ c.if-not-asks_for.true in
@@ -22,8 +21,7 @@ returns c r found =
     let b = c.args.self.now.table.now.block.now in
     let box = c.args.self.now.bytes.0.items in
     let i = c.args.input in
-    let rule_is = c.index-as_slice-place.is ∙ get_or-slice c.as_slice.result.now b.rules c.args.place
-    c.index-as_slice-place.result r c.as_slice.ensures found in
+    let rule_is = c.index-as_slice-place.is ∙ get_or-slice _ _ c.args.place _ r c.as_slice.ensures found in
     let asks : asks_for b box i r.cond ≡ true =
     sym (ap (λ (q : Rule). asks_for b box i q.cond) rule_is)
     ∙ sym c.asks_for.ensures ∙ c.if-not-asks_for.false in
