@@ -320,8 +320,8 @@ pub from_place : (parts : List Condition) (k : ℕ) (part : Condition) → 1 ≤
     → part ≡ get_or parts (k - 1) part → conditions (drop (k - 1) parts) ≡ also part (conditions (drop k parts))
 from_place parts k part from to here_is = ap conditions (drop_back parts k part part from to here_is)
 
-pub end_from : {b : Block} {box : List Interval} (or : Bool) {side : Side} (parts : List Condition) {k : ℕ} {part : Condition}
-    {p r s : End} → 1 ≤ k → k ≤ length parts → part ≡ get_or parts (k - 1) part
+pub end_from : {b : Block} {box : List Interval} (or : Bool) {side : Side} (parts : List Condition) {k : ℕ}
+    {part : Condition} {p r s : End} → 1 ≤ k → k ≤ length parts → part ≡ get_or parts (k - 1) part
     → IsEndOfCondition b box part side p
     → IsEndOfCondition b box (group or (conditions (drop k parts))) side r
     → value_of s.truth ≡ truths.join or (value_of p.truth) (value_of r.truth)

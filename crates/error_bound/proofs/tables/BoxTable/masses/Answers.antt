@@ -17,7 +17,8 @@ loop-n-preserved-in-Some c =
       byte_highs_count = c.raise_terms-in-Some-3.array_long;
       lows = AreGreatest-raised step.0 m.low m.low_small before.lows c.raise_terms.ensures;
       highs = AreGreatest-raised step.0 m.high m.high_small before.highs c.raise_terms-in-Some.ensures;
-      byte_lows = AreGreatest-raised step.0 m.byte_low m.byte_low_small before.byte_lows c.raise_terms-in-Some-2.ensures;
+      byte_lows = AreGreatest-raised step.0 m.byte_low m.byte_low_small before.byte_lows
+          c.raise_terms-in-Some-2.ensures;
       byte_highs = AreGreatest-raised step.0 m.byte_high m.byte_high_small before.byte_highs
           c.raise_terms-in-Some-3.ensures;
     }
