@@ -571,14 +571,14 @@ section_read side as_section IsWellFormed text b have read i d same within is =
 
 -- ---- The section of a declared variable of a side, as it is looked for.
 
--- what is made of the section that a name's letters find is what `IsVariableNamed` says of the name
+-- what is made of the part that a name's letters find is what `IsVariableNamed` says of the name
 pub IsVariableNamed-read : {S Y : Type 0} (as_section : Part → Option S) (IsOf : S → Y → Type 0) (tree : Tree)
-    (ls ms : List ℕ) (o : Option (Bor Part)) (p : Bor Part) (s : S) (y : Y) → ls ≡ ms
+    (ls ms : List ℕ) (o : Option (Bor Part)) (p : Bor Part) (y : Y) → ls ≡ ms
     → option_map (λ (q : Bor Part). q.now) o ≡ section_of tree.text.items tree.block ls → o ≡ Some p
-    → Some s ≡ as_section p.now → IsOf s y
-    → (t : S) × (option_and_then as_section (section_of tree.text.items tree.block ms) ≡ Some t) × IsOf t y
-IsVariableNamed-read as_section IsOf tree ls ms o p s y spelled looked unwrapped is of =
-    (s, section-at as_section tree.text.items tree.block ls ms o p spelled looked unwrapped ∙ sym is, of)
+    → ((s : S) × (as_section p.now ≡ Some s) × IsOf s y)
+    → (s : S) × (option_and_then as_section (section_of tree.text.items tree.block ms) ≡ Some s) × IsOf s y
+IsVariableNamed-read as_section IsOf tree ls ms o p y spelled looked unwrapped (s, is, of) =
+    (s, section-at as_section tree.text.items tree.block ls ms o p spelled looked unwrapped ∙ is, of)
 
 module _ {S : Type 0} (side : Direction) (as_section : Part → Option S) (IsWellFormed : S → Type 0) (tree : Tree)
     (have : All (HasSection side as_section IsWellFormed tree.text.items tree.block) (declared_in tree.block))
@@ -597,16 +597,10 @@ module _ {S : Type 0} (side : Direction) (as_section : Part → Option S) (IsWel
       mapped_there _ o _ looked (rw (spelled, p.1) refl)
 
   -- the part is a section of this kind, and well-formed
-  module _ (p : Bor Part) (unwrapped : o ≡ Some p) where
-    as_section-part : as_section p.now ≡ Some there.0
-    as_section-part =
-        sym (section-at as_section tree.text.items tree.block ls _ o p spelled looked unwrapped) ∙ there.1
-
-    pub kind_read : (q : Option (Bor S)) → option_map (λ (s : Bor S). s.now) q ≡ as_section p.now → IsSome q
-    kind_read q is = mapped_there _ q _ is (rw as_section-part refl)
-
-    pub IsWellFormed-read : (s : S) → Some s ≡ as_section p.now → IsWellFormed s
-    IsWellFormed-read s is = subst IsWellFormed (same_Some there.0 s (sym as_section-part ∙ sym is)) there.2
+  pub IsWellFormed-read : (p : Bor Part) → o ≡ Some p → (s : S) × (as_section p.now ≡ Some s) × IsWellFormed s
+  IsWellFormed-read p unwrapped =
+      let found = section-at as_section tree.text.items tree.block ls _ o p spelled looked unwrapped in
+      (there.0, sym found ∙ there.1, there.2)
 
 -- ---- The numbers of known names: they are there, and bytes.
 

@@ -110,14 +110,10 @@ impl FromSection for Input {
         Direction::Input
     }
 
-    fn section(part: &Part) -> Option<&Fuzzify> {
-        match part {
-            Part::Fuzzify(section) => Some(section),
-            Part::Defuzzify(_) => None,
-        }
-    }
-
-    fn from_section(alloc: Global, section: &Fuzzify) -> Result<Input, AllocError> {
+    fn from_part(alloc: Global, part: &Part) -> Result<Input, AllocError> {
+        let Part::Fuzzify(section) = part else {
+            unreachable!();
+        };
         let span = range(section).unwrap();
         let terms = terms(alloc, section)?;
         Ok(Input {

@@ -84,14 +84,10 @@ impl FromSection for Output {
         Direction::Output
     }
 
-    fn section(part: &Part) -> Option<&Defuzzify> {
-        match part {
-            Part::Defuzzify(section) => Some(section),
-            Part::Fuzzify(_) => None,
-        }
-    }
-
-    fn from_section(alloc: Global, section: &Defuzzify) -> Result<Output, AllocError> {
+    fn from_part(alloc: Global, part: &Part) -> Result<Output, AllocError> {
+        let Part::Defuzzify(section) = part else {
+            unreachable!();
+        };
         let span = range(section).unwrap();
         let singletons = singletons(alloc, section)?;
         Ok(Output {

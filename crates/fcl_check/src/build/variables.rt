@@ -1,6 +1,6 @@
 //! The inputs and the outputs of a block, each made from its section.
 
-ghost use Rattle.std.specs.Prelude.{◌≡◌, Option, All, option_map, IfOk};
+ghost use Rattle.std.specs.Prelude.{◌≡◌, Option, Some, All, IfOk};
 ghost use Rattle.std.specs.List.{AllZip};
 ghost use Rattle.fcl_syntax.specs.declared.{tree.Direction.Direction, tree.Part.Part};
 ghost use Rattle.fcl_check.specs.{Loaded.IsVariableNamed, Sources.block_of, Sources.text_of, WellFormed.HasSection};
@@ -23,7 +23,7 @@ pub trait FromSection: Sized + Drop {
     /// The section that a part is, if it is one of this kind.
     ghost as_section: { Part → Option Self.Section };
 
-    /// Whether a section has no fault that would stop `from_section`.
+    /// Whether a section has no fault that would stop `from_part`.
     ghost IsWellFormed: { Self.Section → Type 0 };
 
     /// Whether a value is what a section defines.
@@ -33,14 +33,10 @@ pub trait FromSection: Sized + Drop {
     fn direction() -> Direction
         ensures { result ≡ side };
 
-    /// The section that a part is, if it is one of this kind.
-    fn section(part: &Part) -> Option<&Self::Section>
-        ensures { option_map (λ s. s.now) result ≡ as_section part.now };
-
-    /// What a well-formed section defines. It can only fail for lack of memory.
-    fn from_section(alloc: Global, section: &Self::Section) -> Result<Self, AllocError>
-        requires { IsWellFormed section.now }
-        ensures { IfOk result (IsOf section.now) };
+    /// What a part defines that is a well-formed section of this kind. It can only fail for lack of memory.
+    fn from_part(alloc: Global, part: &Part) -> Result<Self, AllocError>
+        requires { (s : Self.Section) × (as_section part.now ≡ Some s) × IsWellFormed s }
+        ensures { IfOk result (λ v. (s : Self.Section) × (as_section part.now ≡ Some s) × IsOf s v) };
 }
 
 /// The variables of one direction in the order of their declaration.
@@ -56,8 +52,7 @@ pub fn variables<V: FromSection>(source: &Source<'_, '_>) -> Result<Vec<V>, Allo
     for (direction, name) in &names.declared {
         if *direction == V::direction() {
             let part = names.section(names.tree.letters(*name)).unwrap();
-            let section = V::section(part).unwrap();
-            variables.push(V::from_section(source.alloc, section)?)?;
+            variables.push(V::from_part(source.alloc, part)?)?;
         }
     }
     Ok(variables)

@@ -1,8 +1,8 @@
 use Rattle.fcl_check.proofs.Words.{◌∙◌, arith, IsVariableNamed, sym}
-use Rattle.fcl_check.proofs.Faultless.{IsVariableNamed-read, IsWellFormed-read, kind_read, part_read}
+use Rattle.fcl_check.proofs.Faultless.{IsVariableNamed-read, IsWellFormed-read, part_read}
 use Rattle.fcl_check.proofs.Naming.{named-more, unnamed-more}
 use Rattle.fcl_check.proofs.build.variables.variables.Goals as goal
-use Rattle.fcl_check.proofs.build.variables.variables.Goals.{then-eq+in_ok-from_section+in_ok-push, else-eq}
+use Rattle.fcl_check.proofs.build.variables.variables.Goals.{then-eq+in_ok-from_part+in_ok-push, else-eq}
 
 pub loop-direction-preserved : goal.loop-direction-preserved
 loop-direction-preserved g c =
@@ -12,11 +12,10 @@ loop-direction-preserved g c =
     let read = c.deref-direction-items in
     let test = rw c.direction.ensures at c.eq.ensures in
     elim c.if-eq.branch [
-      | then-eq+in_ok-from_section+in_ok-push w ↦
+      | then-eq+in_ok-from_part+in_ok-push w ↦
           let here = IsVariableNamed-read g.V.FromSection.as_section g.V.FromSection.IsOf tree _ _
-          w.section.result w.unwrap-part.result w.unwrap-section.result.now _ w.letters.ensures
-          w.section.ensures w.unwrap-part.ensures
-          (rw w.unwrap-section.ensures at w.section-then-eq.ensures) w.in_ok-from_section.ensures in
+          w.section.result w.unwrap-part.result _ w.letters.ensures w.section.ensures w.unwrap-part.ensures
+          w.in_ok-from_part.ensures in
           rw (w.variables-is, w.in_ok-push.ensures.items)
           (named-more named g.V.FromSection.side names.declared.items read.result.now
           c.loop-direction.direction-index _ c.loop-direction.variables.items read.ensures.value (omega arith) _
@@ -34,19 +33,10 @@ unwrap-part-requires g c =
     (c.deref-direction-items.ensures.value ∙ names.declares) _ c.letters.ensures _ (omega arith)
     (sym (rw c.direction.ensures at c.eq.ensures) ∙ c.if-eq.true) c.section.ensures
 
-pub unwrap-section-requires : goal.unwrap-section-requires
-unwrap-section-requires g c =
-    let names = c.args.source.now.names.now in
-    kind_read _ _ _ names.tree.now c.requires _ c.loop-direction.direction-index _
-    (c.deref-direction-items.ensures.value ∙ names.declares) _ c.letters.ensures _ (omega arith)
-    (sym (rw c.direction.ensures at c.eq.ensures) ∙ c.if-eq.true) c.section.ensures
-    c.unwrap-part.result c.unwrap-part.ensures c.section-then-eq.result c.section-then-eq.ensures
-
-pub from_section-requires : goal.from_section-requires
-from_section-requires g c =
+pub from_part-requires : goal.from_part-requires
+from_part-requires g c =
     let names = c.args.source.now.names.now in
     IsWellFormed-read _ _ _ names.tree.now c.requires _ c.loop-direction.direction-index _
     (c.deref-direction-items.ensures.value ∙ names.declares) _ c.letters.ensures _ (omega arith)
     (sym (rw c.direction.ensures at c.eq.ensures) ∙ c.if-eq.true) c.section.ensures
-    c.unwrap-part.result c.unwrap-part.ensures c.unwrap-section.result.now
-    (rw c.unwrap-section.ensures at c.section-then-eq.ensures)
+    c.unwrap-part.result c.unwrap-part.ensures
