@@ -98,17 +98,15 @@ fn range(section: &Fuzzify) -> Option<Span>
 impl FromSection for Input {
     type Section = Fuzzify;
 
-    ghost side = { side.Input };
+    ghost SIDE = { side.Input };
+
+    const SIDE: Direction = Direction::Input;
 
     ghost as_section = { as_fuzzify };
 
     ghost IsWellFormed = { IsWellFormedFuzzify };
 
     ghost IsOf = { IsInputOf };
-
-    fn direction() -> Direction {
-        Direction::Input
-    }
 
     fn from_part(alloc: Global, part: &Part) -> Result<Input, AllocError> {
         let Part::Fuzzify(section) = part else {

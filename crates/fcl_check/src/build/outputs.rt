@@ -72,17 +72,15 @@ fn default(section: &Defuzzify) -> Option<Dec>
 impl FromSection for Output {
     type Section = Defuzzify;
 
-    ghost side = { side.Output };
+    ghost SIDE = { side.Output };
+
+    const SIDE: Direction = Direction::Output;
 
     ghost as_section = { as_defuzzify };
 
     ghost IsWellFormed = { IsWellFormedDefuzzify };
 
     ghost IsOf = { IsOutputOf };
-
-    fn direction() -> Direction {
-        Direction::Output
-    }
 
     fn from_part(alloc: Global, part: &Part) -> Result<Output, AllocError> {
         let Part::Defuzzify(section) = part else {

@@ -18,7 +18,9 @@ pub trait FromSection: Sized + Drop {
     type Section;
 
     /// The direction in which it is declared.
-    ghost side: { Direction };
+    ghost SIDE: { Direction };
+
+    const SIDE: Direction;
 
     /// The section that a part is, if it is one of this kind.
     ghost as_section: { Part → Option Self.Section };
@@ -29,10 +31,6 @@ pub trait FromSection: Sized + Drop {
     /// Whether a value is what a section defines.
     ghost IsOf: { Self.Section → Self → Type 0 };
 
-    /// The direction in which it is declared.
-    fn direction() -> Direction
-        ensures { result ≡ side };
-
     /// What a part defines that is a well-formed section of this kind. It can only fail for lack of memory.
     fn from_part(alloc: Global, part: &Part) -> Result<Self, AllocError>
         requires { (s : Self.Section) × (as_section part.now ≡ Some s) × IsWellFormed s }
@@ -41,16 +39,16 @@ pub trait FromSection: Sized + Drop {
 
 /// The variables of one direction in the order of their declaration.
 pub fn variables<V: FromSection>(source: &Source<'_, '_>) -> Result<Vec<V>, AllocError>
-    requires { All (HasSection V.side V.as_section V.IsWellFormed (text_of source.now) (block_of source.now))
+    requires { All (HasSection V.SIDE V.as_section V.IsWellFormed (text_of source.now) (block_of source.now))
         (declared_in (block_of source.now)) }
     ensures { IfOk result (λ v.
         AllZip (IsVariableNamed V.as_section V.IsOf (text_of source.now) (block_of source.now))
-        (declared_as V.side (block_of source.now)) v.items) }
+        (declared_as V.SIDE (block_of source.now)) v.items) }
 {
     let names = source.names;
     let mut variables = Vec::new(source.alloc);
     for (direction, name) in &names.declared {
-        if *direction == V::direction() {
+        if *direction == V::SIDE {
             let part = names.section(names.tree.letters(*name)).unwrap();
             variables.push(V::from_part(source.alloc, part)?)?;
         }

@@ -7,4 +7,4 @@ invariant-loop-direction g l =
     let names = l.source.names.now in
     let tree = names.tree.now in
     AllZip (IsVariableNamed g.V.FromSection.as_section g.V.FromSection.IsOf tree.text.items tree.block)
-    (filter_map (named_as g.V.FromSection.side) (take l.direction-index names.declared.items)) l.variables.items
+    (filter_map (named_as g.V.FromSection.SIDE) (take l.direction-index names.declared.items)) l.variables.items
