@@ -37,9 +37,6 @@ pub record Kind (X W : Type 0) : Type 0 where
       → condition_whole f (of x (y ∷ xs))
       ≡ join (conditions (condition f x ∷ map (λ (z : ℕ × X). condition f z.1) (y ∷ xs)))
 
-abbrev first_not : TAnd → TNot
-first_not (and_of t ts) = t
-
 pub all_parts : (f : Name → Name → Condition) (ts : List (ℕ × TNot))
     → nots_conditions f (nots_of ts) ≡ conditions (map (λ (t : ℕ × TNot). not_condition f t.1) ts)
 all_parts f [] = refl
@@ -48,7 +45,7 @@ all_parts f (t ∷ ts) = ap (also (not_condition f t.1)) (all_parts f ts)
 abbrev pub and_kind : Kind TNot TAnd
 and_kind = record {
   of = λ t ts. and_of t (nots_of ts);
-  first = first_not;
+  first = λ w. elim w [ and_of t ts ↦ t ];
   first_of = λ t ts. refl;
   size = not_size;
   sizes = λ ts. nots_size (nots_of ts);
@@ -68,9 +65,6 @@ and_kind = record {
   together = λ f t u ts. rw (all_parts f ts) refl;
 }
 
-abbrev first_and : TOr → TAnd
-first_and (or_of a items) = a
-
 pub any_parts : (f : Name → Name → Condition) (items : List (ℕ × TAnd))
     → ands_conditions f (ands_of items) ≡ conditions (map (λ (a : ℕ × TAnd). and_condition f a.1) items)
 any_parts f [] = refl
@@ -79,7 +73,7 @@ any_parts f (a ∷ items) = ap (also (and_condition f a.1)) (any_parts f items)
 abbrev pub or_kind : Kind TAnd TOr
 or_kind = record {
   of = λ a items. or_of a (ands_of items);
-  first = first_and;
+  first = λ w. elim w [ or_of a items ↦ a ];
   first_of = λ a items. refl;
   size = and_size;
   sizes = λ items. ands_size (ands_of items);
