@@ -1,17 +1,17 @@
 -- An AND or an OR with its parts: what it comes to, that they are smaller, and which names they have.
 use Rattle.fcl_check.proofs.Words.{[], ◌++◌, ◌+◌, ◌<◌, ◌∙◌, ◌∷◌, ◌≡◌, ◌≤◌, AllByRecursion, and_condition, and_of}
 use Rattle.fcl_check.proofs.Words.{and_pairs, ands_conditions, ands_pairs, ap, arith, Bool, Condition, false}
-use Rattle.fcl_check.proofs.Words.{flat_map, flat_map-append, get_or, length, List, map, map-append, Name}
+use Rattle.fcl_check.proofs.Words.{flat_map, flat_map-append, get_or, length, List, map, Name}
 use Rattle.fcl_check.proofs.Words.{not_condition, not_pairs, nots_conditions, nots_pairs, Option, option_or}
 use Rattle.fcl_check.proofs.Words.{or_condition, or_of, or_pairs, Pair, refl, subst, suc, sym, take, take_all, TAnd}
-use Rattle.fcl_check.proofs.Words.{TNot, TOr, true, zero, ℕ}
+use Rattle.fcl_check.proofs.Words.{TNot, TOr, zero, ℕ}
 use Rattle.fuzzy_meaning.specs.Conditions.{Conditions, all, also, any, conditions}
-use Rattle.std.proofs.{lemmas.Bool.eqb-true, lemmas.Bool.eqb-false}
+use Rattle.std.proofs.{lemmas.Bool.eqb-false}
 use Rattle.fcl_syntax.specs.{declared.tree.Operand.Operand}
 use Rattle.std.proofs.Math.Dec.{eqb}
 use Rattle.fcl_syntax.specs.Conditions.{nots_of, ands_of, not_size, nots_size, and_size, ands_size, or_size}
 use Rattle.fcl_check.specs.{Places.first as first_at, Steps.pair_of}
-use Rattle.fcl_check.proofs.{Elements.parts_of, Places.read_further, Places.first-append}
+use Rattle.fcl_check.proofs.{Elements.parts_of, Places.first-append}
 
 -- AND and its parts, or OR and its parts
 pub record Kind (X W : Type 0) : Type 0 where
@@ -32,7 +32,6 @@ pub record Kind (X W : Type 0) : Type 0 where
   pub join : Conditions → Condition
   pub condition : (Name → Name → Condition) → X → Condition
   pub condition_whole : (Name → Name → Condition) → W → Condition
-  pub alone : (f : Name → Name → Condition) (x : X) → condition_whole f (of x []) ≡ condition f x
   pub together : (f : Name → Name → Condition) (x : X) (y : ℕ × X) (xs : List (ℕ × X))
       → condition_whole f (of x (y ∷ xs))
       ≡ join (conditions (condition f x ∷ map (λ (z : ℕ × X). condition f z.1) (y ∷ xs)))
@@ -61,7 +60,6 @@ and_kind = record {
   join = all;
   condition = not_condition;
   condition_whole = and_condition;
-  alone = λ f t. refl;
   together = λ f t u ts. rw (all_parts f ts) refl;
 }
 
@@ -89,23 +87,8 @@ or_kind = record {
   join = any;
   condition = and_condition;
   condition_whole = or_condition;
-  alone = λ f a. refl;
   together = λ f a c items. rw (any_parts f items) refl;
 }
-
--- the conditions so far and that of one more part, which is read
-pub parts_further : {X : Type 0} (g : X → Condition) (first : Condition) {xs read : List X} {i : ℕ} {x : X}
-    (cs : List Condition) (c : Condition) {ds : List Condition} → read ≡ xs → i < length read → x ≡ get_or read i x
-    → cs ≡ first ∷ map g (take i xs) → c ≡ g x → ds ≡ cs ++ c ∷ []
-    → ds ≡ first ∷ map g (take (i + 1) xs)
-parts_further g first {xs} {read} {i} {x} cs c same within is so_far made pushed =
-    rw (
-      pushed,
-      read_further xs read i x same within is,
-      so_far,
-      map-append g (take i xs) (x ∷ []),
-      made,
-    ) refl
 
 module _ {X W : Type 0} (k : Kind X W) where
   size-get : (xs : List (ℕ × X)) (i : ℕ) (d : ℕ × X) → i < length xs → k.size (get_or xs i d).1 ≤ k.sizes xs
@@ -175,32 +158,21 @@ module _ {X W : Type 0} (k : Kind X W) where
           let here = known-get P more i x known_both.1 (rw same at within) in
           subst (λ (y : ℕ × X). AllByRecursion P (k.pairs y.1)) (sym (rw same at is)) here
 
-    -- what is made where a test says that there is one part, or several
-    module _ (f : Name → Name → Condition) {n : ℕ} (count : n ≡ length more) {empty : Bool} (tested : empty ≡ eqb n 0)
-      where
-        whole_alone : (xs : List (ℕ × X)) → length xs ≡ 0 → k.condition f first ≡ k.condition_whole f (k.of first xs)
-        whole_alone [] none = sym (k.alone f first)
-        whole_alone (x ∷ xs) none = absurd (omega arith)
+    -- the conditions of all parts that were read, where a test says that there are several
+    module _ (f : Name → Name → Condition) where
+      whole_together : (xs : List (ℕ × X)) → 1 ≤ length xs
+          → k.join (conditions (k.condition f first ∷ map (λ (x : ℕ × X). k.condition f x.1) xs))
+          ≡ k.condition_whole f (k.of first xs)
+      whole_together [] some = absurd (omega arith)
+      whole_together (x ∷ xs) some = sym (k.together f first x xs)
 
-        whole_together : (xs : List (ℕ × X)) → 1 ≤ length xs
-            → k.join (conditions (k.condition f first ∷ map (λ (x : ℕ × X). k.condition f x.1) xs))
-            ≡ k.condition_whole f (k.of first xs)
-        whole_together [] some = absurd (omega arith)
-        whole_together (x ∷ xs) some = sym (k.together f first x xs)
-
-        pub whole_of_one : (c : Condition) → empty ≡ true → c ≡ k.condition f first → c ≡ k.condition_whole f whole
-        whole_of_one c is made =
-            let none : length more ≡ 0 = omega (arith, count, eqb-true n 0 (sym tested ∙ is)) in
-            rw (← seen) (made ∙ whole_alone more none)
-
-        -- the conditions of all parts that were read
-        pub whole_of_all : {read : List (ℕ × X)} {i : ℕ} (cs : List Condition) (c : Condition) → empty ≡ false
-            → read ≡ more → length read ≤ i
-            → cs ≡ k.condition f (k.first whole) ∷ map (λ (x : ℕ × X). k.condition f x.1) (take i more)
-            → c ≡ k.join (conditions cs) → c ≡ k.condition_whole f whole
-        whole_of_all {read} {i} cs c is same behind parts made =
-            let some : 1 ≤ length more = omega (arith, count, eqb-false n 0 (sym tested ∙ is)) in
-            let begins : k.first whole ≡ first = ap k.first (sym seen) ∙ k.first_of first more in
-            let every : cs ≡ k.condition f first ∷ map (λ (x : ℕ × X). k.condition f x.1) more =
-            rw (take_all i more (rw same at behind), begins) at parts in
-            made ∙ ap (λ ds. k.join (conditions ds)) every ∙ whole_together more some ∙ ap (k.condition_whole f) seen
+      pub whole_of_all : {n : ℕ} {empty : Bool} {read : List (ℕ × X)} {i : ℕ} → n ≡ length more → empty ≡ eqb n 0
+          → (cs : List Condition) (c : Condition) → empty ≡ false → read ≡ more → length read ≤ i
+          → cs ≡ k.condition f (k.first whole) ∷ map (λ (x : ℕ × X). k.condition f x.1) (take i more)
+          → c ≡ k.join (conditions cs) → c ≡ k.condition_whole f whole
+      whole_of_all {n} {read = read} {i} count tested cs c is same behind parts made =
+          let some : 1 ≤ length more = omega (arith, count, eqb-false n 0 (sym tested ∙ is)) in
+          let begins : k.first whole ≡ first = ap k.first (sym seen) ∙ k.first_of first more in
+          let every : cs ≡ k.condition f first ∷ map (λ (x : ℕ × X). k.condition f x.1) more =
+          rw (take_all i more (rw same at behind), begins) at parts in
+          made ∙ ap (λ ds. k.join (conditions ds)) every ∙ whole_together more some ∙ ap (k.condition_whole f) seen

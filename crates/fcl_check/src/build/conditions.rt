@@ -53,8 +53,7 @@ fn and(source: &Source<'_, '_>, and: &And) -> Result<Condition, AllocError>
     let mut parts = Vec::new(source.alloc);
     parts.push(first)?;
     for (_, conjunct) in &and.more {
-        let part = not(source, conjunct)?;
-        parts.push(part)?;
+        parts.push(not(source, conjunct)?)?;
     }
     Ok(Condition::all(parts))
 }
@@ -73,8 +72,7 @@ pub fn or(source: &Source<'_, '_>, or: &Or) -> Result<Condition, AllocError>
     let mut parts = Vec::new(source.alloc);
     parts.push(first)?;
     for (_, alternative) in &or.more {
-        let part = and(source, alternative)?;
-        parts.push(part)?;
+        parts.push(and(source, alternative)?)?;
     }
     Ok(Condition::any(parts))
 }

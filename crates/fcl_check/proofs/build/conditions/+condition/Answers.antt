@@ -1,21 +1,7 @@
-use Rattle.fcl_check.proofs.Words.{refl, rules}
+use Rattle.fcl_check.proofs.Words.{rules}
 use Rattle.fcl_check.proofs.ConditionParts.{and_kind, first_falls, first_known, or_kind, part_falls, part_known}
-use Rattle.fcl_check.proofs.ConditionParts.{parts_further, whole_of_all, whole_of_one}
+use Rattle.fcl_check.proofs.ConditionParts.{whole_of_all}
 use Rattle.fcl_check.proofs.build.conditions.+condition.Goals as goal
-
-pub and-returns-then-is_empty : goal.and-returns-then-is_empty
-and-returns-then-is_empty t c =
-    whole_of_one and_kind c.and.inside.more.items c.and.view_is _ c.and.inside.more.ok.0 c.is_empty.ensures
-    c.in_ok-first.first c.if-is_empty.true c.in_ok-first.ensures
-
-pub and-loop-conjunct-init : goal.and-loop-conjunct-init
-and-loop-conjunct-init t c =
-    rw (c.in_ok-push.ensures.items, c.new-parts.ensures.items, c.in_ok-first.ensures, ← c.and.view_is) refl
-
-pub and-loop-conjunct-preserved : goal.and-loop-conjunct-preserved
-and-loop-conjunct-preserved t c =
-    parts_further _ _ c.loop-conjunct.parts.items c.in_ok-part.part refl c.loop-conjunct-test.true c.loop-conjunct-item.is c.loop-conjunct.invariant
-    c.in_ok-part.ensures c.in_ok-push-2.ensures.items
 
 pub and-returns : goal.and-returns
 and-returns t c =
@@ -33,20 +19,6 @@ and-not-requires-in-loop-conjunct t c =
       search (rules, part_falls and_kind _ c.and.view_is same c.loop-conjunct-test.true c.loop-conjunct-item.is),
       part_known and_kind _ c.and.view_is _ c.requires same c.loop-conjunct-test.true c.loop-conjunct-item.is,
     )
-
-pub or-returns-then-is_empty : goal.or-returns-then-is_empty
-or-returns-then-is_empty t c =
-    whole_of_one or_kind c.or.inside.more.items c.or.view_is _ c.or.inside.more.ok.0 c.is_empty.ensures
-    c.in_ok-first.first c.if-is_empty.true c.in_ok-first.ensures
-
-pub or-loop-alternative-init : goal.or-loop-alternative-init
-or-loop-alternative-init t c =
-    rw (c.in_ok-push.ensures.items, c.new-parts.ensures.items, c.in_ok-first.ensures, ← c.or.view_is) refl
-
-pub or-loop-alternative-preserved : goal.or-loop-alternative-preserved
-or-loop-alternative-preserved t c =
-    parts_further _ _ c.loop-alternative.parts.items c.in_ok-part.part refl c.loop-alternative-test.true c.loop-alternative-item.is c.loop-alternative.invariant
-    c.in_ok-part.ensures c.in_ok-push-2.ensures.items
 
 pub or-returns : goal.or-returns
 or-returns t c =
