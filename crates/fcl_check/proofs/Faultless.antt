@@ -14,7 +14,7 @@ use Rattle.fcl_check.proofs.Words.{list_any, LoadFault, map, method_line, missin
 use Rattle.fcl_check.proofs.Words.{mistaken_section, Name, names_of, nat_le, nat_tests, None, not, number_in}
 use Rattle.fcl_check.proofs.Words.{number_line, numbers_outside, Option, option_and_then, option_map, option_or}
 use Rattle.fcl_check.proofs.Words.{or_zero, Output, output_hull, output_range, Pair, Part, Point, points_of}
-use Rattle.fcl_check.proofs.Words.{points_outside, Range, refl, repeated, same_declared, same_Some, sameb}
+use Rattle.fcl_check.proofs.Words.{points_outside, Range, refl, repeated, same_declared, sameb}
 use Rattle.fcl_check.proofs.Words.{section_name, section_of, shapeless_terms, SignedNumber, Singleton}
 use Rattle.fcl_check.proofs.Words.{singleton_names, singleton_of, singletons_of, slice_get, Some, subst, suc, sym}
 use Rattle.fcl_check.proofs.Words.{Term, term_names, term_number, terms_of, terms_over_limit, the_type, too_many}
