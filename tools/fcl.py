@@ -4,6 +4,7 @@ from dataclasses import dataclass, field
 from fractions import Fraction
 
 from fuzz12 import Wrong
+from units import unit_of
 
 MOST_BOXES = 4096
 # Blanks and comments, or a token.
@@ -40,8 +41,8 @@ class Variable:
 
     @property
     def unit(self):
-        """What stands behind the last comma of the comment."""
-        return self.comment.rpartition(",")[2].strip()
+        """What of the comment is a unit, or nothing."""
+        return unit_of(self.comment)
 
 
 @dataclass

@@ -186,6 +186,7 @@ class Lines:
     errors: list = field(default_factory=list)  # of each output, in millionths of its range
     rows: list = field(default_factory=list)
     frames: list = field(default_factory=list)
+    posted: bool = False  # whether interrupts post the samples, as in `mrun`
 
 
 def row_of(line, sample):
@@ -221,6 +222,7 @@ def place_posted(lines, posted):
     """Gives each interrupt of `mrun`, whose moments count over the whole run, to the turn in which it comes."""
     if posted and not all(row.end for row in lines.rows):
         raise Wrong("no lines of a run")
+    lines.posted = any(row.end for row in lines.rows)
     ends = [row.end[0] for row in lines.rows if row.end]
     for frame in posted:
         row = next((k for k, end in enumerate(ends) if frame.moment < end), len(ends) - 1)

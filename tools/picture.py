@@ -13,7 +13,8 @@ STYLE = {
     ".grid": "stroke: #e4e4e4", ".input": "fill: none; stroke: #555; stroke-width: 1.5",
     ".band": "fill: #9ecae1; fill-opacity: .55", ".exact": "fill: none; stroke: #08519c; stroke-width: 1.5",
     ".answer": "fill: #d94801", ".fault": "fill: none; stroke: #cb181d; stroke-width: 1.5",
-    ".interrupt": "stroke: #6a51a3; stroke-dasharray: 3 3",
+    ".interrupt": "stroke: #6a51a3; stroke-dasharray: 3 3", ".tick": "stroke: #6a51a3",
+    ".limit": "stroke: #4292c6", ".off": "fill: none; stroke: #d94801",
     ".box": "fill: none; stroke: #222; stroke-width: .5; stroke-opacity: .4",
     ".cells": "fill: none; stroke: #f03b20; stroke-width: 1.6; stroke-linecap: round",
     ".term": "stroke: white; stroke-width: 3; paint-order: stroke",
@@ -59,14 +60,32 @@ def path(points, kind, colour=None, closed=False):
 
 
 def round_numbers(low, high, most):
-    """Some round numbers from low to high, hardly more than the most; at least the two ends."""
+    """Some round numbers from low to high, hardly more than the most; where they are few the two ends too."""
     low, high = float(low), float(high)
     rough = (high - low) / most
     ten = 10 ** floor(log10(rough))
     step = next(it * ten for it in (1, 2, 2.5, 5, 10) if it * ten >= rough * 0.999)
     first = -floor(-low / step + 1e-9)
     found = [k * step for k in range(first, floor(high / step + 1e-9) + 1)]
-    return found if len(found) > 1 else [low, high]
+    return found if len(found) > 1 else sorted({low, *found, high})
+
+
+def marks(low, high, most, room):
+    """The two ends, and the round numbers between them that are not too near to one; room is what a number's words
+    need, as a part of the whole."""
+    low, high = float(low), float(high)
+    inner = [it for it in round_numbers(low, high, most) if min(it - low, high - it) > room * (high - low)]
+    return [low, *inner, high]
+
+
+def outward(numbers):
+    """A span with round ends for the numbers."""
+    low, high = float(min(numbers)), float(max(numbers))
+    room = (high - low) / 20 or abs(high) / 20 or 1
+    low, high = low - room, high + room
+    first, second, *_ = round_numbers(low, high, 6)
+    step = second - first
+    return floor(low / step) * step, -floor(-high / step) * step
 
 
 class Panel:
@@ -114,16 +133,18 @@ class Panel:
 
     def scale(self, most=4):
         """The numbers at the left side."""
-        for number in round_numbers(*self.up, most):
+        for number in marks(*self.up, most, 14 / self.height):
             yield line(self.left, self.y(number), self.right, self.y(number), "grid")
             yield text(self.left - 6, self.y(number) + 4, f"{number:g}", anchor="end")
 
     def ruler(self, name, most=8):
         """The numbers below it."""
-        for number in round_numbers(*self.across, most):
+        widest = max(len(f"{it:g}") for it in round_numbers(*self.across, most)) * PLAIN + 8
+        for number in marks(*self.across, most, widest / self.width):
             yield line(self.x(number), self.bottom, self.x(number), self.bottom + 4, "frame")
             yield text(self.x(number), self.bottom + 16, f"{number:g}", anchor="middle")
-        yield text(self.right, self.bottom + 32, name, "note", "end")
+        if name:
+            yield text(self.right, self.bottom + 32, name, "note", "end")
 
 
 def svg(width, height, title, parts):
@@ -148,6 +169,11 @@ def labelled(variable):
     return f"{variable.name}, {variable.comment}" if variable.comment else variable.name
 
 
+def with_unit(variable):
+    """A variable's name with its unit, where it has one."""
+    return f"{variable.name}, {variable.unit}" if variable.unit else variable.name
+
+
 def amount(number, variable):
-    """A number with the unit of a variable; a comment that is no unit is left out."""
-    return f"{float(number):.4g} {variable.unit if len(variable.unit) <= 24 else ''}".rstrip()
+    """A number with the unit of a variable, where it has one."""
+    return f"{float(number):.4g} {variable.unit}".rstrip()
