@@ -110,7 +110,8 @@ class Run:
         lines = text.splitlines()
         for number, (one, other) in enumerate(zip(lines + [None] * len(printed), printed), start=1):
             if one != other:
-                raise Wrong(f"{self.given.run}: line {number}: {self.words('')[0]} prints here: {other}")
+                plan = "" if self.given.plan else " without a --plan"
+                raise Wrong(f"{self.given.run}: line {number}: {self.words('')[0]}{plan} prints here: {other}")
         if len(lines) > len(printed):
             raise Wrong(f"{self.given.run}: more lines than {self.words('')[0]} prints")
         return text
