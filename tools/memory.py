@@ -13,7 +13,6 @@ INSIDE = [
     (0x4000, 0x4FFF, "code of the fast block"), (0x5000, 0x51FF, "its term tables"), (0x5200, 0x52FF, "its singletons"),
     (0x5300, 0x57FF, "its weights"), (0x5800, 0x7EFF, "its rule list"),
 ]
-FREE, STACK, TOP = (0x1800, 0x1FDF), 0x1FE0, 0x2000
 
 
 @dataclass
@@ -28,6 +27,10 @@ class Region:
         return f"${self.first:04X}" + (f" to ${self.last:04X}" if self.last > self.first else "")
 
 
+FREE = Region(0x1800, 0x1FDF, 2016, "free: what interrupt handlers may write")
+STACK = Region(0x1FE0, 0x1FFF, 32, "stack, which begins at `$2000` and goes down")
+
+
 def regions_of(image, form):
     """The parts of an image that have bytes."""
     for first, last, what in (INSIDE if form == "fast" else []) + MAIN:
@@ -36,19 +39,19 @@ def regions_of(image, form):
             yield Region(used[0], used[-1], len(used), what)
 
 
-def slots_of(image, entry):
+def slots_of(image, entry, base):
     """How many slots the code from an address on has: for each term, complement and term of an output one."""
-    names = [(name, word_at(image, at + 1)) for at, name, _ in instructions_from(image, entry)]
-    cleared = [address for name, address in names if name == "CLR" and address & 0xFF00 in (0x1100, 0x1200, 0x1500, 0x1600)]
-    return sum(1 for name, _ in names if name in ("MEM", "COMA")) + len(cleared)
+    code = [(name, word_at(image, at + 1)) for at, name, _ in instructions_from(image, entry)]
+    cleared = [it for name, it in code if name == "CLR" and base + 0x100 <= it < base + 0x300]
+    return sum(1 for name, _ in code if name in ("MEM", "COMA")) + len(cleared)
 
 
 def block_regions(block, image, base, entry, parts, fast=False):
     """The RAM of a block: inputs, outputs and slots."""
-    count, its = slots_of(image, entry), "fast " if fast else ""
-    outputs = len(block.outputs) * parts
+    count, outputs = slots_of(image, entry, base), len(block.outputs) * parts
+    its, order = "fast " if fast else "", ", the high byte first" if parts > 1 else ""
     yield Region(base + 1, base + len(block.inputs), len(block.inputs), f"{its}inputs, in the order of the text")
-    yield Region(base + 16, base + 15 + outputs, outputs, f"{its}outputs" + (", the high byte first" if parts > 1 else ""))
+    yield Region(base + 16, base + 15 + outputs, outputs, f"{its}outputs{order}")
     yield Region(base + 0x100, base + 0xFF + count, count, f"{its}slots of degrees and strengths")
 
 

@@ -177,3 +177,17 @@ def with_unit(variable):
 def amount(number, variable):
     """A number with the unit of a variable, where it has one."""
     return f"{float(number):.4g} {variable.unit}".rstrip()
+
+
+def rounded_up(number, digits):
+    """A number above 0 as so many digits, which never stand for less."""
+    number = Fraction(number).limit_denominator(10**9)
+    if number:
+        size = Fraction(10) ** (floor(log10(number)) - digits + 1)
+        number = -floor(-number / size) * size
+    return f"{float(number):.{digits}g}"
+
+
+def at_most(number, variable):
+    """A bound with the unit of a variable, never told as less than it is."""
+    return f"{rounded_up(number, 6)} {variable.unit}".rstrip()

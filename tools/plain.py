@@ -3,17 +3,20 @@ from cells import trapezoid
 from fcl import spell
 from places import listed
 
-LOGIC = ("Each rule holds to a degree from 0 to 1: `and` takes the least of its parts, `or` the greatest, `not` what is left "
-         "to 1. A number of an output counts as much as the strongest rule for it holds, and the answer is the mean of its "
-         "numbers, counted so.")
+LOGIC = (
+    "Each rule holds to a degree from 0 to 1: `and` takes the least of its parts, `or` the greatest, `not` what is "
+    "left to 1; a weight multiplies it. A number of an output counts as much as the strongest rule for it holds, "
+    "and the answer is the mean of its numbers, counted so.")
 
 
-def counted(number, word):
-    return f"{number} {word}" if number == 1 else f"{number} {word}s"
+def counted(number, word, words=None):
+    return f"{number} {word if number == 1 else words or word + 's'}"
 
 
 def rise(start, end):
-    return f"0 below {spell(end)}, 1 from there" if start == end else f"0 at {spell(start)}, rising to 1 at {spell(end)}"
+    if start == end:
+        return f"0 below {spell(end)}, 1 from there"
+    return f"0 at {spell(start)}, rising to 1 at {spell(end)}"
 
 
 def fall(start, end):
@@ -48,7 +51,7 @@ def condition_of(condition, inside=False):
 
 
 def rule_of(rule):
-    weight = "" if rule.weight == 1 else f", which counts {spell(rule.weight)}"
+    weight = "" if rule.weight == 1 else f", with the weight {spell(rule.weight)}"
     concluded = listed([f"{name} is {term}" for name, term in rule.conclusions], "and")
     return f"If {condition_of(rule.condition)}, then {concluded}{weight}."
 

@@ -50,6 +50,14 @@ class Loop:
         found = deviations(self.block.outputs[place], self.lines, self.exact, place, self.parts)
         return max(found, key=lambda it: abs(it[1]), default=None)
 
+    def line_of(self, text, k):
+        """The line of an answer in what the run printed."""
+        row = self.lines.rows[k]
+        number = k + 1 if self.lines.posted else row.sample
+        begin = f"{'fast' if self.is_fast else 'answer' if self.lines.posted else 'sample'} {number} "
+        answers = f" answers {' '.join(map(str, row.answers))} "
+        return next(it for it in text.splitlines() if it.startswith(begin) and answers in it)
+
     def value(self, k, place):
         return value_of(self.block.outputs[place], self.lines.rows[k].answers[place], self.parts)
 
@@ -83,7 +91,8 @@ class Run:
         self.texts = [given.fcl, given.fast_fcl] if given.form == "fast" else [given.fcl]
         self.kind = kind_of(read(given.cert).partition("\n")[0])
         if (self.kind[1] == "16") != (given.form == "wide"):
-            raise Wrong(f"{given.cert}: a certificate for answers of {'a byte' if self.kind[1] else '16 bits'} is wanted")
+            width = "a byte" if self.kind[1] else "16 bits"
+            raise Wrong(f"{given.cert}: a certificate for answers of {width} is wanted")
         self.compiled = os.path.join(folder, stem(given.fcl) + ".s19")
         self.bounds = dict(it.split() for it in program.ask(self.form.compiles, *self.texts, self.compiled))
         self.image_name = given.image or os.path.basename(self.compiled)
@@ -170,8 +179,8 @@ def held_by(program, loop, place, folder):
     if error == 0:
         return "nothing: it is 0"
     fcl, _ = text_of(loop.fcl, loop.block, output, folder)
-    answer = program.call(command(loop.kind, "certify"), fcl, min(error, 1000001) - 1, os.path.join(folder, "less.cert"),
-                          seconds=MOST_SECONDS)
+    out = os.path.join(folder, "less.cert")
+    answer = program.call(command(loop.kind, "certify"), fcl, error - 1, out, seconds=MOST_SECONDS)
     if answer is None:
         return "not looked for: it takes long"
     if answer.status == 0:

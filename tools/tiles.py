@@ -70,7 +70,8 @@ def corners_of(variable, terms):
 
 def jumps_of(variable, terms):
     """The places at which a term goes up or down at once."""
-    return {x for it in terms for (x, y), (p, q) in zip(variable.terms[it], variable.terms[it][1:]) if x == p and y != q}
+    sides = [side for it in terms for side in zip(variable.terms[it], variable.terms[it][1:])]
+    return {x for (x, y), (other, end) in sides if x == other and y != end}
 
 
 def fires(block, output, sample):
