@@ -39,6 +39,11 @@ def regions_of(image, form):
             yield Region(used[0], used[-1], len(used), what)
 
 
+def handler_regions(image):
+    """A handler's code, which `hrun` puts next to the firmware."""
+    return [Region(min(image), max(image), len(image), "the handler's code, to which the vector of IRQ then leads")]
+
+
 def slots_of(image, entry, base):
     """How many slots the code from an address on has: for each term, complement and term of an output one."""
     code = [(name, word_at(image, at + 1)) for at, name, _ in instructions_from(image, entry)]

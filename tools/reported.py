@@ -5,7 +5,7 @@ import re
 from dataclasses import dataclass, field
 
 from cells import cell_of, value_of
-from deviations import band, check_form, deviations, parts_of
+from deviations import check_form, deviations, parts_of
 from fcl import block_of, exact_answers, samples_of, spell
 from fuzz12 import Wrong, command, kind_of, read, read_lines, read_records, stem
 from searching import REFUSED, text_of

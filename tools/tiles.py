@@ -40,8 +40,7 @@ class Tile:
     def answers(self, across, up):
         """A row for each number of the second input, from below, with the answer at each number of the first."""
         first, second = self.block.inputs
-        return [[answer_of(self.output, strengths_of(self.block, {first.name: x, second.name: y}), None)
-                 for x in across] for y in up]
+        return [[answer_at(self.block, self.output, {first.name: x, second.name: y}) for x in across] for y in up]
 
     def grid(self, wide, high):
         across, up = self.first.ends(wide), self.second.ends(high)
@@ -56,6 +55,12 @@ class Tile:
 
 # ---------------------------------------------------------------------------------------------------------------------
 # Where tiles end.
+
+
+def answer_at(block, output, sample):
+    """An answer in binary fractions, rounded, since a sum of these differs a little from one Python to another."""
+    answer = answer_of(output, strengths_of(block, sample), None)
+    return None if answer is None else round(answer, 9)
 
 
 def rules_of(block, output):
