@@ -93,7 +93,8 @@ class Run:
         if (self.kind[1] == "16") != (given.form == "wide"):
             width = "a byte" if self.kind[1] else "16 bits"
             raise Wrong(f"{given.cert}: a certificate for answers of {width} is wanted")
-        self.compiled = os.path.join(folder, stem(given.fcl) + ".s19")
+        form = "" if given.form in ("run", "handled") else "." + given.form
+        self.compiled = os.path.join(folder, f"{stem(given.fcl)}{form}.s19")
         self.bounds = dict(it.split() for it in program.ask(self.form.compiles, *self.texts, self.compiled))
         self.image_name = given.image or os.path.basename(self.compiled)
         if given.image and read_records(read(given.image)) != read_records(read(self.compiled)):
