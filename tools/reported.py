@@ -62,9 +62,9 @@ class Loop:
         return value_of(self.block.outputs[place], self.lines.rows[k].answers[place], self.parts)
 
     def counts(self, word):
-        """The least and the greatest count of a kind in a row."""
+        """The least and the greatest count of a kind in a row; those of steps in `mrun` have its waiting too."""
         found = [it for row in self.lines.rows for it in getattr(row, word)]
-        return (min(found), max(found)) if found else None
+        return (min(found), max(found)) if found and not (word == "steps" and self.lines.posted) else None
 
 
 def loop_of(fcl, cert, trace, lines, form, is_fast=False):
