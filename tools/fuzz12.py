@@ -10,6 +10,7 @@ from dataclasses import dataclass, field
 
 sys.dont_write_bytecode = True
 NO_LEAF = 1000001  # the Bound of a cell on which no leaf holds
+LAST_MOMENT = 1000000  # of a post
 # A certificate's first line, and what the names of commands for it begin and end with.
 VERSIONS = {"FZC 1": ("", ""), "FZC 2": ("", "16"), "FZC 3": ("t", ""), "FZC 4": ("t", "16")}
 
@@ -69,8 +70,22 @@ def write(name, text):
         file.write(text)
 
 
+def tell(line):
+    """Shows how far it is, on a line of a terminal that the next one takes the place of; an empty one clears it."""
+    if sys.stderr.isatty():
+        sys.stderr.write(f"\r\033[K{line}")
+        sys.stderr.flush()
+
+
 def stem(name):
     return os.path.splitext(os.path.basename(name))[0]
+
+
+def whole_number(name, text, least, most):
+    """The whole number that a word of a script is."""
+    if not (text.isascii() and text.isdigit()) or not least <= int(text) <= most:
+        raise Wrong(f"{name} {text}: a whole number from {least} to {most} is wanted")
+    return int(text)
 
 
 # ---------------------------------------------------------------------------------------------------------------------
@@ -230,6 +245,13 @@ def place_posted(lines, posted):
         lines.rows[row].steps = [ends[row] - begin]
         lines.frames.append(Frame(row, frame.moment - begin, frame.pc, frame.pushed))
     return lines
+
+
+def posts_of(samples, every, offset):
+    """Posts of so many samples, in their order, so many steps apart."""
+    if offset + (samples - 1) * every > LAST_MOMENT:
+        raise Wrong(f"{samples} samples that are {every} steps apart end after moment {LAST_MOMENT}: post fewer")
+    return "".join(f"{offset + k * every},{k + 1}\n" for k in range(samples))
 
 
 # ---------------------------------------------------------------------------------------------------------------------

@@ -1,6 +1,48 @@
-"""A block in C89 over bytes: the lines of a function that gives the answers of its firmware."""
-from cells import nearest_byte, table, trapezoid, weight_byte
+"""A block over bytes: the answers of its firmware, and the lines of a function in C89 that gives them."""
+from cells import byte_of, grade, nearest_byte, table, trapezoid, weight_byte
 from fcl import spell_rule
+
+
+class Model:
+    """The firmware of a block, without its instructions."""
+
+    def __init__(self, block):
+        self.block, self.before = block, [0] * len(block.outputs)
+        self.grades = {(it.name, term): [grade(table(it, trapezoid(points)), byte) for byte in range(256)]
+                       for it in block.inputs for term, points in it.terms.items()}
+        self.singletons = [[nearest_byte(it, at) for at in it.terms.values()] for it in block.outputs]
+        self.scales = [weight_byte(it.weight) + 1 for it in block.rules]
+
+    def truth(self, condition, bytes_):
+        kind, *parts = condition
+        if kind == "is":
+            return self.grades[tuple(parts)][bytes_[parts[0]]]
+        if kind == "not":
+            return 255 - self.truth(parts[0], bytes_)
+        return (min if kind == "and" else max)(self.truth(it, bytes_) for it in parts)
+
+    def masses(self, bytes_):
+        found = {}
+        for rule, scale in zip(self.block.rules, self.scales):
+            strength = self.truth(rule.condition, bytes_) * scale // 256
+            for pair in rule.conclusions:
+                found[pair] = max(found.get(pair, 0), strength)
+        return found
+
+    def answers(self, sample):
+        """A byte for each output, after those of the samples before; a sample has a number for each input by name."""
+        masses = self.masses({it.name: byte_of(it, sample[it.name]) for it in self.block.inputs})
+        for k, output in enumerate(self.block.outputs):
+            here = [masses.get((output.name, term), 0) for term in output.terms]
+            if sum(here):
+                self.before[k] = sum(map(int.__mul__, self.singletons[k], here)) // sum(here)
+            elif output.default is not None:
+                self.before[k] = nearest_byte(output, output.default)
+        return list(self.before)
+
+
+# ---------------------------------------------------------------------------------------------------------------------
+# The same in C.
 
 HELPERS = {
     "grade": """
