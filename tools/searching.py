@@ -1,12 +1,11 @@
 """The search of the least target of an output, by calls of `certify` or `tcertify`."""
 import os
 import re
-import sys
 import time
 from dataclasses import dataclass
 
 from fcl import Block, Rule, spell_block
-from fuzz12 import NO_LEAF, Wrong, read, write
+from fuzz12 import NO_LEAF, Wrong, read, tell, write
 from trees import read_tree
 
 REFUSED = re.compile(r"not reached: cell ([\d ]+) output \d+ bound (\d+)")
@@ -109,12 +108,14 @@ class Search:
     def done(self):
         return self.floor == NO_LEAF or (self.ceiling is not None and self.floor >= self.ceiling)
 
-    def run(self, below=None):
-        """What was found; the cell is the first one that holds it, which `certify` tells below it. With below, nothing
-        is looked for where no less is reached."""
+    def run(self, most=None):
+        """What was found; the cell is the first one that holds it, which `certify` tells below it. With most, nothing
+        is looked for where that is not reached."""
         try:
-            self.ask(0 if below is None else min(below - 1, 1000000))
-            while not self.done() and (below is None or self.ceiling is not None):
+            self.ask(0 if most is None else max(0, most - 1))
+            if most is not None and self.ceiling is None and self.floor <= most:
+                self.ask(most)
+            while not self.done() and (most is None or self.ceiling is not None):
                 self.ask(self.next_target())
             if self.floor not in (0, NO_LEAF) and self.refused != self.floor - 1 and not self.limited:
                 self.ask(self.floor - 1)
@@ -148,7 +149,7 @@ def text_of(fcl, block, output, folder):
     """A text in which the output stands alone, and the numbers that its rules have in the whole one."""
     part, numbers = alone(block, output)
     if len(block.outputs) > 1:
-        fcl = os.path.join(folder, "part.fcl")
+        fcl = os.path.join(folder, f"{output.name}.fcl")
         write(fcl, "\n".join(spell_block(part)) + "\n")
     return fcl, numbers
 
@@ -162,19 +163,15 @@ def renumbered(tree, numbers):
     return (place, byte, *(renumbered(it, numbers) for it in parts))
 
 
-def tree_of(found, numbers):
-    """The version and the tree of a certificate that was found, in the numbers of the whole block's rules."""
-    version, tree = read_tree(found.text)
+def tree_of(text, numbers):
+    """The version and the tree of an output's certificate, in the numbers of the whole block's rules."""
+    version, tree = read_tree(text)
     return version, renumbered(tree, [0] + numbers)
 
 
 def progress(name):
-    """Tells how a search goes, on a line of a terminal that the next one takes the place of."""
-    if not sys.stderr.isatty():
-        return None
-    def tell(search):
+    """Tells how the search of an output goes."""
+    def tell_search(search):
         reached = "nothing reached" if search.ceiling is None else f"{search.ceiling} reached"
-        line = f"{name}: {search.calls} calls, {reached}, no less than {search.floor}"
-        sys.stderr.write(f"\r\033[K{line}" + "\r\033[K" * search.done())
-        sys.stderr.flush()
-    return tell
+        tell("" if search.done() else f"{name}: {search.calls} calls, {reached}, no less than {search.floor}")
+    return tell_search

@@ -1,5 +1,5 @@
 """Certificates as trees: read, written, and joined."""
-from math import prod
+from math import ceil, prod
 
 from fuzz12 import Wrong
 
@@ -87,31 +87,55 @@ def both(leaf, other):
     return "cells" if "cells" in (leaf, other) else "leaf"
 
 
-def joined(trees, box):
-    """One tree whose leaves are for the outputs of all of these, one tree behind the other."""
-    first, *others = trees
-    if not others:
-        return first
-    def graft(part, half):
-        if is_leaf(part):
-            return within(joined(others, half), half, lambda leaf: both(part, leaf))
-        place, byte, *parts = part
-        return (place, byte, *(graft(it, inner) for it, inner in zip(parts, halves(half, place, byte))))
-    return graft(first, box)
+def joined(tree, other, box):
+    """One tree whose leaves are for the outputs of both, the one behind the other."""
+    if is_leaf(tree):
+        return within(other, box, lambda leaf: both(tree, leaf))
+    place, byte, *parts = tree
+    return (place, byte, *(joined(it, other, half) for it, half in zip(parts, halves(box, place, byte))))
 
 
 def cut_cells(tree, box, rows):
     """A tight tree of several outputs, with each leaf of cells cut until its box has no more cells than it may have.
-    An output alone has fewer inputs that matter. rows has for each input what its terms are at each byte."""
+    An output alone has fewer inputs that matter."""
     if not is_leaf(tree):
         place, byte, *parts = tree
         return (place, byte, *(cut_cells(*it, rows) for it in zip(parts, halves(box, place, byte))))
-    widths = [high - low + 1 if len(set(row[low:high + 1])) > 1 else 1 for row, (low, high) in zip(rows, box)]
+    widths = cells_of(box, rows)
     if tree != "cells" or prod(widths) <= MOST_CELLS:
         return tree
     widest = widths.index(max(widths))
     return cut_cells((widest + 1, (sum(box[widest]) + 1) // 2, tree, tree), box, rows)
 
 
+def cells_of(box, rows):
+    """How many cells of a box differ: rows has for each input what its terms are at each byte."""
+    return [high - low + 1 if len(set(row[low:high + 1])) > 1 else 1 for row, (low, high) in zip(rows, box)]
+
+
 def count(tree):
     return 1 if is_leaf(tree) else count(tree[2]) + count(tree[3])
+
+
+def joins(tree, other, box):
+    """Whether one tree for both has at most as many leaves as it may have."""
+    total = 0
+    for part, _ in boxes(tree, box):
+        total += count(within(other, part, lambda it: it))
+        if total > MOST_LEAVES:
+            return False
+    return True
+
+
+def fitting(trees, box, rows):
+    """One tree for the outputs of all of these, or None where that would have too many leaves."""
+    tree, *others = trees
+    for other in others:
+        if not joins(tree, other, box):
+            return None
+        tree = joined(tree, other, box)
+    pieces = [ceil(prod(cells_of(it, rows)) / MOST_CELLS) if leaf == "cells" else 1 for it, leaf in boxes(tree, box)]
+    if sum(pieces) > MOST_LEAVES:
+        return None
+    tree = cut_cells(tree, box, rows)
+    return tree if count(tree) <= MOST_LEAVES else None
