@@ -4,7 +4,7 @@ from fractions import Fraction
 from math import floor
 
 from cells import byte_of, slope, trapezoid
-from fcl import block_of, spell
+from fcl import block_of, spell, spell_condition, spell_points
 from fcl_grammar import Grammar
 from fuzz12 import Wrong
 
@@ -32,13 +32,22 @@ class Side:
         """Whether its table's slope is not near to 255 over its width."""
         return abs(self.width * slope(self.width) - 255) > self.width // 4
 
+    @property
+    def peak(self):
+        """The greatest grade of its table, in parts of 1."""
+        return min(255, self.width * slope(self.width)) / 255
+
+    @property
+    def off(self):
+        """How far the table's degrees are from FCL's at the most."""
+        width, steep = self.width, slope(self.width)
+        return max(1 - self.peak, *(min(255, k * steep) / 255 - k / width for k in range(width + 1)))
+
     def told(self):
-        way, width, steep = "rises" if self.rises else "falls", self.width, slope(self.width)
-        peak = min(255, width * steep)
-        over = max(min(255, k * steep) / 255 - k / width for k in range(width + 1))
-        said = f"its peak is {peak / 255:.3g}, FCL's 1" if peak < 255 else f"up to {over:.2g} above FCL's degree"
-        return (f"{self.variable.name} IS {self.term} {way} over {width} bytes, by {steep} a byte where "
-                f"{255 / width:.3g} is right: {said}")
+        way, width, exact = "rises" if self.rises else "falls", self.width, 255 / self.width
+        said = f"up to {self.off:.2g} too high" if self.peak == 1 else f"its peak is {self.peak:.2g} in place of 1"
+        return (f"{self.variable.name} IS {self.term} {way} over {width} bytes; the table's slope is {slope(width)} "
+                f"per byte, exact {exact:.3g}: {said}")
 
 
 def sides_of(block):
@@ -116,6 +125,38 @@ class Draft:
         """The edits that move the corners of a variable's terms: place has the new place of one of a term."""
         points = [(x, place(term.name.text, x)) for term in self.section(variable).terms for _, x, _ in term.points]
         return [(x.span, spell(new)) for x, new in points if new != x]
+
+    def following(self, block):
+        """The draft with the degrees, conditions, defaults and new terms of a block that was made of this one's, or
+        None."""
+        edits = []
+        for old, new in zip(self.block.inputs, block.inputs):
+            edits += self.term_edits(self.section(old), list(new.terms.items()))
+        for old, new in zip(self.block.outputs, block.outputs):
+            if new.default != old.default:
+                word = self.section(old).settings["DEFAULT"][0]
+                edits.append((self.between(word, ":=", ";"), f" {spell(new.default)}"))
+        for rule, old, new in zip(self.tree.rules, self.block.rules, block.rules):
+            if new.condition != old.condition:
+                edits.append((self.between(rule.word, "IF", "THEN"), f" {spell_condition(new.condition)} "))
+        return self.edited(edits) if edits else None
+
+    def term_edits(self, section, terms):
+        """The degrees of old terms, and the new ones before the section's end."""
+        for term, (_, points) in zip(section.terms, terms):
+            for (_, _, degree), (_, wanted) in zip(term.points, points):
+                if degree != wanted:
+                    yield degree.span, str(wanted)
+        at, new = section.end.at, terms[len(section.terms):]
+        indent = self.text[self.text.rfind("\n", 0, at) + 1:at]
+        if new:
+            yield (at, at), "".join(f"    TERM {name} := {spell_points(points)};\n{indent}" for name, points in new)
+
+    def between(self, start, after, before):
+        """Where the text stands that comes after a token behind another one, up to a third."""
+        tokens = self.tree.tokens[self.tree.tokens.index(start):]
+        first = next(it for it in tokens if it.upper == after)
+        return first.at + len(first.text), next(it for it in tokens if it.upper == before).at
 
     def lowered(self, variables):
         """The draft with the RANGE of these half a byte lower, the upright edges moved along, and what is then above
