@@ -1,4 +1,4 @@
-"""What the lines `fcl: ..` mean of a text, and what would be taken there."""
+"""What the lines `fcl: ..` mean of a text, and what is expected there."""
 import re
 from difflib import get_close_matches
 from fractions import Fraction
@@ -264,7 +264,7 @@ def quoted(wanted):
 
 
 def expected(file, at):
-    """What stands there, what would be taken, and what helps. What is missing has its place on the line before."""
+    """What stands there, what is expected, and what helps. What is missing has its place on the line before."""
     grammar = Grammar(file.text)
     token = grammar.stopped
     if token is None or token.at != at:
@@ -272,9 +272,9 @@ def expected(file, at):
         told.means = ["the grammar of docs/LANGUAGE.md has no such thing here"]
         return told
     told = file.at(at, max(1, len(token.text)))
-    where = f" in {', '.join(grammar.inside)}" if grammar.inside else ""
-    told.means = [f"{token.text or 'the end'} can't be here{where}"]
-    told.taken = listed([quoted(it) for it in grammar.wanted])
+    where = f", in {', '.join(grammar.inside)}" if grammar.inside else ""
+    told.means = [f"{token.text or 'the end'} is not allowed here{where}"]
+    told.expected = listed([quoted(it) for it in grammar.wanted])
     before = grammar.before
     if before and ";" in grammar.wanted and file.line_of(before.at)[0] < file.line_of(at)[0]:
         ended = file.at(before.at, len(before.text))
@@ -422,6 +422,15 @@ def load_outside(block, token):
            "byte's cell wider")
 
 
+def reversed_range(block, at):
+    """The word RANGE of the section of an offset, where its low end is not below its high end."""
+    section = block.section_at(at)
+    if section and section.ranges:
+        word, low, high = section.ranges[0]
+        return word if low >= high else None
+    return None
+
+
 def load_range(block, token):
     if token.upper == "RANGE":
         yield f"the low end of RANGE {range_text(block.section_at(token.at))} is not below its high end"
@@ -481,9 +490,12 @@ LOADS = {1: load_twice, 2: load_unknown, 3: load_no_terms, 4: load_too_many, 5: 
 
 
 def load(file, at, kind):
+    """Where a RANGE is reversed its numbers are outside, and that is what is told."""
     block = Declared(file)
     token = next((it for it in block.tree.tokens if it.at == at), None)
-    told = file.at(at, len(token.text) if token else 1)
+    word = reversed_range(block, at) if int(kind) in (7, 9) else None
+    token, kind = (word, 8) if word else (token, kind)
+    told = file.at(token.at, len(token.text)) if token else file.at(at)
     if block.tree.stopped is not None or token is None or int(kind) not in LOADS:
         told.means = ["a rule of docs/LANGUAGE.md on names, terms, ranges or weights is broken"]
         return told

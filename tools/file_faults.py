@@ -73,12 +73,19 @@ def image_no_end(file):
     return Told(file.name, [], ["the file has no S9: its end was lost"], ["make the image again"])
 
 
-def image_differs(file, say, makers):
-    """An image of another block or form; makers are the commands that make this image of the block."""
-    told = Told(file.name, [], [say])
-    if makers:
-        told.means.append(f"it is the image that {listed(makers)} makes of this text")
-        told.helps = [f"run it with {runner}" for runner in map(runner_of, makers)]
+def image_differs(file, here, makers):
+    """An image of another block or form, or with more in it; makers has the commands that make it of the block, each
+    with the address from which on it has more."""
+    told = Told(file.name, [], [f"the image is of another text or form: {here}"])
+    whole = [maker for maker, more in makers if more is None]
+    if whole:
+        told.means.append(f"it is the image that {listed(whole)} makes of this text")
+        told.helps = [f"run it with {runner_of(maker)}" for maker in whole]
+    elif makers:
+        (maker, more), *_ = makers
+        told.means = [f"a joint image: all bytes that {maker} makes of this text, and others, the first at {more:04X}"]
+        told.helps = [f"run the image that {maker} makes, with {runner_of(maker)}"]
+        told.helps += ["hrun runs it with a handler at 4000"] if maker == "compile" else []
     else:
         told.helps = ["compile the text again, with the command that belongs to the run: compile for run and trun, "
                       "compile16 for run16 and trun16, mcompile for mrun, scompile for srun, lcompile for lrun"]

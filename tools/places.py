@@ -7,21 +7,21 @@ MOST_SHOWN = 100  # characters of a line
 @dataclass
 class Told:
     """What `explain` prints of a fault: where it is, the line there with a mark below, what it means, what
-    would be taken, and what helps."""
+    is expected, and what helps."""
 
     place: str = ""
     shown: list = field(default_factory=list)
     means: list = field(default_factory=list)
     helps: list = field(default_factory=list)
-    taken: str = ""
+    expected: str = ""
 
     def lines(self):
         if self.place:
             yield self.place
         yield from self.shown
         yield from (f"means: {it}" for it in self.means)
-        if self.taken:
-            yield f"taken: {self.taken}"
+        if self.expected:
+            yield f"expected: {self.expected}"
         yield from (f"helps: {it}" for it in dict.fromkeys(self.helps))
 
 
