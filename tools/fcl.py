@@ -266,11 +266,15 @@ def spell_variables(word, variables):
     yield "END_VAR"
 
 
+def spell_points(points):
+    return " ".join(f"({spell(x)}, {y})" for x, y in points)
+
+
 def spell_input(it):
     yield f"FUZZIFY {it.name}"
     yield f"    RANGE := ({spell(it.span[0])} .. {spell(it.span[1])});"
     for term, points in it.terms.items():
-        yield f"    TERM {term} := " + " ".join(f"({spell(x)}, {y})" for x, y in points) + ";"
+        yield f"    TERM {term} := {spell_points(points)};"
     yield "END_FUZZIFY"
 
 

@@ -1,160 +1,16 @@
-"""What fuzzylite and jFuzzyLogic write, FLL and their FCL, read as an engine."""
+"""What fuzzylite, jFuzzyLogic and Matlab write, FLL, their FCL and .fis, read as an engine."""
 import re
-from contextlib import contextmanager
-from dataclasses import dataclass, field
-from fractions import Fraction
 
+from engine import NUMBER, Block, Engine, Rules, Term, Variable, named, number, term_of
 from fcl import comments_of
+from fis import is_fis, read_fis
 from fuzz12 import Wrong
-from shapes import CURVES, HEDGES, OTHERS
+from shapes import CURVES
 
-NUMBER = r"[-+]?(?:\d+\.?\d*|\.\d+)(?:[eE][-+]?\d+)?(?![\w.])"
 # The words for shapes that fuzzylite has, and jFuzzyLogic has not.
 FUZZYLITE = {"triangle", "trapezoid", "ramp", "rectangle", "discrete", *CURVES} - {"cosine"}
 BLANK = r"\(\*.*?\*\)|/\*.*?\*/|//[^\n]*|#[^\n]*|\s+"
 TOKEN = re.compile(rf"{BLANK}|(\.\.|:=|{NUMBER}|[-+]?\d+(?=\.\.)|[A-Za-z_][\w-]*|.)", re.S)
-
-
-@dataclass
-class Term:
-    name: str
-    shape: str  # of fuzzylite, in small letters; `points`, whose numbers are pairs of place and degree
-    numbers: list
-    text: str = ""  # of a function
-
-
-@dataclass
-class Variable:
-    name: str
-    comment: str = ""
-    span: tuple = None
-    terms: list = field(default_factory=list)
-    default: Fraction = None  # None where there is none, or it is no number
-    keeps: bool = False  # the answer before, where no rule fires
-    method: str = ""  # how an answer is made, in small letters
-    accumulation: str = ""
-
-
-@dataclass
-class Rule:
-    """A literal is ("is", name, hedges, term), and a conclusion (name, hedges, term)."""
-
-    condition: tuple
-    conclusions: list
-    weight: Fraction
-
-
-@dataclass
-class Engine:
-    name: str
-    inputs: list = field(default_factory=list)
-    outputs: list = field(default_factory=list)
-    rules: list = field(default_factory=list)
-    operators: list = field(default_factory=list)  # pairs of what, and its name
-    left_out: list = field(default_factory=list)  # what the reader passed over, as text
-    blocks: int = 0
-    adds: bool = False  # fuzzylite's meaning: a weighted average adds the strengths of rules that conclude one term
-
-
-@contextmanager
-def named(place):
-    """Says where a text has another form than is wanted."""
-    try:
-        yield
-    except (IndexError, KeyError, ValueError, TypeError, ArithmeticError):
-        raise Wrong(f"{place}: not of the form that is wanted") from None
-
-
-def number(text):
-    """A number, or None where it is none: fuzzylite writes nan and inf."""
-    return Fraction(text) if re.fullmatch(NUMBER, text) else None
-
-
-def term_of(name, shape, words):
-    """A term by its shape and the words behind it."""
-    numbers = [number(it) for it in words]
-    if None in numbers or shape.lower() == "function":
-        return Term(name, "function", [], " ".join([shape, *words]))
-    found, order = OTHERS.get(shape.lower(), (shape.lower(), range(len(numbers))))
-    if len(order) != len(numbers):
-        raise Wrong(f"{name} := {shape}: {len(order)} numbers are wanted")
-    if found == "discrete" and len(numbers) % 2:
-        raise Wrong(f"{name} := {shape}: pairs of numbers are wanted")
-    return Term(name, found, [numbers[k] for k in order])
-
-
-# ---------------------------------------------------------------------------------------------------------------------
-# Rules.
-
-
-class Rules:
-    """Reads a rule from its words; those of both languages are alike."""
-
-    def __init__(self, tokens):
-        self.tokens = list(tokens)
-
-    def peek(self):
-        return self.tokens[0].lower() if self.tokens else ""
-
-    def next(self, *wanted):
-        if not self.tokens or (wanted and self.peek() not in wanted):
-            raise Wrong(f"a rule has {self.peek() or 'its end'} where {' or '.join(wanted) or 'a word'} is wanted")
-        return self.tokens.pop(0)
-
-    def rule(self):
-        self.next("if")
-        condition = self.joined("or")
-        self.next("then")
-        conclusions = [self.conclusion()]
-        while self.peek() in ("and", ","):
-            self.next()
-            conclusions.append(self.conclusion())
-        weight = Fraction(1)
-        if self.peek() == "with":
-            self.next()
-            weight = number(self.next())
-            if weight is None:
-                raise Wrong("a rule's weight is no number")
-        return Rule(condition, conclusions, weight)
-
-    def joined(self, word):
-        part = (lambda: self.joined("and")) if word == "or" else self.one
-        parts = [part()]
-        while self.peek() == word:
-            self.next()
-            parts.append(part())
-        return (word, *parts) if len(parts) > 1 else parts[0]
-
-    def one(self):
-        if self.peek() == "not":
-            self.next()
-            return ("not", self.one())
-        if self.peek() == "(":
-            self.next()
-            inner = self.joined("or")
-            self.next(")")
-            return inner
-        name = self.next()
-        self.next("is")
-        negated = self.peek() == "not"
-        if negated:
-            self.next()
-        literal = ("is", name, *self.hedged_term())
-        return ("not", literal) if negated else literal
-
-    def hedged_term(self):
-        """Hedges and a term; `any` stands without one."""
-        hedges = []
-        while self.peek() in HEDGES:
-            hedges.append(self.next().lower())
-            if hedges[-1] == "any":
-                return tuple(hedges), ""
-        return tuple(hedges), self.next()
-
-    def conclusion(self):
-        name = self.next()
-        self.next("is")
-        return (name, *self.hedged_term())
 
 
 # ---------------------------------------------------------------------------------------------------------------------
@@ -162,25 +18,25 @@ class Rules:
 
 
 def read_fll(text):
-    engine, here, enabled = Engine("engine", adds=True), None, True
+    engine, here = Engine("engine", "fll", adds=True), None
     for line_number, line in enumerate(text.splitlines(), start=1):
         said, _, comment = line.partition("#")
         key, _, value = (it.strip() for it in said.partition(":"))
         if key in ("InputVariable", "OutputVariable"):
-            here, enabled = Variable(value, comment.strip()), True
+            here = Variable(value, comment.strip())
             (engine.inputs if key == "InputVariable" else engine.outputs).append(here)
         elif key == "RuleBlock":
-            here, enabled, engine.blocks = None, True, engine.blocks + 1
+            here = Block(value)
+            engine.blocks.append(here)
         elif key == "Engine":
             engine.name = value
-        elif key == "enabled" and value == "false":
-            enabled = False
-            engine.left_out.append(f"{here.name if here else 'a rule block'} is not enabled")
-        elif enabled and isinstance(here, Variable):
+        elif key == "enabled" and here:
+            here.is_enabled = value != "false"
+        elif isinstance(here, Variable):
             with named(f"line {line_number}"):
                 read_line_of_variable(here, key, value)
-        elif enabled and engine.blocks:
-            read_line_of_rules(engine, key, value)
+        elif here:
+            read_line_of_rules(engine, here, key, value)
     return engine
 
 
@@ -196,17 +52,19 @@ def read_line_of_variable(variable, key, value):
         variable.default = number(value)
     elif key == "lock-previous":
         variable.keeps = value == "true"
+    elif key == "lock-range":
+        variable.clips = value == "true"
     elif key == "defuzzifier":
         variable.method = value.lower()
     elif key == "aggregation":
         variable.accumulation = value.lower()
 
 
-def read_line_of_rules(engine, key, value):
+def read_line_of_rules(engine, block, key, value):
     if key == "rule":
-        engine.rules.append(Rules(re.findall(r"[\w.+-]+|[(),]", value)).rule())
-    elif key in ("conjunction", "disjunction", "activation"):
-        engine.operators.append((key, value.lower().split()[0] if value else ""))
+        engine.rules.append(Rules(re.findall(r"[\w.+-]+|[(),]", value)).rule(block))
+    elif key in ("conjunction", "disjunction", "implication", "activation"):
+        block.operators[key] = value.lower().split()[0] if value else ""
 
 
 # ---------------------------------------------------------------------------------------------------------------------
@@ -239,7 +97,7 @@ class Fcl:
 
     def read(self):
         parts = {"var_input": self.declared, "var_output": self.declared, "fuzzify": self.section,
-                 "defuzzify": self.section, "ruleblock": self.rule_block, "var": self.passed}
+                 "defuzzify": self.section, "ruleblock": self.rule_block, "var": self.passed, "option": self.passed}
         while self.tokens:
             word = self.next().lower()
             if word == "function_block" and self.peek() not in (*parts, ""):
@@ -251,7 +109,7 @@ class Fcl:
     def passed(self, word):
         while self.tokens and self.next().lower() != "end_" + word:
             pass
-        self.engine.left_out.append("VAR .. END_VAR")
+        self.engine.left_out.append(f"{word.upper()} .. END_{word.upper()}")
 
     def declared(self, word):
         into = self.engine.inputs if word == "var_input" else self.engine.outputs
@@ -279,10 +137,11 @@ class Fcl:
         if key == "term":
             variable.terms.append(self.term(words))
             self.engine.adds |= len(words) > 2 and words[1].lower() in FUZZYLITE
-        elif key in ("enabled", "lock"):
+        elif key in ("enabled", "lock", "lock-range", "lock-previous"):
             self.engine.adds = True
-            if key == "enabled" and words[-1].lower() == "false":
-                self.engine.left_out.append(f"{variable.name} is not enabled")
+            said = {it.lower() for it in words}
+            variable.is_enabled = variable.is_enabled and (key != "enabled" or "false" not in said)
+            variable.clips = variable.clips or "range" in said or (key == "lock-range" and "true" in said)
         elif key == "range":
             variable.span = tuple(number(it) for it in words if number(it) is not None)
         elif key == "default":
@@ -305,36 +164,43 @@ class Fcl:
         return Term(name, "constant", numbers) if len(rest) == 1 else term_of(name, rest[0], rest[1:])
 
     def rule_block(self, _):
-        self.engine.blocks += 1
+        block = Block("" if self.peek(1) == ":" else self.peek())
+        self.engine.blocks.append(block)
         ends = ("rule", "end_ruleblock")
         while self.peek() != "end_ruleblock":
             if not self.tokens:
                 raise Wrong("END_RULEBLOCK is missing")
             word = self.next().lower()
-            if word in ("and", "or", "accu") and self.peek() == ":":
+            if word in ("and", "or", "act", "accu", "enabled") and self.peek() == ":":
                 with named(word):
-                    self.operator(word, self.line()[-1].lower())
+                    self.operator(block, word, self.line()[-1].lower())
             elif word == "rule":
                 words = []
                 while self.peek() not in (*ends, ";", ""):
                     words.append(self.next())
                 self.engine.adds |= self.peek() != ";"
                 behind = next((k for k, it in enumerate(words) if it == ":"), -1)
-                self.engine.rules.append(Rules(words[behind + 1:]).rule())
+                self.engine.rules.append(Rules(words[behind + 1:]).rule(block))
         self.next()
 
-    def operator(self, word, name):
+    def operator(self, block, word, name):
         if word == "accu":
             for it in self.engine.outputs:
                 it.accumulation = it.accumulation or name
+        elif word == "enabled":
+            block.is_enabled = name != "false"
         else:
-            self.engine.operators.append(("conjunction" if word == "and" else "disjunction", name))
+            block.operators[{"and": "conjunction", "or": "disjunction", "act": "implication"}[word]] = name
 
 
 def read_foreign(text):
-    """The engine of a text of either language."""
-    is_fll = re.search(r"^\s*(Engine|InputVariable)\s*:", text, re.M) is not None
-    engine = read_fll(text) if is_fll else Fcl(text).read()
+    """The engine of a text of any of these languages."""
+    if is_fis(text):
+        engine = read_fis(text)
+    elif re.search(r"^\s*(Engine|InputVariable)\s*:", text, re.M):
+        engine = read_fll(text)
+    else:
+        engine = Fcl(text).read()
     if not engine.inputs or not engine.outputs or not engine.rules:
-        raise Wrong("no FLL and no FCL with inputs, outputs and rules")
+        raise Wrong("no FLL, no .fis and no FCL with inputs, outputs and rules")
     return engine

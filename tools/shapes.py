@@ -50,6 +50,9 @@ CURVES = {
     "sshape": s_shape,
     "zshape": lambda x, a, b: 1 - s_shape(x, a, b),
 }
+# How many numbers a shape has.
+COUNTS = {"triangle": 3, "trapezoid": 4, "rectangle": 2, "ramp": 2, "constant": 1,
+          **{name: curve.__code__.co_argcount - 1 for name, curve in CURVES.items()}}
 # The other names that jFuzzyLogic has, with the order of their numbers in fuzzylite's.
 OTHERS = {
     "trian": ("triangle", (0, 1, 2)), "trape": ("trapezoid", (0, 1, 2, 3)), "gauss": ("gaussian", (0, 1)),
@@ -81,8 +84,22 @@ def corners(shape, numbers):
     return None
 
 
+def without_straight(points):
+    """The points without those that lie on the line between their neighbours."""
+    found = []
+    for x, y in points:
+        while len(found) > 1:
+            (a, start), (b, middle) = found[-2:]
+            if not a < b < x or (middle - start) * (x - a) != (y - start) * (b - a):
+                break
+            found.pop()
+        found.append((x, y))
+    return found
+
+
 def corners_of_points(points):
     """The corners of a course of points, or None where it has other degrees, or more than one top."""
+    points = without_straight(points)
     degrees = [y for _, y in points]
     ones = [k for k, y in enumerate(degrees) if y == 1]
     if not ones or set(degrees) - {0, 1} or set(degrees[ones[0]:ones[-1] + 1]) != {1}:
