@@ -58,7 +58,8 @@ TRUSTED = [
     "The toolchain: its prover, its compiler, its standard library and the crates that it ships; and the C library.",
     "That the definitions mean what IEC 61131-7:2000 says of FCL, and what the CPU12 Reference Manual says of the "
     "machine, which is a definition and no chip.",
-    "That the program, whose sum is below, is the one that was proved: compare it with the release's.",
+    "That the program, whose sum is below, is one that `rt run` or `rt ci` built, which prove it first. This page "
+    "doesn't know that: build it yourself, or compare its sum with the release's.",
 ]
 COMPUTED = (
     "The pictures, the deviations, the words about the block and the map of memory were made by scripts that are not "
@@ -68,7 +69,8 @@ NEVER = [
     "The sensor, its converter and the turning of a number into its byte, as far as your code does it: their errors "
     "come on top. A sample out of range has the byte of the nearer end only where your code sees to that.",
     "The actuator, the plant, and whether the loop is stable: the certificate bounds how far the firmware is from "
-    "FCL's text, and not whether that text is right.",
+    "FCL's text, and not whether that text is right, nor how far it is from one of another tool that it was made "
+    "from, as `tools/import --compare` shows.",
     "Time. Instructions are proved; cycles come from a table that nothing proves.",
     "Start-up code, clock, watchdog and power-up: memory is as after the emulator's reset, where RAM is 0.",
     "A chip with faults, or one whose memory changes by itself.",
