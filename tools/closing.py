@@ -230,5 +230,5 @@ def closed(program, block):
         block = change.block
         percent = float(100 * change.moved)
         lines.append(f"{change.said}: " + (f"answers there change by at most {percent:.1f} percent of the range"
-                                           if change.moved else "no answer changes where a rule fired"))
+                                           if change.moved else "no answer changes where a rule fired, by samples"))
     return block, lines, None
